@@ -1,0 +1,108 @@
+-- Congruence said by two multiples, which `omega` adds and cancels; the coefficient that Euclid's remainders leave; an inverse.
+use mathlib.Core.Option.{none}
+use mathlib.Core.Path.{_∙_, _≡_, ap, sym}
+use Prim.Native.Nat.{_%_, _*_, _+_, _-_, _/_, _<_, suc, zero, ℕ}
+use native.Mathlib.Nat.{add-mul-mod-self-right, div-add-mod', div-mul-cancel, eq-of-mul-eq-mul-right, mod-lt}
+use native.Mathlib.Omega.{arith}
+use Rattle.integer.proofs.GcdLaws.{gcd-divides-left, gcd-divides-right, gcd-pos}
+use Rattle.integer.specs.Gcd.{gcd, gcdWithin}
+
+pub record Congruent (b x y : ℕ) : Type 0 where
+  pub p : ℕ
+  pub q : ℕ
+  pub eq : x + p * b ≡ y + q * b
+
+pub congruent-of-mod : (b x y : ℕ) → x % b ≡ y % b → Congruent b x y
+congruent-of-mod b x y e = record { p = y / b; q = x / b; eq = omega (arith, div-add-mod' x b, div-add-mod' y b) }
+
+pub mod-of-congruent : (b x y : ℕ) → Congruent b x y → x % b ≡ y % b
+mod-of-congruent b x y c = sym (add-mul-mod-self-right x (c .p) b) ∙ ap (λ (z : ℕ). z % b) (c .eq) ∙ add-mul-mod-self-right y (c .q) b
+
+pub mod-congruent : (b x : ℕ) → Congruent b (x % b) x
+mod-congruent b x = record { p = x / b; q = 0; eq = omega (arith, div-add-mod' x b) }
+
+pub congruent-sym : {b x y : ℕ} → Congruent b x y → Congruent b y x
+congruent-sym c = record { p = c .q; q = c .p; eq = sym (c .eq) }
+
+pub congruent-trans : {b x y z : ℕ} → Congruent b x y → Congruent b y z → Congruent b x z
+congruent-trans {b} {x} {y} {z} c d = record { p = c .p + d .p; q = c .q + d .q; eq = omega (arith, c .eq, d .eq) }
+
+pub congruent-mul : {b x y : ℕ} (k : ℕ) → Congruent b x y → Congruent b (x * k) (y * k)
+congruent-mul {b} {x} {y} k c = record { p = c .p * k; q = c .q * k; eq = omega (arith, ap (λ (z : ℕ). z * k) (c .eq)) }
+
+pub congruent-cancel : (b x y z w : ℕ) → Congruent b (x + z) (y + w) → Congruent b z w → Congruent b x y
+congruent-cancel b x y z w c d = record { p = c .p + d .q; q = c .q + d .p; eq = omega (arith, c .eq, d .eq) }
+
+-- the step of Euclid's loop with one coefficient: r is s times a
+pub euclid-step : (b a r₀ r₁ r₂ s₀ s₁ s₂ q : ℕ) → Congruent b r₀ (s₀ * a) → Congruent b r₁ (s₁ * a) → r₂ + q * r₁ ≡ r₀ → Congruent b (s₂ + q * s₁) s₀ → Congruent b r₂ (s₂ * a)
+euclid-step b a r₀ r₁ r₂ s₀ s₁ s₂ q c₀ c₁ e d = congruent-cancel b r₂ (s₂ * a) (r₁ * q) (s₁ * a * q) top (congruent-mul q c₁)
+  where
+    top : Congruent b (r₂ + r₁ * q) (s₂ * a + s₁ * a * q)
+    top = let m = congruent-mul a d in record { p = c₀ .p + m .q; q = c₀ .q + m .p; eq = omega (arith, c₀ .eq, m .eq) }
+
+-- x - y modulo b
+unfoldable pub subMod : ℕ → ℕ → ℕ → ℕ
+subMod b x y = (x + (b - y % b)) % b
+
+sub-mod : (b x y : ℕ) → 0 < b → Congruent b (subMod b x y + y) x
+unfolding subMod
+sub-mod b x y h = let l = mod-lt y h in
+    record { p = (x + (b - y % b)) / b; q = y / b + 1; eq = omega (arith, div-add-mod' (x + (b - y % b)) b, div-add-mod' y b) }
+
+-- Euclid with the coefficient of a, modulo b
+unfoldable pub coefficientWithin : ℕ → ℕ → ℕ → ℕ → ℕ → ℕ → ℕ
+coefficientWithin b zero r₀ r₁ s₀ s₁ = s₀
+coefficientWithin b (suc f) r₀ zero s₀ s₁ = s₀
+coefficientWithin b (suc f) r₀ (suc r₁) s₀ s₁ = coefficientWithin b f (suc r₁) (r₀ % suc r₁) s₁ (subMod b s₀ (r₀ / suc r₁ * s₁))
+
+coefficientWithin-is : (a b f r₀ r₁ s₀ s₁ : ℕ) → 0 < b → Congruent b r₀ (s₀ * a) → Congruent b r₁ (s₁ * a) → Congruent b (gcdWithin f r₀ r₁) (coefficientWithin b f r₀ r₁ s₀ s₁ * a)
+unfolding coefficientWithin gcdWithin
+coefficientWithin-is a b zero r₀ r₁ s₀ s₁ h c₀ c₁ = c₀
+coefficientWithin-is a b (suc f) r₀ zero s₀ s₁ h c₀ c₁ = c₀
+coefficientWithin-is a b (suc f) r₀ (suc r₁) s₀ s₁ h c₀ c₁ =
+    coefficientWithin-is a b f (suc r₁) (r₀ % suc r₁) s₁ (subMod b s₀ (r₀ / suc r₁ * s₁)) h c₁
+    (euclid-step b a r₀ (suc r₁) (r₀ % suc r₁) s₀ s₁ (subMod b s₀ (r₀ / suc r₁ * s₁)) (r₀ / suc r₁) c₀ c₁
+    (omega (arith, div-add-mod' r₀ (suc r₁))) (sub-mod b s₀ (r₀ / suc r₁ * s₁) h))
+
+unfoldable pub coefficient : ℕ → ℕ → ℕ
+coefficient a b = coefficientWithin b b a b (1 % b) 0
+
+pub coefficient-is : (a b : ℕ) → 0 < b → Congruent b (gcd a b) (coefficient a b * a)
+unfolding coefficient gcd
+coefficient-is a b h = coefficientWithin-is a b b a b (1 % b) 0 h one none
+  where
+    one : Congruent b a (1 % b * a)
+    one = congruent-sym (let m = congruent-mul a (mod-congruent b 1) in record { p = m .p; q = m .q; eq = omega (arith, m .eq) })
+
+    none : Congruent b b (0 * a)
+    none = record { p = 0; q = 1; eq = omega arith }
+
+-- divided by g
+congruent-divided : (g a b s : ℕ) → 0 < g → Congruent (b * g) g (s * (a * g)) → Congruent b 1 (s * a)
+congruent-divided g a b s h c = record { p = c .p; q = c .q; eq = eq-of-mul-eq-mul-right g h (1 + c .p * b) (s * a + c .q * b) (omega (arith, c .eq)) }
+
+pub inverse : (a b : ℕ) → 0 < a → 0 < b → Congruent (b / gcd a b) 1 (coefficient a b * (a / gcd a b))
+inverse a b ha hb =
+    let ea : a / gcd a b * gcd a b ≡ a = div-mul-cancel (gcd a b) {m = a} (gcd-divides-left a b) in
+    let eb : b / gcd a b * gcd a b ≡ b = div-mul-cancel (gcd a b) {m = b} (gcd-divides-right a b) in
+    congruent-divided (gcd a b) (a / gcd a b) (b / gcd a b) (coefficient a b) (gcd-pos a b ha) (retype (gcd a b) (coefficient a b) a b (a / gcd a b * gcd a b) (b / gcd a b * gcd a b) (coefficient-is a b hb) ea eb)
+  where
+    retype : (g s a b a′ b′ : ℕ) → Congruent b g (s * a) → a′ ≡ a → b′ ≡ b → Congruent b′ g (s * a′)
+    retype g s a b a′ b′ c e f = rw (e, f) c
+
+-- with an inverse, a cancels
+pub congruent-by-inverse : (a b s u w : ℕ) → Congruent b 1 (s * a) → Congruent b (u * a) (w * a) → Congruent b u w
+congruent-by-inverse a b s u w i c = congruent-trans (mine u) (congruent-trans (let m = congruent-mul s c in record { p = m .p; q = m .q; eq = omega (arith, m .eq) }) (congruent-sym (mine w)))
+  where
+    mine : (x : ℕ) → Congruent b x (x * s * a)
+    mine x = let m = congruent-mul x i in record { p = m .p; q = m .q; eq = omega (arith, m .eq) }
+
+-- the number below b that is c / a modulo b
+unfoldable pub root : ℕ → ℕ → ℕ → ℕ
+root b s c = c % b * s % b
+
+pub root-is : (a b s c : ℕ) → Congruent b 1 (s * a) → Congruent b (root b s c * a) c
+unfolding root
+root-is a b s c i =
+    congruent-trans (congruent-mul a (congruent-trans (mod-congruent b (c % b * s)) (congruent-mul s (mod-congruent b c))))
+    (let m = congruent-mul c i in congruent-sym (record { p = m .p; q = m .q; eq = omega (arith, m .eq) }))

@@ -1,0 +1,60 @@
+-- Laws of a natural times an integer, and of the test for equal integers.
+use mathlib.Core.Bool.{not}
+use mathlib.Core.Logic.{_≢_}
+use mathlib.Core.Path.{_∙_, _≡_, ap, refl, sym}
+use Prim.Native.Nat.{_*_, _+_, suc, zero, ℕ}
+use native.Mathlib.Nat.{mul-zero}
+use native.Mathlib.Omega.{arith}
+use lib.Dec.{T, T-not, eqb-refl, eqb→eq}
+use lib.IntN.{_+ℤ_, negsuc, negℤ, pos, ℤ}
+use Rattle.integer.proofs.PartLaws.{parts-add, parts-ext}
+use Rattle.integer.specs.Multiple.{_·_, eqZ}
+use Rattle.integer.specs.Parts.{negPart, posPart}
+
+up-neg : (m : ℕ) → posPart (negℤ (pos m)) ≡ 0
+up-neg zero = refl
+up-neg (suc m) = refl
+
+dn-neg : (m : ℕ) → negPart (negℤ (pos m)) ≡ m
+dn-neg zero = refl
+dn-neg (suc m) = refl
+
+pub posPart-· : (k : ℕ) (s : ℤ) → posPart (k · s) ≡ k * posPart s
+unfolding _·_
+posPart-· k (pos n) = refl
+posPart-· k (negsuc n) = up-neg (k * suc n) ∙ sym (mul-zero k)
+
+pub negPart-· : (k : ℕ) (s : ℤ) → negPart (k · s) ≡ k * negPart s
+unfolding _·_
+negPart-· k (pos n) = sym (mul-zero k)
+negPart-· k (negsuc n) = dn-neg (k * suc n)
+
+pub ·-zero : (s : ℤ) → 0 · s ≡ pos 0
+·-zero s = parts-ext (omega (arith, posPart-· 0 s, negPart-· 0 s))
+
+pub ·-one : (s : ℤ) → 1 · s ≡ s
+·-one s = parts-ext (omega (arith, posPart-· 1 s, negPart-· 1 s))
+
+pub ·-mul : (q n : ℕ) (s : ℤ) → q · (n · s) ≡ (q * n) · s
+·-mul q n s = parts-ext (simp (posPart-·, negPart-·) (omega arith))
+
+pub ·-add : (a b : ℕ) (s : ℤ) → (a + b) · s ≡ a · s +ℤ b · s
+·-add a b s = parts-ext (let e = parts-add (a · s) (b · s) in omega (arith, simp (posPart-·, negPart-·) at e, posPart-· (a + b) s, negPart-· (a + b) s))
+
+pub ·-dist : (k : ℕ) (x y : ℤ) → k · (x +ℤ y) ≡ k · x +ℤ k · y
+·-dist k x y = parts-ext (let e = parts-add (k · x) (k · y) in omega (arith, simp (posPart-·, negPart-·) at e, ap (λ (z : ℕ). k * z) (parts-add x y), posPart-· k (x +ℤ y), negPart-· k (x +ℤ y)))
+
+pub eqZ-yes : (x y : ℤ) → T (eqZ x y) → x ≡ y
+unfolding eqZ
+eqZ-yes (pos a) (pos b) t = ap pos (eqb→eq a b t)
+eqZ-yes (pos a) (negsuc b) t = absurd t
+eqZ-yes (negsuc a) (pos b) t = absurd t
+eqZ-yes (negsuc a) (negsuc b) t = ap negsuc (eqb→eq a b t)
+
+eqZ-refl : (x : ℤ) → T (eqZ x x)
+unfolding eqZ
+eqZ-refl (pos a) = eqb-refl a
+eqZ-refl (negsuc a) = eqb-refl a
+
+pub eqZ-no : (x y : ℤ) → T (not (eqZ x y)) → x ≢ y
+eqZ-no x y t e = T-not (eqZ x y) t (rw e (eqZ-refl y))

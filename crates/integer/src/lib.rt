@@ -1,0 +1,1 @@
+// The laws of ℤ, and one equation in two bounded unknowns.

@@ -1,0 +1,102 @@
+-- What the verdict's answers say of positions.
+use mathlib.Core.Path.{_≡_, sym, ap, ap₂, _∙_}
+use mathlib.Core.Logic.{_≢_, _⊎_, inl, inr}
+use Prim.Native.Nat.{ℕ, _*_, _<_}
+use mathlib.Core.List.{List, [], _∷_}
+use native.Mathlib.Omega.{arith}
+use native.Mathlib.Decide.{ℕ-discrete}
+use Rattle.specification.proofs.NormalAxes.{digitSum, AllPositive}
+use Rattle.specification.proofs.Positions.{IndexVector, _and_, indices, place, digitSum-place, indices-place, place-lt, Distinct, apart-distinct}
+use Rattle.specification.proofs.AbsoluteStrides.{absolute, turned, turned-back, offset-reach, turned-turned′, SumsApart, apart-of-sums}
+use Rattle.specification.proofs.Digits.{place-inj, PositiveExtents}
+use Rattle.specification.proofs.Differences.{EqualSums, ZeroDifference, pair-zero, zero-pair}
+use Rattle.specification.proofs.AxisOrder.{Carry}
+use Rattle.specification.proofs.DifferenceWalk.{Found, found-zero, zero-split}
+use Rattle.integer.proofs.PartLaws.{parts-ext}
+use Rattle.specification.specs.Axis.{Axis, extents, offsetSum, positions}
+use Rattle.specification.specs.Search.{ActiveAxis, lengths, reach}
+
+-- no two vectors of one reach: all are apart
+pub no-pair : (l : List ActiveAxis) → ¬ (EqualSums l) → SumsApart l
+no-pair l f x y bx by e = go (ℕ-discrete (place (lengths l) x) (place (lengths l) y))
+  where
+    go : Dec (place (lengths l) x ≡ place (lengths l) y) → x ≡ y
+    go (yes p) = place-inj bx by p
+    go (no p) = absurd (f (record { x = x; y = y; bx = bx; by = by; other = λ q. p (ap (λ (z : List ℕ). place (lengths l) z) q); same = e }))
+
+pub pair-carry : {l m : List ActiveAxis} → Carry l m → EqualSums l → EqualSums m
+pair-carry c p = record {
+  x = c .to (p .x);
+  y = c .to (p .y);
+  bx = c .box (p .x) (p .bx);
+  by = c .box (p .y) (p .by);
+  other = λ e. p .other (c .inj (p .x) (p .y) (p .bx) (p .by) e);
+  same = c .same (p .x) (p .bx) ∙ p .same ∙ sym (c .same (p .y) (p .by));
+}
+
+-- two positions of one offset
+pub record Twice (l : List Axis) : Type 0 where
+  pub i : ℕ
+  pub j : ℕ
+  pub bi : i < positions l
+  pub bj : j < positions l
+  pub other : i ≢ j
+  pub same : digitSum l i ≡ digitSum l j
+
+pub pair-twice : (l : List Axis) → EqualSums (absolute 0 l) → Twice l
+pair-twice l p =
+    let px : IndexVector (extents l) (turned l (p .x)) = turned-back 0 l (p .bx) in
+    let py : IndexVector (extents l) (turned l (p .y)) = turned-back 0 l (p .by) in
+    let tx = turned-turned′ 0 l (p .bx) in
+    let ty = turned-turned′ 0 l (p .by) in
+    record {
+      i = place (extents l) (turned l (p .x));
+      j = place (extents l) (turned l (p .y));
+      bi = place-lt l px;
+      bj = place-lt l py;
+      other = λ e. p .other (sym tx ∙ ap (λ (z : List ℕ). turned l z) (sym (indices-place l px) ∙ ap (λ (z : ℕ). indices l z) e ∙ indices-place l py) ∙ ty);
+      same = digitSum-place l px ∙ parts-ext {x = offsetSum l (turned l (p .x))} {y = offsetSum l (turned l (p .y))} (omega (arith, offset-reach 0 l px, offset-reach 0 l py, ap (λ (z : List ℕ). reach (absolute 0 l) z) tx, ap (λ (z : List ℕ). reach (absolute 0 l) z) ty, p .same)) ∙ sym (digitSum-place l py);
+    }
+
+pub apart-positions : (l : List Axis) → AllPositive l → SumsApart (absolute 0 l) → Distinct l
+apart-positions l h f = apart-distinct h (apart-of-sums 0 l f)
+
+-- ---- step 5, both ways
+pub search-no : (a b : ActiveAxis) (r : List ActiveAxis) → PositiveExtents (lengths r) → ¬ (ZeroDifference (a ∷ b ∷ [])) → ¬ (Found a b r) → SumsApart (a ∷ b ∷ r)
+search-no a b r h f g = no-pair (a ∷ b ∷ r) (λ p. go (zero-split a b r h (pair-zero (a ∷ b ∷ r) p)))
+  where
+    go : ZeroDifference (a ∷ b ∷ []) ⊎ Found a b r → ⊥
+    go (inl z) = f z
+    go (inr w) = g w
+
+pub search-yes : (a b : ActiveAxis) (r : List ActiveAxis) → PositiveExtents (lengths r) → Found a b r → EqualSums (a ∷ b ∷ r)
+search-yes a b r h w = zero-pair (a ∷ b ∷ r) (found-zero a b r h w)
+
+-- an axis of extent 1 counts for nothing
+pub single : (a : ActiveAxis) (r : List ActiveAxis) → a .extent ≡ 1 → Carry (a ∷ r) r
+unfolding reach
+single a r e = record { to = tail; box = box′; same = same′; inj = inj′ }
+  where
+    tail : List ℕ → List ℕ
+    tail [] = []
+    tail (i ∷ x) = x
+
+    box′ : (x : List ℕ) → IndexVector (a .extent ∷ lengths r) x → IndexVector (lengths r) (tail x)
+    box′ _ (_and_ h b) = b
+
+    same′ : (x : List ℕ) → IndexVector (a .extent ∷ lengths r) x → reach r (tail x) ≡ reach (a ∷ r) x
+    same′ _ (_and_ {i = i} {is = x} h b) = let z : i ≡ 0 = omega arith in omega (arith, ap (λ (w : ℕ). w * a .stride) z)
+
+    inj′ : (x y : List ℕ) → IndexVector (a .extent ∷ lengths r) x → IndexVector (a .extent ∷ lengths r) y → tail x ≡ tail y → x ≡ y
+    inj′ _ _ (_and_ {i = i} {is = x} h b) (_and_ {i = j} {is = y} k d) q = ap₂ (λ (u : ℕ) (v : List ℕ). u ∷ v) (omega arith) q
+
+pub single-back : (a : ActiveAxis) (r : List ActiveAxis) → a .extent ≡ 1 → Carry r (a ∷ r)
+unfolding reach
+single-back a r e = record { to = λ x. 0 ∷ x; box = λ x b. let z : 0 < a .extent = omega arith in _and_ z b; same = λ x b. omega arith; inj = λ x y bx by q. cc }
+
+-- an active stride 0
+pub still : (a : ActiveAxis) (r : List ActiveAxis) {x : List ℕ} → IndexVector (lengths r) x → 1 < a .extent → a .stride ≡ 0 → EqualSums (a ∷ r)
+unfolding reach
+still a r {x} b h z =
+    let h0 : 0 < a .extent = omega arith in
+    record { x = 0 ∷ x; y = 1 ∷ x; bx = _and_ h0 b; by = _and_ h b; other = λ e. let q : _≡_ {A = ℕ} 0 1 = cc in omega arith; same = omega arith }

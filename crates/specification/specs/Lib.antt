@@ -1,0 +1,16 @@
+pub mod Tests
+pub mod Axis
+pub mod Outcome
+pub mod Layout
+pub mod CheckIn
+pub mod Tied
+pub mod TiedDecided
+pub mod Views
+pub mod Normal
+pub mod Search
+pub mod Decided
+pub mod Verdict
+pub mod Record
+pub mod Beside
+pub mod Calls
+pub mod Claims
