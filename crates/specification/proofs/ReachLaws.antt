@@ -12,7 +12,8 @@ use Rattle.integer.specs.Multiple.{_·_}
 use Rattle.integer.specs.Parts.{posPart, negPart}
 use Rattle.integer.proofs.MultipleLaws.{posPart-·, negPart-·}
 use Rattle.integer.proofs.PartLaws.{parts-add, parts-minus, parts-ext, leZ-true, leZ-false, le-leZ, ltZ-true, ltZ-false, le-parts, parts-le, lt-parts, parts-lt}
-use Rattle.specification.specs.Tests.{if_then_else_, some, fits, mostSigned}
+use Rattle.integer.specs.Range.{fits, mostSigned}
+use Rattle.specification.specs.Tests.{if_then_else_, some}
 use Rattle.specification.specs.Axis.{Axis, extents, offsetSum, sumAt, isEmpty, span, upward, downward}
 use Rattle.specification.specs.Outcome.{pass, refuseIf}
 use Rattle.specification.specs.Layout.{LayoutM, rank, Accepted, lowest, highest, inReach}

@@ -13,7 +13,8 @@ use Rattle.integer.specs.Multiple.{eqZ, _·_}
 use Rattle.integer.specs.Parts.{posPart, negPart}
 use Rattle.integer.proofs.MultipleLaws.{eqZ-yes, eqZ-no}
 use Rattle.integer.proofs.PartLaws.{leZ-true}
-use Rattle.specification.specs.Tests.{if_then_else_, some, mostSigned}
+use Rattle.integer.specs.Range.{mostSigned}
+use Rattle.specification.specs.Tests.{if_then_else_, some}
 use Rattle.specification.specs.Axis.{Axis, positions, isEmpty}
 use Rattle.specification.specs.Outcome.{done}
 use Rattle.specification.specs.Layout.{LayoutM, rank, Accepted, lowest, highest}

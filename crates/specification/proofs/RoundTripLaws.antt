@@ -13,7 +13,8 @@ use lib.Signed.{leZ}
 use borrow.Author.Tests.{le-ltb, le-leb, eq-eqb}
 use Rattle.integer.specs.Multiple.{eqZ}
 use Rattle.integer.proofs.PartLaws.{le-leZ}
-use Rattle.specification.specs.Tests.{if_then_else_, some, mostSigned}
+use Rattle.integer.specs.Range.{mostSigned}
+use Rattle.specification.specs.Tests.{if_then_else_, some}
 use Rattle.specification.specs.Axis.{Axis, isEmpty}
 use Rattle.specification.specs.Outcome.{done, refuseIf, _>>_, _>>=_}
 use Rattle.specification.specs.Layout.{LayoutM, rank, Accepted, lowest, highest}

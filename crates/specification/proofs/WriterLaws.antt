@@ -13,7 +13,8 @@ use Rattle.integer.specs.Multiple.{eqZ}
 use Rattle.integer.specs.Parts.{posPart, negPart}
 use Rattle.integer.proofs.MultipleLaws.{posPart-·, negPart-·, eqZ-yes}
 use Rattle.integer.proofs.PartLaws.{parts-add, parts-minus, posPart-neg, negPart-neg, le-leZ}
-use Rattle.specification.specs.Tests.{if_then_else_, some, those, fits, mostSigned, mostUnsigned}
+use Rattle.integer.specs.Range.{fits, mostSigned, mostUnsigned}
+use Rattle.specification.specs.Tests.{if_then_else_, some, those}
 use Rattle.specification.specs.Axis.{Axis, positions, product, isEmpty, active, span, upward, downward}
 use Rattle.specification.specs.Outcome.{done, refused, pass, refuseIf, _>>_}
 use Rattle.specification.specs.Layout.{LayoutM, rank, Accepted, handed}

@@ -6,7 +6,8 @@ use lib.Dec.{eqb, ltb, leb}
 use lib.IntN.{ℤ, pos, natAbs, _+ℤ_}
 use lib.ListN.{length}
 use Rattle.integer.specs.Multiple.{_·_, eqZ}
-use Rattle.specification.specs.Tests.{if_then_else_, some, those, fits, mostSigned}
+use Rattle.integer.specs.Range.{fits, mostSigned}
+use Rattle.specification.specs.Tests.{if_then_else_, some, those}
 use Rattle.specification.specs.Axis.{Axis}
 use Rattle.specification.specs.Outcome.{Outcome, done, refused, refuseIf, _>>_, _>>=_}
 use Rattle.specification.specs.Layout.{LayoutM, rank, handed, tooLong}

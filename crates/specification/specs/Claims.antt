@@ -9,7 +9,8 @@ use lib.IntN.{ℤ, pos, negsuc}
 use lib.ListN.{length, take, getD}
 use lib.Signed.{_≤ℤ_}
 use Rattle.integer.specs.Multiple.{_·_}
-use Rattle.specification.specs.Tests.{if_then_else_, sortBy, mostSigned}
+use Rattle.integer.specs.Range.{mostSigned}
+use Rattle.specification.specs.Tests.{if_then_else_, sortBy}
 use Rattle.specification.specs.Axis.{Axis, offsetSum, positions, Shared, isEmpty}
 use Rattle.specification.specs.Outcome.{Outcome, done, refused, pass}
 use Rattle.specification.specs.Layout.{LayoutM, rank, offsetAt, Accepted, lowest, highest, inReach}

@@ -8,7 +8,8 @@ use lib.ListN.{length, drop, getD}
 use lib.Signed.{leZ}
 use Rattle.integer.specs.Multiple.{eqZ}
 use Rattle.integer.specs.Parts.{posPart}
-use Rattle.specification.specs.Tests.{if_then_else_, mostSigned}
+use Rattle.integer.specs.Range.{mostSigned}
+use Rattle.specification.specs.Tests.{if_then_else_}
 use Rattle.specification.specs.Axis.{Axis, isEmpty}
 use Rattle.specification.specs.Outcome.{Outcome, done, refused, refuseIf, _>>_, _>>=_}
 use Rattle.specification.specs.Layout.{LayoutM, rank, lowest, highest}

@@ -5,7 +5,8 @@ use Prim.Native.Nat.{ℕ, suc, max, min}
 use lib.Dec.{ltb, leb, eqb}
 use lib.IntN.{ℤ, pos, _+ℤ_}
 use lib.ListN.{length, getD}
-use Rattle.specification.specs.Tests.{if_then_else_, isYes, some, those, upFrom, fits}
+use Rattle.integer.specs.Range.{fits}
+use Rattle.specification.specs.Tests.{if_then_else_, isYes, some, those, upFrom}
 use Rattle.specification.specs.Axis.{Axis}
 use Rattle.specification.specs.Outcome.{Check, done, refused, pass, refuseIf, _>>_}
 use Rattle.specification.specs.Layout.{LayoutM, rank, handed}

@@ -1,0 +1,17 @@
+-- The ranges of 64-bit numbers, signed and unsigned (01: `usize` and `isize` are 64 bits).
+use mathlib.Core.Bool.{Bool, _&&_}
+use Prim.Native.Nat.{ℕ, _-_, _^_}
+use lib.IntN.{ℤ, pos, negsuc}
+use lib.Signed.{leZ}
+
+-- 2^63 - 1, the most that 64 bits signed hold
+abbrev pub mostSigned : ℕ
+mostSigned = 2 ^ 63 - 1
+
+-- 2^64 - 1, the most that 64 bits unsigned hold
+abbrev pub mostUnsigned : ℕ
+mostUnsigned = 2 ^ 64 - 1
+
+-- from -2^63 to 2^63 - 1
+abbrev pub fits : ℤ → Bool
+fits z = leZ (negsuc mostSigned) z && leZ z (pos mostSigned)
