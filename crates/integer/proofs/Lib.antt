@@ -5,3 +5,4 @@ pub mod Congruence
 pub mod BoundedEquation
 pub mod Decide
 pub mod SignedEquation
+pub mod ModularLaws
