@@ -6,3 +6,5 @@ pub mod BoundedEquation
 pub mod Decide
 pub mod SignedEquation
 pub mod ModularLaws
+pub mod MachineInteger
+pub mod CheckedLaws
