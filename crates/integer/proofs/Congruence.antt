@@ -5,7 +5,7 @@ use Prim.Native.Nat.{_%_, _*_, _+_, _-_, _/_, _<_, suc, zero, ℕ}
 use native.Mathlib.Nat.{add-mul-mod-self-right, div-add-mod', div-mul-cancel, eq-of-mul-eq-mul-right, mod-eq-of-lt, mod-lt}
 use native.Mathlib.Omega.{arith}
 use Rattle.integer.proofs.GcdLaws.{gcd-divides-left, gcd-divides-right, gcd-pos}
-use Rattle.integer.specs.Congruence.{Congruent}
+pub use Rattle.integer.specs.Congruence.{Congruent}
 use Rattle.integer.specs.Gcd.{gcd, gcdWithin}
 
 pub congruent-of-mod : (b x y : ℕ) → x % b ≡ y % b → Congruent b x y

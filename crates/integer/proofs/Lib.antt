@@ -1,4 +1,6 @@
 pub mod PartLaws
+pub mod Polynomial
+pub mod RingLaws
 pub mod MultipleLaws
 pub mod GcdLaws
 pub mod Congruence

@@ -1,6 +1,5 @@
 -- What lets `omega` reason about ℤ: each equation or order of integers, said of their two parts in ℕ, with negative parts on the other side.
 use mathlib.Core.Bool.{Bool, cond, false, true}
-use mathlib.Core.Logic.{_⊎_, inl, inr}
 use mathlib.Core.Path.{_∙_, _≡_, ap, refl, subst, sym}
 use Prim.Native.Nat.{_*_, _+_, _-_, _<_, _^_, _≤_, suc, zero, ℕ}
 use native.Mathlib.Nat.{zero-mul}
@@ -85,11 +84,6 @@ parts-eq {x} {y} e = subst (λ (z : ℤ). posPart x + negPart z ≡ posPart z + 
 pub natAbs-parts : (x : ℤ) → natAbs x ≡ posPart x + negPart x
 natAbs-parts (pos n) = omega arith
 natAbs-parts (negsuc n) = omega arith
-
--- one of the two is 0
-pub one-part-zero : (x : ℤ) → (posPart x ≡ 0) ⊎ (negPart x ≡ 0)
-one-part-zero (pos n) = inr refl
-one-part-zero (negsuc n) = inl refl
 
 pub leZ-true : (x y : ℤ) → leZ x y ≡ true → posPart x + negPart y ≤ posPart y + negPart x
 leZ-true (pos a) (pos b) e = omega (arith, leb-true a b e)

@@ -17,7 +17,7 @@ use Rattle.specification.specs.Tests.{if_then_else_, isYes}
 use Rattle.specification.specs.Axis.{product, indexAt}
 use Rattle.specification.specs.Search.{ActiveAxis, lengths, reach, spanSum, total, twoDistinct, widths, half, fromDigits, differenceAt, differenceSum, Completes, CompletesAt, firstOf, SameSum}
 use Rattle.specification.specs.Decided.{completes?}
-use Rattle.integer.proofs.SignedEquation.{small, below, above, shifted, to-parts, from-parts}
+use Rattle.integer.proofs.SignedEquation.{natAbs-of-shifted, negPart-of-natAbs, posPart-of-natAbs, shifted, parts-of-equation, equation-of-parts}
 use Rattle.specification.specs.Verdict.{Distinct, Repeated, Undecided, Plan, answered, enumerated, hit, placed, searched}
 use Rattle.specification.proofs.Positions.{IndexVector, empty, _and_, place}
 use Rattle.specification.proofs.AbsoluteStrides.{SumsApart}
@@ -117,25 +117,25 @@ module _ (a b : ActiveAxis) (z : ℤ) (t s : ℕ) (e : posPart z + s ≡ t + neg
   completes-solves w =
       let hx : natAbs (w .x) < suc (a .extent - 1) = omega (arith, w .x-below) in
       let hy : natAbs (w .y) < suc (b .extent - 1) = omega (arith, w .y-below) in
-      let bx : negPart (w .x) ≤ a .extent - 1 = below (w .x) (a .extent - 1) hx in
-      let by : negPart (w .y) ≤ b .extent - 1 = below (w .y) (b .extent - 1) hy in
+      let bx : negPart (w .x) ≤ a .extent - 1 = negPart-of-natAbs (w .x) (a .extent - 1) hx in
+      let by : negPart (w .y) ≤ b .extent - 1 = negPart-of-natAbs (w .y) (b .extent - 1) hy in
       let ex : posPart (w .x) + (a .extent - 1) - negPart (w .x) + negPart (w .x) ≡ posPart (w .x) + (a .extent - 1) = omega arith in
       let ey : posPart (w .y) + (b .extent - 1) - negPart (w .y) + negPart (w .y) ≡ posPart (w .y) + (b .extent - 1) = omega arith in
       record {
         u = posPart (w .x) + (a .extent - 1) - negPart (w .x);
         v = posPart (w .y) + (b .extent - 1) - negPart (w .y);
-        uu = omega (arith, above (w .x) (a .extent - 1) hx);
-        vv = omega (arith, above (w .y) (b .extent - 1) hy);
-        sum = omega (arith, to-parts (w .x) (w .y) z (a .stride) (b .stride) (w .to-zero), ap (λ (k : ℕ). k * a .stride) ex, ap (λ (k : ℕ). k * b .stride) ey);
+        uu = omega (arith, posPart-of-natAbs (w .x) (a .extent - 1) hx);
+        vv = omega (arith, posPart-of-natAbs (w .y) (b .extent - 1) hy);
+        sum = omega (arith, parts-of-equation (w .x) (w .y) z (a .stride) (b .stride) (w .to-zero), ap (λ (k : ℕ). k * a .stride) ex, ap (λ (k : ℕ). k * b .stride) ey);
       }
 
   solves-completes : Solves a b t ((a .extent - 1) * a .stride + ((b .extent - 1) * b .stride + s)) → Completes a b z
   solves-completes w = record {
     x = pos (w .u) -ℤ pos (a .extent - 1);
     y = pos (w .v) -ℤ pos (b .extent - 1);
-    x-below = omega (arith, small (pos (w .u) -ℤ pos (a .extent - 1)) (w .u) (a .extent - 1) (shifted (w .u) (a .extent - 1)) (omega (arith, w .uu)));
-    y-below = omega (arith, small (pos (w .v) -ℤ pos (b .extent - 1)) (w .v) (b .extent - 1) (shifted (w .v) (b .extent - 1)) (omega (arith, w .vv)));
-    to-zero = from-parts (pos (w .u) -ℤ pos (a .extent - 1)) (pos (w .v) -ℤ pos (b .extent - 1)) z (a .stride) (b .stride)
+    x-below = omega (arith, natAbs-of-shifted (pos (w .u) -ℤ pos (a .extent - 1)) (w .u) (a .extent - 1) (shifted (w .u) (a .extent - 1)) (omega (arith, w .uu)));
+    y-below = omega (arith, natAbs-of-shifted (pos (w .v) -ℤ pos (b .extent - 1)) (w .v) (b .extent - 1) (shifted (w .v) (b .extent - 1)) (omega (arith, w .vv)));
+    to-zero = equation-of-parts (pos (w .u) -ℤ pos (a .extent - 1)) (pos (w .v) -ℤ pos (b .extent - 1)) z (a .stride) (b .stride)
         (omega (arith, w .sum, e, ap (λ (k : ℕ). k * a .stride) (shifted (w .u) (a .extent - 1)), ap (λ (k : ℕ). k * b .stride) (shifted (w .v) (b .extent - 1))));
   }
 
