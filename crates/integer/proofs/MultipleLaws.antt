@@ -2,33 +2,28 @@
 use mathlib.Core.Bool.{not}
 use mathlib.Core.Logic.{_≢_}
 use mathlib.Core.Path.{_∙_, _≡_, ap, refl, sym}
-use Prim.Native.Nat.{_*_, _+_, suc, zero, ℕ}
+use Prim.Native.Nat.{_*_, _+_, suc, ℕ}
 use native.Mathlib.Nat.{mul-zero}
 use native.Mathlib.Omega.{arith}
 use lib.Dec.{T, T-not, eqb-refl, eqb→eq}
 use lib.IntN.{_+ℤ_, natAbs, negsuc, negℤ, pos, ℤ}
+use Rattle.integer.proofs.PartLaws.{negPart-neg, posPart-neg}
 use Rattle.integer.proofs.Polynomial.{_⊕_, _⊙_, int, nat, prove-eq}
 use Rattle.integer.specs.Multiple.{_·_, eqZ}
 use Rattle.integer.specs.Parts.{negPart, posPart}
 
-up-neg : (m : ℕ) → posPart (negℤ (pos m)) ≡ 0
-up-neg zero = refl
-up-neg (suc m) = refl
-
-dn-neg : (m : ℕ) → negPart (negℤ (pos m)) ≡ m
-dn-neg zero = refl
-dn-neg (suc m) = refl
-
+-- A multiple scales both parts.
 pub posPart-· : (k : ℕ) (s : ℤ) → posPart (k · s) ≡ k * posPart s
 unfolding _·_
 posPart-· k (pos n) = refl
-posPart-· k (negsuc n) = up-neg (k * suc n) ∙ sym (mul-zero k)
+posPart-· k (negsuc n) = posPart-neg (pos (k * suc n)) ∙ sym (mul-zero k)
 
 pub negPart-· : (k : ℕ) (s : ℤ) → negPart (k · s) ≡ k * negPart s
 unfolding _·_
 negPart-· k (pos n) = sym (mul-zero k)
-negPart-· k (negsuc n) = dn-neg (k * suc n)
+negPart-· k (negsuc n) = negPart-neg (pos (k * suc n))
 
+-- Multiples add, multiply and distribute.
 pub ·-zero : (s : ℤ) → 0 · s ≡ pos 0
 ·-zero s = prove-eq (0 ⊙ int s) (nat 0) (omega arith)
 
@@ -60,6 +55,7 @@ unfolding _·_
 ·-of-nonnegative k (pos n) e = refl
 ·-of-nonnegative k (negsuc n) e = absurd (omega arith)
 
+-- The test for equal integers, where it holds and where it does not.
 pub eqZ-yes : (x y : ℤ) → T (eqZ x y) → x ≡ y
 unfolding eqZ
 eqZ-yes (pos a) (pos b) t = ap pos (eqb→eq a b t)

@@ -54,8 +54,8 @@ module _ (s t m n : ℕ) (z : ℤ) where
       record {
         u = posPart x + m - negPart x;
         v = posPart y + n - negPart y;
-        uu = omega (arith, posPart-of-natAbs x m hx);
-        vv = omega (arith, posPart-of-natAbs y n hy);
+        u-within = omega (arith, posPart-of-natAbs x m hx);
+        v-within = omega (arith, posPart-of-natAbs y n hy);
         sum = omega (arith, parts-of-equation x y z s t q, use-eq (nat (m * s + n * t) ⊖ int z) (nat c) e, ap (λ (k : ℕ). k * s) ex, ap (λ (k : ℕ). k * t) ey);
       }
 

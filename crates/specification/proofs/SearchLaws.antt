@@ -11,7 +11,7 @@ use lib.Dec.{T, leb, leb→le, nleb→lt}
 use lib.IntN.{ℤ, pos, natAbs, _-ℤ_, _*ℤ_}
 use Rattle.integer.specs.Gcd.{gcd}
 use Rattle.integer.specs.Parts.{posPart, negPart}
-use Rattle.integer.proofs.GcdLaws.{Meet, meet, meet-only}
+use Rattle.integer.proofs.Meeting.{Meet, meet-if, meet-only-if}
 use Rattle.integer.proofs.PartLaws.{parts-add, posPart-scale, negPart-scale}
 use Rattle.specification.specs.Tests.{if_then_else_, isYes}
 use Rattle.specification.specs.Axis.{product, indexAt}
@@ -47,8 +47,8 @@ unfolding reach
 meet-pair a b m = record {
   x = m .i₁ ∷ m .i₂ ∷ [];
   y = m .j₁ ∷ m .j₂ ∷ [];
-  bx = _and_ (m .lt₁) (_and_ (m .lt₂) empty);
-  by = _and_ (m .mt₁) (_and_ (m .mt₂) empty);
+  bx = _and_ (m .i₁-below) (_and_ (m .i₂-below) empty);
+  by = _and_ (m .j₁-below) (_and_ (m .j₂-below) empty);
   other = λ e. m .other (cc, cc);
   same = omega (arith, m .same);
 }
@@ -64,10 +64,10 @@ pair-meet a b p = go (p .x) (p .y) (p .bx) (p .by) (p .other) (p .same)
           i₂ = i₂;
           j₁ = j₁;
           j₂ = j₂;
-          lt₁ = h₁;
-          lt₂ = h₂;
-          mt₁ = k₁;
-          mt₂ = k₂;
+          i₁-below = h₁;
+          i₂-below = h₂;
+          j₁-below = k₁;
+          j₂-below = k₂;
           other = λ w. ne (λ i. w .0 i ∷ w .1 i ∷ []);
           same = omega arith;
         }
@@ -76,7 +76,7 @@ module _ (a b : ActiveAxis) (ha : 0 < a .stride) (hb : 0 < b .stride) where
   pub two-apart : twoDistinct a b ≡ true → ¬ (EqualSums (a ∷ b ∷ []))
   unfolding twoDistinct
   two-apart e p =
-      let w = meet-only (a .stride) (a .extent) (b .stride) (b .extent) ha hb (pair-meet a b p) in
+      let w = meet-only-if (a .stride) (a .extent) (b .stride) (b .extent) ha hb (pair-meet a b p) in
       go (leb (a .extent) (b .stride / gcd (a .stride) (b .stride))) (leb (b .extent) (a .stride / gcd (a .stride) (b .stride)))
       (λ t. omega (arith, leb→le (a .extent) (b .stride / gcd (a .stride) (b .stride)) t, w .0)) (λ t. omega (arith, leb→le (b .extent) (a .stride / gcd (a .stride) (b .stride)) t, w .1)) e
     where
@@ -93,7 +93,7 @@ module _ (a b : ActiveAxis) (ha : 0 < a .stride) (hb : 0 < b .stride) where
       go : (x y : Bool) → (T (not x) → b .stride / gcd (a .stride) (b .stride) < a .extent) → (T (not y) → a .stride / gcd (a .stride) (b .stride) < b .extent) → (x || y) ≡ false → EqualSums (a ∷ b ∷ [])
       go true y f g e = absurd (subst T e tt)
       go false true f g e = absurd (subst T e tt)
-      go false false f g e = meet-pair a b (meet (a .stride) (a .extent) (b .stride) (b .extent) ha hb (f tt) (g tt))
+      go false false f g e = meet-pair a b (meet-if (a .stride) (a .extent) (b .stride) (b .extent) ha hb (f tt) (g tt))
 
 -- ---- completing
 

@@ -28,8 +28,8 @@ module _ (a b : ActiveAxis) (sum : ℤ) where
       go (yes w) = yes (record {
         x = pos (w .u) -ℤ pos (a .extent - 1);
         y = pos (w .v) -ℤ pos (b .extent - 1);
-        x-below = omega (arith, natAbs-of-shifted (pos (w .u) -ℤ pos (a .extent - 1)) (w .u) (a .extent - 1) (shifted (w .u) (a .extent - 1)) (w .uu));
-        y-below = omega (arith, natAbs-of-shifted (pos (w .v) -ℤ pos (b .extent - 1)) (w .v) (b .extent - 1) (shifted (w .v) (b .extent - 1)) (w .vv));
+        x-below = omega (arith, natAbs-of-shifted (pos (w .u) -ℤ pos (a .extent - 1)) (w .u) (a .extent - 1) (shifted (w .u) (a .extent - 1)) (w .u-within));
+        y-below = omega (arith, natAbs-of-shifted (pos (w .v) -ℤ pos (b .extent - 1)) (w .v) (b .extent - 1) (shifted (w .v) (b .extent - 1)) (w .v-within));
         to-zero = signed-of-solution (a .stride) (b .stride) (a .extent - 1) (b .extent - 1) sum c (w .u) (w .v) e (w .sum);
       })
       go (no f) = no (λ w. f (solution-of-signed (a .stride) (b .stride) (a .extent - 1) (b .extent - 1) sum c (w .x) (w .y) e (omega (arith, w .x-below)) (omega (arith, w .y-below)) (w .to-zero)))
