@@ -25,6 +25,5 @@ pub mod Demand3Laws
 pub mod ReaderLaws
 pub mod RecordFields
 pub mod RoundTripLaws
-pub mod Proved
 pub mod ViewLaws
 pub mod DiagonalLaws

@@ -14,7 +14,7 @@ use Rattle.specification.specs.Tests.{if_then_else_, some, those}
 use Rattle.specification.specs.Axis.{Axis, positions, product, sumAt, isEmpty}
 use Rattle.specification.specs.Layout.{LayoutM}
 use Rattle.specification.specs.Normal.{both, mergeInto, merge, normalAxes, normalOf}
-use Rattle.specification.specs.Claims.{SameOffsets, SameForm, Step, Steps, dropped, merged, further, ended, next, NormalClaims}
+use Rattle.specification.specs.NormalClaims.{SameOffsets, SameForm, Step, Steps, dropped, merged, further, ended, next, NormalClaims}
 use Rattle.specification.proofs.NormalAxes.{AllPositive, none, more, Normal, Apart, normal, keep, push, join, positions-of-normal, digitSum-of-normal}
 use Rattle.specification.proofs.Positions.{digitSum-is}
 use Rattle.specification.proofs.NormalOrder as Any
@@ -140,9 +140,25 @@ to-steps : {l m : List Axis} → AllPositive l → Steps l m → End l m
 to-steps p (ended f) = record { steps = Any.done; normally = end-normal p f }
 to-steps p (next s t) = let e = to-steps (Any.step-pos (to-step s) p) t in record { steps = Any.next (to-step s) (e .steps); normally = e .normally }
 
+-- the buffer length stays
+buffer-stays : (l : LayoutM) → normalOf l .buffer ≡ l .buffer
+unfolding normalOf
+buffer-stays l = go (isEmpty (l .axes))
+  where
+    full : LayoutM
+    full = record { buffer = l .buffer; offset = l .offset; axes = normalAxes (l .axes) }
+
+    none : LayoutM
+    none = record { buffer = l .buffer; offset = pos 0; axes = record { extent = 0; stride = pos 0 } ∷ [] }
+
+    go : (t : Bool) → (if t then none else full) .buffer ≡ l .buffer
+    go true = refl
+    go false = refl
+
 pub normal-claims : NormalClaims
 normal-claims = record {
   same = normal-same;
+  same-buffer = buffer-stays;
   canonical = canonical-iff;
   any-order = λ l m e s. let d = to-steps (full-pos l e) s in Any.any-order (full-pos l e) (d .steps) (d .normally) ∙ sym (normal-is l);
 }

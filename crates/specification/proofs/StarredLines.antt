@@ -17,7 +17,7 @@ use Rattle.specification.specs.Search.{reach, spanSum, twoDistinct, half
 use Rattle.specification.specs.Decided.{completes?}
 use Rattle.specification.specs.Verdict.{activeFrom, upToLast, blockOf, byTwo, othersOf, hit, placed, searched, pastSearch, byMany, bySize, byBlock, outOfRange, planOf, carryOut, judge, verdict}
 use Rattle.specification.specs.Record.{bigEndian, axisBytes, recordBytes, written}
-use Rattle.specification.specs.Claims.{Starred}
+use Rattle.specification.specs.Starred.{Starred}
 
 pub starred : Starred
 unfolding _·_ eqZ gcd gcdWithin firstFrom lowest byTest solution? solvable fitsTest root coefficient coefficientWithin subMod some those insertBy sortBy upFrom
