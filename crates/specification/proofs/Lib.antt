@@ -1,4 +1,6 @@
+pub mod Computing
 pub mod StarredLines
+pub mod ComputedCases
 pub mod NormalAxes
 pub mod NormalCanonical
 pub mod NormalOrder
