@@ -17,18 +17,19 @@ unfolding product
 product-positive none = omega arith
 product-positive (more h t) = mul-pos h (product-positive t)
 
-div-below : (k n c : ℕ) → 0 < n → k < n * c → k / n < c
-div-below k n c h l = div-lt-iff-lt-mul h .1 (rw (← mul-comm n c) l)
+-- the part of a number that the lowest digit leaves is below the product of the other extents
+pub quotient-below : (k n c : ℕ) → 0 < n → k < n * c → k / n < c
+quotient-below k n c h l = div-lt-iff-lt-mul h .1 (rw (← mul-comm n c) l)
 
 pub indexAt-within : {es : List ℕ} → PositiveExtents es → (k : ℕ) → k < product es → IndexVector es (indexAt es k)
 unfolding indexAt product
 indexAt-within none k h = empty
-indexAt-within (more {e} {es} p t) k h = _and_ (mod-lt k p) (indexAt-within t (k / e) (div-below k e (product es) p h))
+indexAt-within (more {e} {es} p t) k h = _and_ (mod-lt k p) (indexAt-within t (k / e) (quotient-below k e (product es) p h))
 
 pub place-indexAt : {es : List ℕ} → PositiveExtents es → (k : ℕ) → k < product es → place es (indexAt es k) ≡ k
 unfolding indexAt product place
 place-indexAt none k h = sym (lt-one h)
-place-indexAt (more {e} {es} p t) k h = ap (λ (z : ℕ). k % e + e * z) (place-indexAt t (k / e) (div-below k e (product es) p h)) ∙ mod-add-div k e
+place-indexAt (more {e} {es} p t) k h = ap (λ (z : ℕ). k % e + e * z) (place-indexAt t (k / e) (quotient-below k e (product es) p h)) ∙ mod-add-div k e
 
 pub indexAt-place : {es x : List ℕ} → IndexVector es x → indexAt es (place es x) ≡ x
 unfolding indexAt place

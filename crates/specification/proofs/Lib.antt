@@ -1,6 +1,10 @@
 pub mod Computing
 pub mod StarredLines
 pub mod ComputedCases
+pub mod TestLaws
+pub mod DenseLaws
+pub mod OrderLaws
+pub mod OffsetLaws
 pub mod NormalAxes
 pub mod NormalCanonical
 pub mod NormalOrder
