@@ -5,15 +5,15 @@ use Prim.Native.Nat.{ℕ, _*_, _<_}
 use mathlib.Core.List.{List, [], _∷_}
 use native.Mathlib.Omega.{arith}
 use native.Mathlib.Decide.{ℕ-discrete}
-use Rattle.specification.proofs.NormalAxes.{digitSum, AllPositive}
-use Rattle.specification.proofs.Positions.{IndexVector, _and_, indices, place, digitSum-place, indices-place, place-lt, Distinct, apart-distinct}
+use Rattle.specification.proofs.NormalAxes.{AllPositive}
+use Rattle.specification.proofs.Positions.{IndexVector, _and_, indices, place, sum-at-place, indices-place, place-lt, Distinct, apart-distinct}
 use Rattle.specification.proofs.AbsoluteStrides.{absolute, turned, turned-back, offset-reach, turned-turned′, SumsApart, apart-of-sums}
 use Rattle.specification.proofs.Digits.{place-inj, PositiveExtents}
 use Rattle.specification.proofs.Differences.{EqualSums, ZeroDifference, pair-zero, zero-pair}
 use Rattle.specification.proofs.AxisOrder.{Carry}
 use Rattle.specification.proofs.DifferenceWalk.{Found, found-zero, zero-split}
 use Rattle.integer.proofs.PartLaws.{parts-ext}
-use Rattle.specification.specs.Axis.{Axis, extents, offsetSum, positions}
+use Rattle.specification.specs.Axis.{Axis, extents, offsetSum, positions, sumAt}
 use Rattle.specification.specs.Search.{ActiveAxis, lengths, reach}
 
 -- no two vectors of one reach: all are apart
@@ -41,7 +41,7 @@ pub record Twice (l : List Axis) : Type 0 where
   pub bi : i < positions l
   pub bj : j < positions l
   pub other : i ≢ j
-  pub same : digitSum l i ≡ digitSum l j
+  pub same : sumAt l i ≡ sumAt l j
 
 pub pair-twice : (l : List Axis) → EqualSums (absolute 0 l) → Twice l
 pair-twice l p =
@@ -55,7 +55,7 @@ pair-twice l p =
       bi = place-lt l px;
       bj = place-lt l py;
       other = λ e. p .other (sym tx ∙ ap (λ (z : List ℕ). turned l z) (sym (indices-place l px) ∙ ap (λ (z : ℕ). indices l z) e ∙ indices-place l py) ∙ ty);
-      same = digitSum-place l px ∙ parts-ext {x = offsetSum l (turned l (p .x))} {y = offsetSum l (turned l (p .y))} (omega (arith, offset-reach 0 l px, offset-reach 0 l py, ap (λ (z : List ℕ). reach (absolute 0 l) z) tx, ap (λ (z : List ℕ). reach (absolute 0 l) z) ty, p .same)) ∙ sym (digitSum-place l py);
+      same = sum-at-place l px ∙ parts-ext {x = offsetSum l (turned l (p .x))} {y = offsetSum l (turned l (p .y))} (omega (arith, offset-reach 0 l px, offset-reach 0 l py, ap (λ (z : List ℕ). reach (absolute 0 l) z) tx, ap (λ (z : List ℕ). reach (absolute 0 l) z) ty, p .same)) ∙ sym (sum-at-place l py);
     }
 
 pub apart-positions : (l : List Axis) → AllPositive l → SumsApart (absolute 0 l) → Distinct l
