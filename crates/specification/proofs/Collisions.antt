@@ -6,8 +6,8 @@ use mathlib.Core.List.{List, [], _∷_}
 use native.Mathlib.Omega.{arith}
 use native.Mathlib.Decide.{ℕ-discrete}
 use Rattle.specification.proofs.NormalAxes.{AllPositive}
-use Rattle.specification.proofs.Positions.{IndexVector, _and_, indices, place, sum-at-place, indices-place, place-lt, Distinct, apart-distinct}
-use Rattle.specification.proofs.AbsoluteStrides.{absolute, turned, turned-back, offset-reach, turned-turned′, SumsApart, apart-of-sums}
+use Rattle.specification.proofs.Positions.{IndexVector, _and_, place, sum-at-place, place-lt, Distinct, apart-distinct}
+use Rattle.specification.proofs.AbsoluteStrides.{absolute, lengths-absolute, turned, turned-within, turned-turned, offset-reach, SumsApart, apart-of-sums}
 use Rattle.specification.proofs.Digits.{place-inj, PositiveExtents}
 use Rattle.specification.proofs.Differences.{EqualSums, ZeroDifference, pair-zero, zero-pair}
 use Rattle.specification.proofs.AxisOrder.{Carry}
@@ -45,16 +45,18 @@ pub record Twice (l : List Axis) : Type 0 where
 
 pub pair-twice : (l : List Axis) → EqualSums (absolute 0 l) → Twice l
 pair-twice l p =
-    let px : IndexVector (extents l) (turned l (p .x)) = turned-back 0 l (p .bx) in
-    let py : IndexVector (extents l) (turned l (p .y)) = turned-back 0 l (p .by) in
-    let tx = turned-turned′ 0 l (p .bx) in
-    let ty = turned-turned′ 0 l (p .by) in
+    let wx : IndexVector (extents l) (p .x) = rw (lengths-absolute 0 l) at (p .bx) in
+    let wy : IndexVector (extents l) (p .y) = rw (lengths-absolute 0 l) at (p .by) in
+    let px = turned-within l wx in
+    let py = turned-within l wy in
+    let tx = turned-turned l wx in
+    let ty = turned-turned l wy in
     record {
       i = place (extents l) (turned l (p .x));
       j = place (extents l) (turned l (p .y));
       bi = place-lt l px;
       bj = place-lt l py;
-      other = λ e. p .other (sym tx ∙ ap (λ (z : List ℕ). turned l z) (sym (indices-place l px) ∙ ap (λ (z : ℕ). indices l z) e ∙ indices-place l py) ∙ ty);
+      other = λ e. p .other (sym tx ∙ ap (λ (z : List ℕ). turned l z) (place-inj px py e) ∙ ty);
       same = sum-at-place l px ∙ parts-ext {x = offsetSum l (turned l (p .x))} {y = offsetSum l (turned l (p .y))} (omega (arith, offset-reach 0 l px, offset-reach 0 l py, ap (λ (z : List ℕ). reach (absolute 0 l) z) tx, ap (λ (z : List ℕ). reach (absolute 0 l) z) ty, p .same)) ∙ sym (sum-at-place l py);
     }
 
