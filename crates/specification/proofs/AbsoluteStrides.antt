@@ -40,10 +40,12 @@ turned [] x = []
 turned (a ∷ r) [] = []
 turned (a ∷ r) (i ∷ x) = turn (a .extent) (a .stride) i ∷ turned r x
 
+-- it is below the extent
 turn-below : (n : ℕ) (s : ℤ) (i : ℕ) → i < n → turn n s i < n
 turn-below n (pos s) i h = h
 turn-below n (negsuc s) i h = omega arith
 
+-- turned twice it is as before
 turn-turn : (n : ℕ) (s : ℤ) (i : ℕ) → i < n → turn n s (turn n s i) ≡ i
 turn-turn n (pos s) i h = refl
 turn-turn n (negsuc s) i h = omega arith

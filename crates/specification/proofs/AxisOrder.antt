@@ -25,6 +25,7 @@ pub data Perm : List ActiveAxis → List ActiveAxis → Type 0 where
   swap : {a b : ActiveAxis} {l : List ActiveAxis} → Perm (a ∷ b ∷ l) (b ∷ a ∷ l)
   trans : {l m q : List ActiveAxis} → Perm l m → Perm m q → Perm l q
 
+-- and l is m in another order
 pub perm-sym : {l m : List ActiveAxis} → Perm l m → Perm m l
 perm-sym nil = nil
 perm-sym (skip p) = skip (perm-sym p)
@@ -60,6 +61,7 @@ swapTwo [] = []
 swapTwo (i ∷ []) = i ∷ []
 swapTwo (i ∷ j ∷ x) = j ∷ i ∷ x
 
+-- swapped twice they are as before
 swapTwo-twice : (x : List ℕ) → swapTwo (swapTwo x) ≡ x
 unfolding swapTwo
 swapTwo-twice [] = refl
@@ -93,5 +95,6 @@ carry-perm (skip p) = carry-skip (carry-perm p)
 carry-perm (swap {a} {b} {l}) = carry-swap a b l
 carry-perm (trans p r) = carry-trans (carry-perm p) (carry-perm r)
 
+-- axes tell their vectors apart in one order if they do in another
 pub apart-of-perm : {l m : List ActiveAxis} → Perm l m → SumsApart m → SumsApart l
 apart-of-perm p f = carry (carry-perm p) f

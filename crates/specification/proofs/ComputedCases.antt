@@ -3,6 +3,7 @@ use mathlib.Core.Path.{refl}
 use Rattle.specification.specs.Cases.{Cases}
 use Rattle.specification.proofs.Computing.{computing}
 
+-- each line by computing
 pub cases : Cases
 unfolding computing
 cases = record {

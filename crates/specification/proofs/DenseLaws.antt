@@ -138,5 +138,6 @@ by-row : (extents : List ℕ) → rowMajor extents ≡ (colMajor (reverse extent
 unfolding rowMajor colMajor
 by-row extents = rw (length-reverse extents, some-reverse (λ n. eqb n 0) extents) (bind-after (refuseIf (tooLong extents) 1 []) _ _)
 
+-- all that is claimed of dense strides
 pub dense-claims : DenseClaims
 dense-claims = record { refused-exactly = refused-exactly; by-column = by-column; by-row = by-row }

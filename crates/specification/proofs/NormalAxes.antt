@@ -10,7 +10,7 @@ use native.Mathlib.Omega.{arith}
 use lib.Arith.{mod-mul}
 use lib.Dec.{T, T-not, eqb, eqb→eq, eqb-refl}
 use lib.IntN.{ℤ, _+ℤ_, +ℤ-idl, +ℤ-assoc}
-use Rattle.integer.specs.Multiple.{_·_, eqZ}
+use Rattle.integer.specs.Multiple.{_·_}
 use Rattle.integer.proofs.MultipleLaws.{eqZ-no, eqZ-yes, ·-add, ·-mul, ·-zero}
 use Rattle.specification.specs.Tests.{if_then_else_, those}
 use Rattle.specification.specs.Axis.{Axis, extents, positions, product, indexAt, offsetSum, sumAt}
@@ -48,9 +48,11 @@ pub record ReadsAlike (l m : List Axis) : Type 0 where
   pub count : positions l ≡ positions m
   pub sums : (k : ℕ) → sumAt l k ≡ sumAt m k
 
+-- a list reads like itself
 pub alike-refl : {l : List Axis} → ReadsAlike l l
 alike-refl = record { count = refl; sums = λ k. refl }
 
+-- and like what a list that reads like it reads like
 pub alike-trans : {l m n : List Axis} → ReadsAlike l m → ReadsAlike m n → ReadsAlike l n
 alike-trans p q = record { count = p .count ∙ q .count; sums = λ k. p .sums k ∙ q .sums k }
 
@@ -101,6 +103,7 @@ normal-alike [] = alike-refl
 normal-alike (a ∷ r) = normal-either (λ l. ReadsAlike l (a ∷ r)) a r
     (λ e. alike-trans (normal-alike r) (alike-dropped a r e)) (λ n. alike-trans (alike-into a (normalAxes r)) (alike-more a (normal-alike r)))
 
+-- it has as many positions
 pub positions-of-normal : (l : List Axis) → positions (normalAxes l) ≡ positions l
 positions-of-normal l = normal-alike l .count
 
@@ -130,6 +133,7 @@ pub data Normal : List Axis → Type 0 where
   none : Normal []
   more : {a : Axis} {r : List Axis} → 2 ≤ a .extent → Apart a r → Normal r → Normal (a ∷ r)
 
+-- so no extent is 0
 pub normal-positive : {r : List Axis} → Normal r → AllPositive r
 normal-positive none = none
 normal-positive (more {a} h f t) = more {a = a} (omega arith) (normal-positive t)
@@ -146,6 +150,7 @@ into-normal a h none = more h tt none
 into-normal a h (more {a = b} {r} hb f t) = merged-either Normal a b r
     (λ e. more {a = both a b} (omega (arith, mul-le-mul h hb)) (both-apart a b r e f) t) (λ n. more h n (more hb f t))
 
+-- the normal form is normal
 pub normal-is-normal : {r : List Axis} → AllPositive r → Normal (normalAxes r)
 unfolding normalAxes merge those
 normal-is-normal none = none

@@ -57,6 +57,7 @@ two-positions : (a : Axis) {r : List Axis} → 2 ≤ a .extent → Normal r → 
 unfolding product
 two-positions a h t = omega (arith, le-mul-of-pos-right (a .extent) (positions-pos (normal-positive t)))
 
+-- axis by axis from the first
 pub canonical-axes : {l m : List Axis} → Normal l → Normal m → positions l ≡ positions m → ((k : ℕ) → k < positions l → sumAt l k ≡ sumAt m k) → l ≡ m
 unfolding product
 canonical-axes none none ec f = refl

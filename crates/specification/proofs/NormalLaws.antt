@@ -4,7 +4,7 @@ use mathlib.Core.Path.{_≡_, refl, sym, ap, ap₂, subst, _∙_}
 use mathlib.Core.Bool.{Bool, true, false, _||_}
 use mathlib.Core.Logic.{_↔_}
 use mathlib.Core.List.{List, [], _∷_}
-use Prim.Native.Nat.{ℕ, _*_, _<_}
+use Prim.Native.Nat.{ℕ, _*_}
 use native.Mathlib.Omega.{arith}
 use lib.Dec.{T, eqb, eqb→eq}
 use lib.IntN.{ℤ, pos, _+ℤ_, _-ℤ_, +ℤ-idr, +ℤ-comm, +ℤ-negℤ-cancel}
@@ -48,10 +48,12 @@ empty-none (a ∷ r) e = go (eqb (a .extent) 0) (eqb→eq (a .extent) 0) e (empt
 abbrev pub emptyAxes : List Axis
 emptyAxes = record { extent = 0; stride = pos 0 } ∷ []
 
+-- of an empty layout
 pub normal-of-empty : (l : LayoutM) → isEmpty (l .axes) ≡ true → normalOf l ≡ record { buffer = l .buffer; offset = pos 0; axes = emptyAxes }
 unfolding normalOf
 normal-of-empty l e = rw e
 
+-- of one that is not empty
 pub normal-of-full : (l : LayoutM) → isEmpty (l .axes) ≡ false → normalOf l ≡ withAxes l (normalAxes (l .axes))
 unfolding normalOf
 normal-of-full l e = rw e
@@ -62,10 +64,12 @@ normal-is l = refl
 
 -- ---- same offsets
 
+-- the same offsets, the other way round
 pub same-sym : {x y : LayoutM} → SameOffsets x y → SameOffsets y x
 same-sym s = record { as-many = sym (s .as-many); alike = λ k h. sym (s .alike k (rw (s .as-many) h)) }
 
-pub same-trans : {x y z : LayoutM} → SameOffsets x y → SameOffsets y z → SameOffsets x z
+-- and by way of a third layout
+same-trans : {x y z : LayoutM} → SameOffsets x y → SameOffsets y z → SameOffsets x z
 same-trans s t = record { as-many = s .as-many ∙ t .as-many; alike = λ k h. s .alike k h ∙ t .alike k (rw (← s .as-many) h) }
 
 -- equal but for the buffer length: the same offsets
@@ -75,6 +79,7 @@ same-form f = record {
   alike = λ k h. ap₂ (λ (o : ℤ) (l : List Axis). o +ℤ sumAt l k) (f .same-offset) (f .same-axes);
 }
 
+-- the normal form has the same offsets
 pub normal-same : (l : LayoutM) → SameOffsets (normalOf l) l
 unfolding product
 normal-same l = go (isEmpty (l .axes)) refl
@@ -108,6 +113,7 @@ canonical x y s = go (isEmpty (x .axes)) (isEmpty (y .axes)) refl refl
     go false true e f = absurd (clash (y .axes) (x .axes) f e (sym (s .as-many)))
     go false false e f = let c = canonical-full x y (full-pos (x .axes) e) (full-pos (y .axes) f) s in rw (normal-of-full x e, normal-of-full y f) (record { same-offset = c .0; same-axes = c .1 })
 
+-- and unequal offsets have unequal ones
 pub canonical-iff : (x y : LayoutM) → SameForm (normalOf x) (normalOf y) ↔ SameOffsets x y
 canonical-iff x y = (λ f. same-trans (same-sym (normal-same x)) (same-trans (same-form f) (normal-same y)), canonical x y)
 
@@ -121,5 +127,6 @@ buffer-stays l = go (isEmpty (l .axes)) refl
     go true e = ap (λ (x : LayoutM). x .buffer) (normal-of-empty l e)
     go false e = ap (λ (x : LayoutM). x .buffer) (normal-of-full l e)
 
+-- all that is claimed of the normal form
 pub normal-claims : NormalClaims
 normal-claims = record { same = normal-same; same-buffer = buffer-stays; canonical = canonical-iff; any-order = λ l m e s. any-order (full-pos l e) s }

@@ -30,11 +30,13 @@ normal-of-normal p n = sym (normal-of-alike p n alike-refl)
 
 -- ---- any order
 
+-- a step leaves no extent 0
 step-positive : {l m : List Axis} → Step l m → AllPositive l → AllPositive m
 step-positive (dropped e) (more h t) = t
 step-positive (merged {a} {b} e) (more h (more k t)) = more {a = both a b} (mul-pos h k) t
 step-positive (further s) (more h t) = more h (step-positive s t)
 
+-- and keeps what is read
 step-alike : {l m : List Axis} → Step l m → ReadsAlike m l
 step-alike (dropped {a} {rest} e) = alike-dropped a rest e
 step-alike (merged {a} {b} {rest} e) = alike-merged a b rest e
@@ -56,9 +58,11 @@ record Ends (l m : List Axis) : Type 0 where
   is-normal : Normal m
   alike : ReadsAlike m l
 
+-- they end in a normal list that reads like the first
 steps-end : {l m : List Axis} → AllPositive l → Steps l m → Ends l m
 steps-end p (ended f) = record { is-normal = ended-normal p f; alike = alike-refl }
 steps-end p (next s t) = let e = steps-end (step-positive s p) t in record { is-normal = e .is-normal; alike = alike-trans (e .alike) (step-alike s) }
 
+-- which is the normal form
 pub any-order : {l m : List Axis} → AllPositive l → Steps l m → m ≡ normalAxes l
 any-order p s = let e = steps-end p s in normal-of-alike p (e .is-normal) (e .alike)

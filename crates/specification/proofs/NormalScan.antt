@@ -25,6 +25,7 @@ unfoldable pub start : List Axis → List Axis
 start [] = []
 start (a ∷ r) = elim (eqb (a .extent) 1) [ true ↦ start r | false ↦ scan a r ]
 
+-- the test for extent 1 fails
 not-one : (n : ℕ) → T (not (eqb n 1)) → n ≢ 1
 not-one n t e = T-not (eqb n 1) t (rw e (eqb-refl 1))
 
@@ -34,6 +35,7 @@ record Made (a : Axis) (r : List Axis) (out : List Axis) : Type 0 where
   normal : Normal out
   apart : (c : Axis) → ¬ (Continues c a) → Apart c out
 
+-- by the two tests on the next axis
 scan-makes : (a : Axis) (r : List Axis) → 2 ≤ a .extent → AllPositive r → Made a r (scan a r)
 unfolding scan
 scan-makes a [] h none = record { alike = alike-refl; normal = more h tt none; apart = λ c f. f }
@@ -54,6 +56,7 @@ scan-makes a (b ∷ r) h (more hb hr) =
         let g = b-on (omega arith) in
         record { alike = alike-more a (g .alike); normal = more h (g .apart a (nq tt)) (g .normal); apart = λ c f. f }
 
+-- the whole pass
 start-makes : (l : List Axis) → AllPositive l → ReadsAlike (start l) l × Normal (start l)
 unfolding start
 start-makes [] none = (alike-refl, none)
@@ -64,5 +67,6 @@ start-makes (a ∷ r) (more h t) = go (eqb (a .extent) 1) (eqb→eq (a .extent) 
     go true p np g k = (alike-trans (g .0) (alike-dropped a r (p tt)), g .1)
     go false p np g k = let n1 : a .extent ≢ 1 = np tt in let w = k (omega arith) in (w .alike, w .normal)
 
+-- it makes the normal form
 pub scan-is-normal : (l : List Axis) → AllPositive l → start l ≡ normalAxes l
 scan-is-normal l h = let w = start-makes l h in normal-of-alike h (w .1) (w .0)

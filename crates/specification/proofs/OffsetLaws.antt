@@ -178,6 +178,7 @@ module _ (l : LayoutM) (index : List ℕ) (accepted : Accepted l) (full : isEmpt
   good : {i : ℕ} → GoodIndex l index i → Good (l .axes) index i
   good g = record { below = g .below; small = g .fits }
 
+  -- and back
   good-index : {i : ℕ} → Good (l .axes) index i → GoodIndex l index i
   good-index g = record { below = g .below; fits = g .small }
 
@@ -190,6 +191,7 @@ module _ (l : LayoutM) (index : List ℕ) (accepted : Accepted l) (full : isEmpt
   from-bad (not-below i n e b g h) = let z : i ≡ n = omega arith in subst (λ (n : ℕ). IndexRefused l index 7 (n ∷ [])) z (IndexRefused.not-below i b (λ j k. good-index (g j k)) h)
   from-bad (too-large i b g h m) = IndexRefused.too-large i b (λ j k. good-index (g j k)) h m
 
+  -- and back
   to-bad : {number : ℕ} {values : List ℕ} → IndexRefused l index number values → Bad 0 (l .axes) index number values
   to-bad (IndexRefused.not-below i b g h) = not-below i i (omega arith) b (λ j k. good (g j k)) h
   to-bad (IndexRefused.too-large i b g h m) = too-large i b (λ j k. good (g j k)) h m
@@ -201,5 +203,6 @@ module _ (l : LayoutM) (index : List ℕ) (accepted : Accepted l) (full : isEmpt
     λ q. offset-is-sum ∙ refused-of-bad 0 (l .offset) (l .axes) index room whole (to-bad q),
   )
 
+-- all that is claimed of the indexed offset
 pub offset-claims : OffsetClaims
 offset-claims = record { offset-is = offset-is; refuses = λ l index number values a f n. refuses l index a f n number values }

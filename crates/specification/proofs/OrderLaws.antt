@@ -115,5 +115,6 @@ zero-is-one : (strides : List ℤ) → orderAmong strides (pos 0) ≡ 1
 unfolding orderAmong eqZ
 zero-is-one strides = refl
 
+-- all that is claimed of the index order
 pub order-claims : OrderClaims
 order-claims = record { zero-is-one = zero-is-one; rises = rises; from-one = from-one; least-is-one = least-is-one; output = output }

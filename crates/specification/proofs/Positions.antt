@@ -16,12 +16,15 @@ indices l k = indexAt (extents l) k
 pub digitSum-is : (l : List Axis) (k : ℕ) → sumAt l k ≡ offsetSum l (indices l k)
 digitSum-is l k = refl
 
+-- the indices of a position are an index vector
 pub indices-within : {l : List Axis} → AllPositive l → (k : ℕ) → k < positions l → IndexVector (extents l) (indices l k)
 indices-within p k h = indexAt-within (positive-extents p) k h
 
+-- the position of an index vector has its indices
 pub indices-place : (l : List Axis) {x : List ℕ} → IndexVector (extents l) x → indices l (place (extents l) x) ≡ x
 indices-place l b = indexAt-place b
 
+-- and is a position
 pub place-lt : (l : List Axis) {x : List ℕ} → IndexVector (extents l) x → place (extents l) x < positions l
 place-lt l b = place-below b
 
@@ -39,6 +42,7 @@ Distinct l = (i j : ℕ) → i < positions l → j < positions l → sumAt l i �
 abbrev pub Apart : List Axis → Type 0
 Apart l = (x y : List ℕ) → IndexVector (extents l) x → IndexVector (extents l) y → offsetSum l x ≡ offsetSum l y → x ≡ y
 
+-- vectors told apart are positions told apart
 pub apart-distinct : {l : List Axis} → AllPositive l → Apart l → Distinct l
 apart-distinct {l} p f i j hi hj e =
     sym (place-indexAt (positive-extents p) i hi)
