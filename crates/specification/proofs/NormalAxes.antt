@@ -72,7 +72,7 @@ alike-dropped a r e = record { count = rw e (sym (one-mul (positions r))); sums 
 -- the lowest digit over two extents at once, by the digits over each; a remainder by 0 is the number itself, a quotient by 0 is 0
 mod-of-two : (n m k : ℕ) → k % (n * m) ≡ k % n + k / n % m * n
 mod-of-two zero m k = rw (zero-mul, mul-zero) (omega arith)
-mod-of-two (suc n) zero k = rw (mul-zero, mod-zero, mod-zero) (omega (arith, mod-add-div k (suc n), mul-comm (suc n) (k / suc n)))
+mod-of-two (suc n) zero k = rw (mul-zero, mod-zero k, mod-zero (k / suc n)) (omega (arith, mod-add-div k (suc n), mul-comm (suc n) (k / suc n)))
 mod-of-two (suc n) (suc m) k = ap (λ (x : ℕ). k % x) (mul-comm (suc n) (suc m)) ∙ mod-mul k (omega arith) (omega arith) ∙ add-comm _ _
 
 -- two axes of which the second continues the first, read as one
