@@ -1,4 +1,5 @@
--- Sorting and the block: what holds of the block holds of all active axes, and of the positions.
+-- The block decides: two index vectors of one sum are there on the block exactly if they are on all active axes, and on these exactly if on all axes.
+-- Each axis behind the block is separated from those before it, and order and axes of extent 1 do not matter.
 use mathlib.Core.Path.{_≡_, refl, sym, ap, subst, _∙_}
 use mathlib.Core.Bool.{Bool, true, false, not, _&&_, _||_}
 use mathlib.Core.List.{List, [], _∷_, _++_, append-nil}
@@ -103,6 +104,7 @@ last-apart before (a ∷ r) p e f = apart-of-perm (middle-perm a r p)
     go [] false h ih f = let q : spanSum p < a .stride = omega (arith, h tt) in ih (separated a p q f)
     go (b ∷ more) t h ih f = ih (apart-of-perm (perm-sym (middle-perm a (b ∷ more) p)) f)
 
+-- two vectors of one sum on the part up to the last and what was passed are two on all
 last-pair : (before : ℕ) (l p : List ActiveAxis) → PositiveExtents (lengths l) → EqualSums (upToLast before l ++ p) → EqualSums (l ++ p)
 unfolding upToLast
 last-pair before [] p h f = f
@@ -118,9 +120,11 @@ last-pair before (a ∷ r) p (PositiveExtents.more h t) f = pair-carry (carry-pe
 
 -- ---- the active axes
 
+-- where there are no axes
 no-axes : Carry [] []
 no-axes = carry-perm nil
 
+-- axes of extent 1 left out, vectors are carried over both ways
 pub active-carry : (k : ℕ) {l : List Axis} → AllPositive l → Carry (absolute k l) (activeFrom k l) × Carry (activeFrom k l) (absolute k l)
 unfolding activeFrom
 active-carry k AllPositive.none = (no-axes, no-axes)
@@ -138,15 +142,18 @@ active-carry k (AllPositive.more {a} {r} h t) = go (ltb 1 (a .extent)) (nltb→l
         let e : a .extent ≡ 1 = omega arith in
         (carry-trans (single this (absolute (suc k) r) e) (c .0), carry-trans (c .1) (single-back this (absolute (suc k) r) e))
 
+-- the test for stride 0, on the absolute stride
 eqZ-abs : (z : ℤ) → eqZ z (pos 0) ≡ eqb (natAbs z) 0
 unfolding eqZ
 eqZ-abs (pos n) = refl
 eqZ-abs (negsuc n) = sym (eqb·suc-zero n)
 
+-- the vector of zeros
 zeros : {es : List ℕ} → PositiveExtents es → (x : List ℕ) × IndexVector es x
 zeros PositiveExtents.none = ([], empty)
 zeros (PositiveExtents.more h t) = (0 ∷ zeros t .0, _and_ h (zeros t .1))
 
+-- an active axis has extent above 0
 active-pos : (k : ℕ) (l : List Axis) → PositiveExtents (lengths (activeFrom k l))
 unfolding activeFrom
 active-pos k [] = PositiveExtents.none
@@ -157,6 +164,7 @@ active-pos k (a ∷ r) = go (ltb 1 (a .extent)) (ltb→lt 1 (a .extent)) (active
     go true p w = let z : 0 < a .extent = omega (arith, p tt) in PositiveExtents.more z w
     go false p w = w
 
+-- an active stride 0: two vectors of one sum
 pub still-yes : (k : ℕ) (l : List Axis) → some still l ≡ true → EqualSums (activeFrom k l)
 unfolding activeFrom some
 still-yes k [] e = absurd (subst T (sym e) tt)
@@ -168,6 +176,7 @@ still-yes k (a ∷ r) e = go (ltb 1 (a .extent)) (eqZ (a .stride) (pos 0)) (ltb�
     go true false p q f ih = let h : 0 < a .extent = omega (arith, p tt) in pair-cons (record { axis = k; extent = a .extent; stride = natAbs (a .stride) }) (activeFrom (suc k) r) h (ih f)
     go false y p q f ih = ih f
 
+-- none: each active axis moves
 pub still-no : (k : ℕ) (l : List Axis) → some still l ≡ false → Lives (activeFrom k l)
 unfolding activeFrom some
 still-no k [] e = tt
@@ -181,15 +190,18 @@ still-no k (a ∷ r) e = go (ltb 1 (a .extent)) (eqZ (a .stride) (pos 0)) (ltb�
 
 -- ---- the block
 
+-- the axes of the block are active axes
 pub block-lives : (l : List Axis) → Lives (activeFrom 0 l) → Lives (blockOf l)
 unfolding blockOf
 block-lives l v = last-lives 0 (sortBy smaller (activeFrom 0 l)) (perm-lives (sort-perm smaller (activeFrom 0 l)) v)
 
+-- sums that tell vectors of the block apart tell those of the active axes apart
 pub block-apart : (l : List Axis) → SumsApart (blockOf l) → SumsApart (activeFrom 0 l)
 unfolding blockOf spanSum
 block-apart l f = apart-of-perm (sort-perm smaller (activeFrom 0 l)) (subst SumsApart (append-nil (sortBy smaller (activeFrom 0 l)))
     (last-apart 0 (sortBy smaller (activeFrom 0 l)) [] refl (subst SumsApart (sym (append-nil (upToLast 0 (sortBy smaller (activeFrom 0 l))))) f)))
 
+-- two vectors of one sum on the block are two on the active axes
 pub block-pair : (l : List Axis) → Lives (activeFrom 0 l) → EqualSums (blockOf l) → EqualSums (activeFrom 0 l)
 unfolding blockOf
 block-pair l v p = pair-carry (carry-perm (perm-sym (sort-perm smaller (activeFrom 0 l)))) (subst EqualSums (append-nil (sortBy smaller (activeFrom 0 l)))

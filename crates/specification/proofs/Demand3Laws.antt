@@ -2,24 +2,26 @@
 use mathlib.Core.Path.{_≡_, refl, sym, ap, subst, _∙_}
 use mathlib.Core.Bool.{Bool, true, false}
 use mathlib.Core.List.{List, [], _∷_}
-use Prim.Native.Nat.{ℕ, _≤_}
+use Prim.Native.Nat.{ℕ, _<_, _≤_}
 use native.Mathlib.Omega.{arith}
 use lib.Dec.{ltb}
 use lib.IntN.{ℤ, _+ℤ_}
-use lib.ListN.{getD}
+use lib.ListN.{length, getD}
 use borrow.Author.Tests.{lt-ltb, le-ltb}
 use Rattle.integer.proofs.PartLaws.{parts-add, parts-ext, parts-eq}
 use Rattle.specification.specs.Tests.{if_then_else_, isYes}
 use Rattle.specification.specs.Axis.{Axis, sumAt, Shared}
-use Rattle.specification.specs.Outcome.{Outcome, done, refuseIf, _>>_, _>>=_}
+use Rattle.specification.specs.Outcome.{Outcome, done, refused, refuseIf, _>>_, _>>=_}
 use Rattle.specification.specs.Layout.{LayoutM, rank, Accepted}
 use Rattle.specification.specs.Normal.{normalOf, overfull}
 use Rattle.specification.specs.Search.{total, spanSum, wordsFor}
 use Rattle.specification.specs.Decided.{sameSum?}
 use Rattle.specification.specs.Verdict.{Verdict, Distinct, Repeated, Undecided, Judged, Plan, answered, enumerated, planOf, carryOut, judge, wordsOf, wordsNeeded, BothBudgetsPassed}
-use Rattle.specification.specs.Record.{Made, recordLength, verdictByte, recordBytes, written}
+use Rattle.specification.specs.Record.{Made, numberFrom, recordLength, verdictByte, recordBytes, written}
 use Rattle.specification.specs.Calls.{endOf}
-use Rattle.specification.specs.Claims.{SameOffsets, SameForm, Says, TrueByte, RefusedExactly, Demand3Claim}
+use Rattle.specification.specs.NormalClaims.{SameOffsets, SameForm}
+use Rattle.specification.specs.VerdictClaims.{Says}
+use Rattle.specification.specs.Demand3.{TrueByte, Demand3Claim}
 use Rattle.specification.proofs.NormalLaws.{normal-same, same-sym, canonical-iff}
 use Rattle.specification.proofs.VerdictLaws.{true-answer, only-undecided, needed-no}
 use Rattle.specification.proofs.AcceptedLaws.{ends-keep}
@@ -27,6 +29,16 @@ use Rattle.specification.proofs.BytesLaws.{length-record, record-inj, b
 use Rattle.specification.proofs.WriterLaws.{normal-accepted, plan-done, form-done, form-eight, normal-few, fields-fit}
 use Rattle.specification.proofs.RecordFields.{length-field}
 use Rattle.specification.proofs.OutcomeLaws.{clash, passed, refuse-yes, refuse-no, bound, bind-done, bind-refused, done-inj}
+
+-- the writer refuses x exactly as 01 says, 8, then 10, then 9; else a record gets made, the bytes that its length field counts
+pub record RefusedExactly (x : LayoutM) (room words : ℕ) : Type 0 where
+  pub eight : overfull (x .axes) ≡ true → written x room words ≡ refused 8 []
+  pub ten : overfull (x .axes) ≡ false → room < recordLength (rank (normalOf x))
+      → written x room words ≡ refused 10 (recordLength (rank (normalOf x)) ∷ [])
+  pub nine : overfull (x .axes) ≡ false → recordLength (rank (normalOf x)) ≤ room → words < wordsNeeded (normalOf x .axes)
+      → written x room words ≡ refused 9 (wordsNeeded (normalOf x .axes) ∷ [])
+  pub made : overfull (x .axes) ≡ false → recordLength (rank (normalOf x)) ≤ room → wordsNeeded (normalOf x .axes) ≤ words
+      → (m : Made) × (written x room words ≡ done m) × (length (m .bytes) ≡ recordLength (rank (normalOf x))) × (numberFrom (m .bytes) 0 2 ≡ length (m .bytes))
 
 -- ---- what the writer does with an accepted layout
 
@@ -168,18 +180,3 @@ module _ (x y : LayoutM) (a : Accepted x) (b : Accepted y) (words words′ : ℕ
       let f = canonical-iff x y .1 h in
       let q : w .j .answer ≡ v .j .answer = same-answer (normalOf y .axes) words words′ (w .j) (v .j) (subst (λ (l : List Axis). judge l words ≡ done (w .j)) (f .same-axes) (w .judged)) (v .judged) in
       w .holds ∙ form-bytes (normalOf x) (normalOf y) (w .j .answer) (v .j .answer) f q ∙ sym (v .holds)
-
-pub demand3 : Demand3Claim
-demand3 a b ha hb cs ds room room′ words words′ =
-    let hx = ends-keep a cs ha in
-    let hy = ends-keep b ds hb in
-    record {
-      equal-records = λ r s e f.
-          let w = writes (endOf a cs) room words r hx e in
-          let v = writes (endOf b ds) room′ words′ s hy f in
-          (equal-same (endOf a cs) (endOf b ds) hx hy words words′ r s w v, same-equal (endOf a cs) (endOf b ds) hx hy words words′ r s w v);
-      first-verdict = λ r e. true-byte (endOf a cs) room words r hx e;
-      second-verdict = λ s f. true-byte (endOf b ds) room′ words′ s hy f;
-      first-refusals = refused-exactly (endOf a cs) room words hx;
-      second-refusals = refused-exactly (endOf b ds) room′ words′ hy;
-    }

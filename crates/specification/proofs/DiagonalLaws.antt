@@ -23,7 +23,7 @@ use Rattle.specification.specs.Tied.{Tied, itself, turned, chain}
 use Rattle.specification.specs.TiedDecided.{tied?}
 use Rattle.specification.specs.Views.{withAxes, axisAt, pairFault, classOf, kept, strideSum, fused, diagonalAxes, sumFaults, diagonalView}
 use Rattle.specification.specs.Search.{firstOf}
-use Rattle.specification.specs.Claims.{ViewClaims}
+use Rattle.specification.specs.ViewClaims.{ViewClaims}
 use Rattle.specification.proofs.AcceptedLaws.{sumOf, left}
 use Rattle.specification.proofs.SearchLaws.{First, first-of}
 use Rattle.specification.proofs.ViewLaws.{permuted, stretched, weigh, parts, by-axis, settled}

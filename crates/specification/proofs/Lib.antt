@@ -1,4 +1,10 @@
+pub mod Computing
 pub mod StarredLines
+pub mod ComputedCases
+pub mod TestLaws
+pub mod DenseLaws
+pub mod OrderLaws
+pub mod OffsetLaws
 pub mod NormalAxes
 pub mod NormalCanonical
 pub mod NormalOrder
@@ -25,6 +31,5 @@ pub mod Demand3Laws
 pub mod ReaderLaws
 pub mod RecordFields
 pub mod RoundTripLaws
-pub mod Proved
 pub mod ViewLaws
 pub mod DiagonalLaws

@@ -18,7 +18,7 @@ use Rattle.specification.specs.Axis.{Axis, extents, offsetSum, sumAt, is
 use Rattle.specification.specs.Outcome.{pass, refuseIf}
 use Rattle.specification.specs.Layout.{LayoutM, rank, Accepted, lowest, highest, inReach}
 use Rattle.specification.specs.CheckIn.{tooWide, bounds}
-use Rattle.specification.specs.Claims.{Reach, ReachClaims}
+use Rattle.specification.specs.ReachClaims.{Reach}
 use Rattle.specification.proofs.NormalAxes.{AllPositive}
 use Rattle.specification.proofs.Positions.{IndexVector, empty, _and_, place, indices-within, indices-place, place-lt}
 use Rattle.specification.proofs.NormalLaws.{full-pos, empty-none}
@@ -211,10 +211,3 @@ bounds-reach l q = go (isEmpty (l .axes)) q
         → (t || (leZ (pos 0) (lowest l) && leZ (highest l) (pos mostSigned) && ltZ (highest l) (pos (l .buffer)))) ≡ true
     go true q = refl
     go false q = untests l (within (some tooWide (l .axes)) (some (λ a. not (fits (span a))) (l .axes)) (pass-false _ q))
-
-pub reach-claims : ReachClaims
-reach-claims = record {
-  reach = reach-of;
-  tested = λ l. (λ a. (a .few, tested-yes l a), λ p. tested-no l (p .0) (p .1));
-  checked = λ l n q. tested-no l n (bounds-reach l q);
-}

@@ -21,7 +21,7 @@ use Rattle.specification.specs.Layout.{LayoutM, rank, Accepted, lowest, 
 use Rattle.specification.specs.Normal.{continues, overfull}
 use Rattle.specification.specs.Verdict.{Judged, judge}
 use Rattle.specification.specs.Record.{recordLength, verdictByte, numberFrom, signedFrom, axesFrom, fieldsRight, isMerged, isEmptyForm, isNormal, withBuffer, layoutFrom, WasRead, readOf}
-use Rattle.specification.specs.Claims.{AcceptedClaims}
+use Rattle.specification.specs.ViewClaims.{AcceptedClaims}
 use Rattle.specification.proofs.NormalAxes.{Normal, none, more, normal-positive, Continues}
 use Rattle.specification.proofs.NormalLaws.{empty-none}
 use Rattle.specification.proofs.ReachLaws.{within-accepted, and-true}

@@ -16,7 +16,7 @@ use Rattle.specification.specs.Axis.{Axis}
 use Rattle.specification.specs.Layout.{LayoutM, rank}
 use Rattle.specification.specs.Verdict.{Verdict}
 use Rattle.specification.specs.Record.{axesFrom, axisBytes, bigEndian, numberFrom, recordBytes, recordLength, signedFrom, twos, verdictByte}
-use Rattle.specification.specs.Claims.{Bytes}
+use Rattle.specification.specs.RecordClaims.{Bytes}
 use Rattle.specification.proofs.BytesLaws.{length-big, power-pos, Fits64, FitsAxes, twos-lt}
 
 -- ---- reading what big-endian wrote

@@ -21,7 +21,8 @@ use Rattle.specification.specs.Layout.{LayoutM, rank, Accepted, lowest, 
 use Rattle.specification.specs.Normal.{normalAxes, normalOf, overfull}
 use Rattle.specification.specs.Verdict.{Verdict, Distinct, Repeated, Undecided, Judged, judge, wordsNeeded}
 use Rattle.specification.specs.Record.{bigEndian, twos, verdictByte, recordLength, axisBytes, recordBytes, Made, written, numberFrom, signedFrom, axesFrom, fieldsRight, isMerged, isEmptyForm, isNormal, withBuffer, layoutFrom, WasRead, readOf, restOf}
-use Rattle.specification.specs.Claims.{SameForm, Bytes, RoundTrip}
+use Rattle.specification.specs.NormalClaims.{SameForm}
+use Rattle.specification.specs.RecordClaims.{Bytes, RoundTrip}
 use Rattle.specification.proofs.NormalAxes.{Normal, normal-is-normal, normal-positive}
 use Rattle.specification.proofs.NormalOrder.{normal-of-normal}
 use Rattle.specification.proofs.NormalLaws.{full-pos, normal-is}

@@ -18,7 +18,8 @@ use Rattle.specification.specs.Normal.{overfull}
 use Rattle.specification.specs.Search.{ActiveAxis, spanSum, total, twoDistinct, half, CompletesAt, firstOf, SameSum, wordsFor}
 use Rattle.specification.specs.Decided.{sameSum?}
 use Rattle.specification.specs.Verdict.{Verdict, Distinct, Repeated, Undecided, Judged, Plan, answered, enumerated, activeFrom, upToLast, smaller, blockOf, byTwo, longer, lower, othersOf, hit, placed, searched, pastSearch, byMany, bySize, byBlock, still, outOfRange, planOf, carryOut, judge, wordsOf, wordsNeeded, BothBudgetsPassed}
-use Rattle.specification.specs.Claims.{Says, VerdictClaims, CountClaims}
+use Rattle.specification.specs.VerdictClaims.{Says, VerdictClaims}
+use Rattle.specification.specs.CountClaims.{CountClaims}
 use Rattle.specification.proofs.NormalAxes.{AllPositive}
 use Rattle.specification.proofs.Positions.{IndexVector, empty, digitSum-is}
 use Rattle.specification.proofs.AbsoluteStrides.{absolute, SumsApart}
@@ -376,13 +377,6 @@ needed-no axes words w e h = go (planOf axes) e
     go (done (enumerated b)) q = refuse-yes 9 (wordsFor (total b) (spanSum b) ∷ []) _ (lt-ltb words (wordsFor (total b) (spanSum b)) (omega arith)) ∙ ap (λ (k : ℕ). refused 9 (k ∷ [])) q
     go (refused n vs) q = absurd (omega arith)
 
-pub verdict-claims : VerdictClaims
-verdict-claims = record {
-  true-answer = true-answer;
-  only-undecided = only-undecided;
-  needed = λ axes words w. (needed-yes axes words w, λ p. needed-no axes words w (p .0) (p .1));
-}
-
 -- ---- the count
 
 place-is : (others : List ActiveAxis) (o : Option ℕ) (c : ℕ) → placed others o ≡ answered Repeated c → o ≡ found c
@@ -497,6 +491,3 @@ module _ (axes : List Axis) (words : ℕ) (j : Judged) where
       → (a : ActiveAxis) × (b : ActiveAxis) × (more : List ActiveAxis) × (sortBy longer (blockOf axes) ≡ a ∷ b ∷ more) × (searched a b (othersOf (blockOf axes)) ≡ answered (j .answer) (j .count))
   unfolding judge
   elsewhere e h = let b = bound e in count-came (b .what) (came axes (b .what) (b .was)) (carried words (b .what) j (b .after)) h
-
-pub count-claims : CountClaims
-count-claims = record { place = place-claim; all-passed = passed-claim; elsewhere = elsewhere }

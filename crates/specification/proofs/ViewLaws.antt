@@ -17,7 +17,7 @@ use Rattle.specification.specs.Axis.{Axis, offsetSum}
 use Rattle.specification.specs.Outcome.{Check, done, refused, pass, refuseIf, _>>_}
 use Rattle.specification.specs.Layout.{LayoutM, rank, handed}
 use Rattle.specification.specs.Views.{unlessRefused, withAxes, axisAt, orderFault, permute, targetFault, spread, broadcast}
-use Rattle.specification.specs.Claims.{heldBack}
+use Rattle.specification.specs.ViewClaims.{heldBack}
 use Rattle.specification.proofs.AcceptedLaws.{not-false, sumOf, left, left-shift, whole-sum}
 use Rattle.specification.proofs.OutcomeLaws.{clash, passed, passed-check}
 
