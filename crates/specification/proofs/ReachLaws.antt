@@ -187,7 +187,7 @@ pub or-false : (x y : Bool) → (x || y) ≡ false → (x ≡ false) × (y ≡ f
 or-false true y e = absurd (subst T e tt)
 or-false false y e = (refl, e)
 
-pass-false : (t : Bool) → refuseIf t 3 [] ≡ pass → t ≡ false
+pub pass-false : (t : Bool) → refuseIf t 3 [] ≡ pass → t ≡ false
 unfolding refuseIf
 pass-false true e = absurd (clash (sym e))
 pass-false false e = refl
