@@ -114,7 +114,7 @@ module _ (l : LayoutM) (pairs : List (ℕ × ℕ)) where
   pairs-answers : Answers (pairFault (rank l) pairs) GoodPairs FirstBad
   pairs-answers = rw (pairs-in-turn (rank l) pairs) (turn-answers (λ i. pairCheck (rank l) (pairAt pairs i)) (length pairs) (λ i h. pair-answers (rank l) pairs i))
 
-  sums-answers : Answers (sumFaults l pairs (kept pairs (rank l))) AllSums FirstOut
+  pub sums-answers : Answers (sumFaults l pairs (kept pairs (rank l))) AllSums FirstOut
   sums-answers = rw (sums-in-turn l pairs (kept pairs (rank l)))
       (turn-answers (λ p. strideFault (pos 0) (members l pairs (getD (kept pairs (rank l)) p 0))) (length (kept pairs (rank l))) (λ p h. stride-answers (pos 0) (members l pairs (getD (kept pairs (rank l)) p 0)) refl))
 

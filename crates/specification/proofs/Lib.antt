@@ -33,3 +33,6 @@ pub mod PermuteAnswers
 pub mod BroadcastAnswers
 pub mod DiagonalAnswers
 pub mod AnswerLaws
+pub mod RangeLaws
+pub mod ClassLaws
+pub mod NewLayoutLaws
