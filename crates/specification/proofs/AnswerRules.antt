@@ -10,7 +10,7 @@ use borrow.Author.Tests.{eqb-true, eq-eqb, not-false}
 use Rattle.specification.specs.Outcome.{Check, done, refused, pass, refuseIf, _>>_}
 use Rattle.specification.specs.Layout.{LayoutM}
 use Rattle.specification.specs.Views.{unlessRefused}
-use Rattle.specification.proofs.OutcomeLaws.{clash}
+use Rattle.specification.proofs.OutcomeLaws.{clash, refused-inj}
 
 -- a check passes exactly if P, and is refused with a number and values exactly if R holds of them
 pub record Answers (c : Check) (P : Type 0) (R : ℕ → List ℕ → Type 0) : Type 0 where
@@ -32,9 +32,7 @@ pub data FirstFault (n : ℕ) (Good : ℕ → Type 0) (Bad : ℕ → ℕ → Lis
 
 -- ---- one check
 
-pub same-refusal : {n m : ℕ} {vs ws : List ℕ} → _≡_ {A = Check} (refused n vs) (refused m ws) → (n ≡ m) × (vs ≡ ws)
-same-refusal e = (cc, cc)
-
+-- the same answers in other words
 pub restated : {c : Check} {P Q : Type 0} {R S : ℕ → List ℕ → Type 0} → Answers c P R → (P → Q) → (Q → P)
     → ((n : ℕ) (vs : List ℕ) → R n vs → S n vs) → ((n : ℕ) (vs : List ℕ) → S n vs → R n vs) → Answers c Q S
 restated a f g h k = record {
@@ -47,11 +45,12 @@ pub some-refusal : (c : Check) {P : Type 0} {R : ℕ → List ℕ → Type 0} �
 some-refusal (done u) a f = absurd (f (a .passes .0 refl))
 some-refusal (refused n vs) a f = (n, vs, a .refuses n vs .0 refl)
 
+-- a test refuses where it holds, so it is enough to say when it does not
 pub test-answers : (t : Bool) (number : ℕ) (values : List ℕ) {P : Type 0} → ((t ≡ false) ↔ P) → Answers (refuseIf t number values) P (Only number values P)
 unfolding refuseIf
 test-answers true number values h = record {
   passes = (λ e. absurd (clash (sym e)), λ p. absurd (subst T (h .1 p) tt));
-  refuses = λ n vs. (λ e. refusal (λ p. subst T (h .1 p) tt) (same-refusal e), λ o. equation o);
+  refuses = λ n vs. (λ e. refusal (λ p. subst T (h .1 p) tt) (refused-inj e), λ o. equation o);
 }
   where
     refusal : {P : Type 0} {n : ℕ} {vs : List ℕ} → ¬ P → (number ≡ n) × (values ≡ vs) → Only number values P n vs
@@ -67,6 +66,7 @@ test-answers false number values h = record {
     none : {P : Type 0} {n : ℕ} {vs : List ℕ} → Only number values P n vs → ¬ P
     none (only f) = f
 
+-- the same for a check with one refusal
 pub only-restated : {c : Check} {P Q : Type 0} {number : ℕ} {values : List ℕ} → Answers c P (Only number values P) → (P → Q) → (Q → P) → Answers c Q (Only number values Q)
 only-restated {P} {Q} {number} {values} a f g = restated a f g (λ n vs o. moved g o) (λ n vs o. moved f o)
   where
@@ -94,6 +94,7 @@ left-old old new (refused n vs) e = refl
 
 -- ---- one check after another
 
+-- the second check is asked only where the first passes
 pub then-answers : (c d : Check) {P Q : Type 0} {R S : ℕ → List ℕ → Type 0} → Answers c P R → (P → Answers d Q S) → Answers (c >> d) (P × Q) (InOrder P R S)
 unfolding _>>_
 then-answers (done u) d {P} {Q} {R} {S} a b =
@@ -138,6 +139,7 @@ then-only c d {P} {Q} number values a b = restated (then-answers c d a b) (λ w.
 
 -- ---- checks of n places, in turn
 
+-- the check of place 0, then of place 1, up to n of them
 unfoldable pub inTurn : (ℕ → Check) → ℕ → Check
 inTurn check zero = pass
 inTurn check (suc n) = check 0 >> inTurn (λ i. check (suc i)) n
@@ -147,6 +149,7 @@ unfolding inTurn
 in-turn-ext f g zero e = refl
 in-turn-ext f g (suc n) e = rw (e 0, in-turn-ext (λ i. f (suc i)) (λ i. g (suc i)) n (λ i. e (suc i)))
 
+-- it passes if each place is good, and is refused at the first that is not
 pub turn-answers : (check : ℕ → Check) (n : ℕ) {Good : ℕ → Type 0} {Bad : ℕ → ℕ → List ℕ → Type 0} → ((i : ℕ) → i < n → Answers (check i) (Good i) (Bad i))
     → Answers (inTurn check n) ((i : ℕ) → i < n → Good i) (FirstFault n Good Bad)
 unfolding inTurn

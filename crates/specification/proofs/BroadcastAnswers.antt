@@ -34,6 +34,7 @@ extent-tested extent target = (λ e. go (eqb extent target) refl (not-false (eqb
 unfoldable extentCheck : ℕ → ℕ → ℕ → Check
 extentCheck k extent target = refuseIf (not (eqb extent target || eqb extent 1)) 6 (k ∷ [])
 
+-- the targets are checked axis by axis
 targets-in-turn : (k : ℕ) (axes : List Axis) (targets : List ℕ) → length targets ≡ length axes
     → targetFault k axes targets ≡ inTurn (λ i. extentCheck (k + i) (axisAt axes i .extent) (getD targets i 0)) (length axes)
 unfolding targetFault inTurn extentCheck
@@ -45,6 +46,8 @@ targets-in-turn k (a ∷ rest) (t ∷ targets) h =
   where
     next : (i : ℕ) → extentCheck (suc k + i) (axisAt rest i .extent) (getD targets i 0) ≡ extentCheck (k + suc i) (axisAt rest i .extent) (getD targets i 0)
     next i = ap (λ (n : ℕ). extentCheck n (axisAt rest i .extent) (getD targets i 0)) (omega arith)
+
+-- ---- the call
 
 module _ (l : LayoutM) (targets : List ℕ) where
   abbrev AsMany : Type 0

@@ -25,6 +25,7 @@ next-at c a = record { place-lt = omega (arith, a .place-lt); entry-is = a .entr
 
 -- ---- numbers of a range that pass a test
 
+-- how many entries are below b
 abbrev below : ℕ → List ℕ → ℕ
 below b list = length (those (λ c. ltb c b) list)
 
@@ -73,6 +74,7 @@ entry-passes test k (suc n) p h = go (test k) refl p h (entry-passes test (suc k
 
 -- ---- the least extent
 
+-- it is at most each extent
 pub least-at-most : (axis : ℕ → Axis) (list : List ℕ) (p : ℕ) → p < length list → leastExtent (map axis list) ≤ axis (getD list p 0) .extent
 unfolding leastExtent
 least-at-most axis [] p h = absurd (omega arith)
@@ -81,6 +83,7 @@ least-at-most axis (b ∷ []) (suc p) h = absurd (omega arith)
 least-at-most axis (b ∷ c ∷ rest) zero h = omega arith
 least-at-most axis (b ∷ c ∷ rest) (suc p) h = omega (arith, least-at-most axis (c ∷ rest) p (omega arith))
 
+-- and it is one of them
 pub least-is-one : (axis : ℕ → Axis) (b : ℕ) (list : List ℕ) → (p : ℕ) × (p < length (b ∷ list)) × (leastExtent (map axis (b ∷ list)) ≡ axis (getD (b ∷ list) p 0) .extent)
 unfolding leastExtent
 least-is-one axis b [] = (0, omega arith, refl)
@@ -107,7 +110,7 @@ module _ (pairs : List (ℕ × ℕ)) (n a : ℕ) where
   -- a class that has no axis below a stands at a, at the place that counts the kept axes below it
   pub kept-at : a < n → ((b : ℕ) → b < a → ¬ (Tied pairs a b)) → At (kept pairs n) (placeOf pairs n a) a
   unfolding kept placeOf classOf
-  kept-at h f = stands-at (λ c. not (some (λ b. ltb b c) (classOf pairs n c))) a 0 n (omega arith) (omega arith) (rw (lowest))
+  kept-at h f = stands-at (λ c. not (some (λ b. ltb b c) (classOf pairs n c))) a 0 n (omega arith) (omega arith) (rw lowest)
     where
       higher : (b : ℕ) → Tied pairs a b → (t : Bool) → ltb b a ≡ t → t ≡ false
       higher b w false e = refl

@@ -27,6 +27,7 @@ pairCheck rank p =
     refuseIf (leb rank (max (p .0) (p .1))) 5 (max (p .0) (p .1) ∷ rank ∷ [])
     >> refuseIf (eqb (p .0) (p .1)) 5 (p .0 ∷ rank ∷ [])
 
+-- the pairs are checked in turn
 pairs-in-turn : (rank : ℕ) (pairs : List (ℕ × ℕ)) → pairFault rank pairs ≡ inTurn (λ i. pairCheck rank (pairAt pairs i)) (length pairs)
 unfolding pairFault inTurn pairCheck
 pairs-in-turn rank [] = refl
@@ -39,6 +40,7 @@ data BadPair (rank : ℕ) (p : ℕ × ℕ) : ℕ → List ℕ → Type 0 where
   outside : rank ≤ max (p .0) (p .1) → BadPair rank p 5 (max (p .0) (p .1) ∷ rank ∷ [])
   same-axis : p .0 < rank → p .0 ≡ p .1 → BadPair rank p 5 (p .0 ∷ rank ∷ [])
 
+-- a pair answers 5 exactly if it is bad
 pair-answers : (rank : ℕ) (pairs : List (ℕ × ℕ)) (i : ℕ) → Answers (pairCheck rank (pairAt pairs i)) (GoodPair rank pairs i) (BadPair rank (pairAt pairs i))
 unfolding pairCheck
 pair-answers rank pairs i = restated
@@ -85,6 +87,7 @@ stride-answers sum (a ∷ rest) h = only-restated
     all e f zero = h
     all e f (suc n) = f n
 
+-- the classes are checked in turn
 sums-in-turn : (l : LayoutM) (pairs : List (ℕ × ℕ)) (roots : List ℕ) → sumFaults l pairs roots ≡ inTurn (λ p. strideFault (pos 0) (members l pairs (getD roots p 0))) (length roots)
 unfolding sumFaults inTurn
 sums-in-turn l pairs [] = refl

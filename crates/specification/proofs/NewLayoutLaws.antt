@@ -44,6 +44,7 @@ permuted l order p = of-new (Permuted l order) l _ _ (permute-answers l order .p
 
 -- ---- broadcast
 
+-- one axis of a broadcast
 abbrev stretchedAxis : Axis → ℕ → Axis
 stretchedAxis a target = if eqb (a .extent) target then a else record { extent = target; stride = pos 0 }
 

@@ -36,6 +36,7 @@ entryCheck rank before order i =
     refuseIf (leb rank (getD order i 0)) 5 (getD order i 0 ∷ rank ∷ [])
     >> refuseIf (some (eqb (getD order i 0)) (before ++ take i order)) 5 (getD order i 0 ∷ rank ∷ [])
 
+-- an order is checked entry by entry
 order-in-turn : (rank : ℕ) (before order : List ℕ) → orderFault rank before order ≡ inTurn (entryCheck rank before order) (length order)
 unfolding orderFault inTurn entryCheck
 order-in-turn rank before [] = refl
@@ -65,6 +66,8 @@ FirstBad rank order = FirstFault (length order) (GoodEntry rank order) (λ i. On
 
 order-answers : (rank : ℕ) (order : List ℕ) → Answers (orderFault rank [] order) (AllGood rank order) (FirstBad rank order)
 order-answers rank order = rw (order-in-turn rank [] order) (turn-answers (entryCheck rank [] order) (length order) (entry-answers rank order))
+
+-- ---- the call
 
 module _ (l : LayoutM) (order : List ℕ) where
   abbrev AsMany : Type 0

@@ -35,6 +35,7 @@ fits-signed z e =
     let w = and-true (leZ (negsuc mostSigned) z) (leZ z (pos mostSigned)) e in
     parts-fit (omega (arith, leZ-true z (pos mostSigned) (w .1))) (omega (arith, leZ-true (negsuc mostSigned) z (w .0)))
 
+-- an axis that stands still
 still-ranges : (extent : ℕ) → extent ≤ mostUnsigned → AxisRanges (record { extent = extent; stride = pos 0 })
 still-ranges extent h = record { extent-fits = omega arith; stride-fits = fits-signed (pos 0) refl }
 
@@ -58,6 +59,7 @@ permute-ranges l order r = old-or-new Ranges l _ _ r (λ e. with-ranges l r (ord
 
 -- ---- diagonal_view
 
+-- the least extent is one of the extents, or 0
 least-ranges : (axes : List Axis) → AllRanges axes → leastExtent axes < 2 ^ 64
 unfolding leastExtent
 least-ranges [] w = omega arith
@@ -130,14 +132,15 @@ unfolding merge mergeInto
 merge-strides [] w = tt
 merge-strides (a ∷ rest) w = into (merge rest) (merge-strides rest (w .1))
   where
-    into : (done : List Axis) → StridesFit done → StridesFit (mergeInto a done)
+    into : (merged : List Axis) → StridesFit merged → StridesFit (mergeInto a merged)
     into [] v = (w .0, tt)
-    into (b ∷ done) v = go (continues a b)
+    into (b ∷ merged) v = go (continues a b)
       where
-        go : (t : Bool) → StridesFit (if t then both a b ∷ done else a ∷ b ∷ done)
+        go : (t : Bool) → StridesFit (if t then both a b ∷ merged else a ∷ b ∷ merged)
         go true = (w .0, v .1)
         go false = (w .0, v)
 
+-- no extent exceeds the number of positions
 counted-ranges : {axes : List Axis} → AllPositive axes → StridesFit axes → positions axes ≤ mostUnsigned → AllRanges axes
 unfolding product
 counted-ranges none w h = tt

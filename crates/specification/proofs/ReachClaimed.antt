@@ -20,11 +20,12 @@ use Rattle.specification.specs.Layout.{LayoutM, rank, Accepted, lowest, 
 use Rattle.specification.specs.CheckIn.{tooWide, bounds}
 use Rattle.specification.specs.ReachClaims.{ReachClaims}
 use Rattle.specification.proofs.NormalLaws.{full-pos, positions-pos, empty-none}
-use Rattle.specification.proofs.ReachLaws.{reach-of, accepted-within, tested-yes, tested-no, or-false, pass-false, bounds-reach}
+use Rattle.specification.proofs.ReachLaws.{reach-of, accepted-within, tested-yes, tested-no, or-false, Within, bounds-within, bounds-reach}
 use Rattle.specification.proofs.WriterLaws.{spans-fit, fits-small}
-use Rattle.specification.proofs.OutcomeLaws.{clash}
-use Rattle.specification.proofs.AnswerRules.{Answers, Only, only, InOrder, sooner, later, same-refusal, restated, test-answers, then-answers}
+use Rattle.specification.proofs.OutcomeLaws.{clash, refused-inj}
+use Rattle.specification.proofs.AnswerRules.{Answers, Only, only, InOrder, sooner, later, restated, test-answers, then-answers}
 
+-- a layout with no position is empty
 none-empty : (axes : List Axis) → positions axes ≡ 0 → isEmpty axes ≡ true
 none-empty axes e = go (isEmpty axes) refl
   where
@@ -43,6 +44,7 @@ module _ (l : LayoutM) (list : List ℕ) where
   abbrev Few : Type 0
   Few = (rank l ≤ 16) × (length list ≤ 16)
 
+  -- the tests of refusals 1 and 3
   few-tested : ((tooLong (l .axes) || tooLong list) ≡ false) ↔ Few
   few-tested = (
     λ e. let w = or-false (tooLong (l .axes)) (tooLong list) e in (ltb-false 16 (rank l) (w .0), ltb-false 16 (length list) (w .1)),
@@ -80,6 +82,7 @@ module _ (l : LayoutM) (list : List ℕ) where
 
 -- ---- check-in
 
+-- an order the other way round refutes the test
 le-ltZ : (x y : ℤ) → posPart y + negPart x ≤ posPart x + negPart y → ltZ x y ≡ false
 le-ltZ x y h = go (ltZ x y) (ltZ-true x y)
   where
@@ -98,6 +101,7 @@ module _ (l : LayoutM) where
   fiveCases : Bool
   fiveCases = some tooWide (l .axes) || some (λ a. not (fits (span a))) (l .axes) || ltZ (pos mostSigned) (highest l) || ltZ (lowest l) (pos 0) || leZ (pos (l .buffer)) (highest l)
 
+  -- an accepted layout with no extent too wide is in none of the five cases
   no-case : isEmpty (l .axes) ≡ false → Accepted l → some tooWide (l .axes) ≡ false → fiveCases ≡ false
   unfolding fiveCases
   no-case e a w =
@@ -110,21 +114,12 @@ module _ (l : LayoutM) where
         lt-leZ (pos (l .buffer)) (highest l) (omega (arith, r .w-in)),
       )
 
-  first-case : fiveCases ≡ false → some tooWide (l .axes) ≡ false
-  unfolding fiveCases
-  first-case e =
-      let w₁ = or-false (some tooWide (l .axes) || some (λ a. not (fits (span a))) (l .axes) || ltZ (pos mostSigned) (highest l) || ltZ (lowest l) (pos 0)) (leZ (pos (l .buffer)) (highest l)) e in
-      let w₂ = or-false (some tooWide (l .axes) || some (λ a. not (fits (span a))) (l .axes) || ltZ (pos mostSigned) (highest l)) (ltZ (lowest l) (pos 0)) (w₁ .0) in
-      let w₃ = or-false (some tooWide (l .axes) || some (λ a. not (fits (span a))) (l .axes)) (ltZ (pos mostSigned) (highest l)) (w₂ .0) in
-      or-false (some tooWide (l .axes)) (some (λ a. not (fits (span a))) (l .axes)) (w₃ .0) .0
-
   bounds-wide : bounds l ≡ pass → (isEmpty (l .axes) ≡ true) ⊎ (some tooWide (l .axes) ≡ false)
-  unfolding bounds fiveCases
-  bounds-wide q = go (isEmpty (l .axes)) refl q
+  bounds-wide q = go (bounds-within l q)
     where
-      go : (t : Bool) → isEmpty (l .axes) ≡ t → (if t then pass else refuseIf fiveCases 3 []) ≡ pass → (isEmpty (l .axes) ≡ true) ⊎ (some tooWide (l .axes) ≡ false)
-      go true e q = inl e
-      go false e q = inr (first-case (pass-false fiveCases q))
+      go : (isEmpty (l .axes) ≡ true) ⊎ ((some tooWide (l .axes) ≡ false) × Within l) → (isEmpty (l .axes) ≡ true) ⊎ (some tooWide (l .axes) ≡ false)
+      go (inl e) = inl e
+      go (inr w) = inr (w .0)
 
   bounds-pass : Accepted l → (isEmpty (l .axes) ≡ true) ⊎ (some tooWide (l .axes) ≡ false) → bounds l ≡ pass
   unfolding bounds fiveCases refuseIf
@@ -141,7 +136,7 @@ module _ (l : LayoutM) where
     where
       go : (t u : Bool) → (if t then pass else refuseIf u 3 []) ≡ refused n vs → (3 ≡ n) × ([] ≡ vs)
       go true u e = absurd (clash e)
-      go false true e = same-refusal e
+      go false true e = refused-inj e
       go false false e = absurd (clash e)
 
 -- check-in has one refusal
