@@ -205,11 +205,11 @@ empty-by-sum l m q e = go (isEmpty m) refl
 
 -- ---- the three views
 
--- the old layout or the new one
-either : (l n : LayoutM) (c : Check) → Accepted l → (c ≡ pass → Accepted n) → Accepted (unlessRefused l c n .layout)
+-- what holds of the old layout, and of the new one if the check passes, holds of the layout after it
+pub old-or-new : (P : LayoutM → Type 0) (l n : LayoutM) (c : Check) → P l → (c ≡ pass → P n) → P (unlessRefused l c n .layout)
 unfolding unlessRefused
-either l n (done u) a f = f refl
-either l n (refused m vs) a f = a
+old-or-new P l n (done u) a f = f refl
+old-or-new P l n (refused m vs) a f = a
 
 pub not-false : (t : Bool) → not t ≡ false → t ≡ true
 not-false true e = refl
@@ -217,7 +217,7 @@ not-false false e = absurd (subst T e tt)
 
 permute-keeps : (l : LayoutM) (order : List ℕ) → Accepted l → Accepted (permute l order .layout)
 unfolding permute
-permute-keeps l order a = either l _ _ a (λ e.
+permute-keeps l order a = old-or-new Accepted l _ _ a (λ e.
     let p = passed-check (handed l order) e in
     let q = passed (not (eqb (length order) (rank l))) 4 (length order ∷ rank l ∷ []) (p .1) in
     let n : length order ≡ rank l = eqb-true (length order) (rank l) (not-false (eqb (length order) (rank l)) (q .0)) in
@@ -247,7 +247,7 @@ length-kept pairs n = omega (arith, length-those (λ a. not (some (λ b. ltb b a
 
 diagonal-keeps : (l : LayoutM) (pairs : List (ℕ × ℕ)) → Accepted l → Accepted (diagonalView l pairs .layout)
 unfolding diagonalView diagonalAxes
-diagonal-keeps l pairs a = either l _ _ a (λ e.
+diagonal-keeps l pairs a = old-or-new Accepted l _ _ a (λ e.
     let p = passed-check (handed l []) e in
     let q = passed-check (pairFault (rank l) pairs) (p .1) in
     let s = passed-check (sumFaults l pairs (kept pairs (rank l))) (q .1) in
@@ -300,7 +300,7 @@ spreads i (a ∷ r) (t ∷ ts) n e =
 
 broadcast-keeps : (l : LayoutM) (targets : List ℕ) → Accepted l → Accepted (broadcast l targets .layout)
 unfolding broadcast
-broadcast-keeps l targets a = either l _ _ a (λ e.
+broadcast-keeps l targets a = old-or-new Accepted l _ _ a (λ e.
     let p = passed-check (handed l targets) e in
     let q = passed (not (eqb (length targets) (rank l))) 4 (rank l ∷ length targets ∷ []) (p .1) in
     let n : length targets ≡ rank l = eqb-true (length targets) (rank l) (not-false (eqb (length targets) (rank l)) (q .0)) in

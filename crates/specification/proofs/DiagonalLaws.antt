@@ -110,7 +110,7 @@ left-sum f i (suc n) = ap (λ (z : ℕ). f i + z) (left-sum f (suc i) n)
 
 -- ---- some entry of a range that passes one test passes another
 
-some-no : (f g : ℕ → Bool) (i n : ℕ) → ((x : ℕ) → i ≤ x → x < i + n → g x ≡ true → f x ≡ false) → some f (those g (upFrom i n)) ≡ false
+pub some-no : (f g : ℕ → Bool) (i n : ℕ) → ((x : ℕ) → i ≤ x → x < i + n → g x ≡ true → f x ≡ false) → some f (those g (upFrom i n)) ≡ false
 unfolding some those upFrom
 some-no f g i zero h = refl
 some-no f g i (suc n) h = go (g i) refl (some-no f g (suc i) n (λ x a b. h x (omega arith) (omega arith)))
@@ -157,15 +157,15 @@ module _ (pairs : List (ℕ × ℕ)) (n : ℕ) where
   abbrev q : ℕ → Bool
   q a = not (some (λ b. ltb b a) (classOf pairs n a))
 
-  t-yes : (a b : ℕ) → t a b ≡ true → Tied pairs a b
-  t-yes a b e = go (tied? pairs a b) e
+  pub test-tied : (a b : ℕ) → t a b ≡ true → Tied pairs a b
+  test-tied a b e = go (tied? pairs a b) e
     where
       go : (d : Dec (Tied pairs a b)) → isYes d ≡ true → Tied pairs a b
       go (yes p) e = p
       go (no f) e = absurd (subst T (sym e) tt)
 
-  t-of : (a b : ℕ) → Tied pairs a b → t a b ≡ true
-  t-of a b p = go (tied? pairs a b)
+  pub tied-test : (a b : ℕ) → Tied pairs a b → t a b ≡ true
+  tied-test a b p = go (tied? pairs a b)
     where
       go : (d : Dec (Tied pairs a b)) → isYes d ≡ true
       go (yes _) = refl
@@ -192,24 +192,24 @@ module _ (pairs : List (ℕ × ℕ)) (n : ℕ) where
       pos-neg e = rw e
 
       go : (o : Option ℕ) → First (λ k. t k a) n 0 o → Root a
-      go none f = no-true (sym (t-of a a itself) ∙ f a (omega arith) (omega arith))
+      go none f = no-true (sym (tied-test a a itself) ∙ f a (omega arith) (omega arith))
       go (found p) f =
-          let tp : Tied pairs p a = t-yes p a (f .2) in
+          let tp : Tied pairs p a = test-tied p a (f .2) in
           record {
             root = p;
             root-lt = omega (arith, f .1);
             root-tied = tp;
-            root-kept = neg (some-no (λ b. ltb b p) (t p) 0 n (λ x i l e. low x (t-yes p x e) (ltb x p) refl));
+            root-kept = neg (some-no (λ b. ltb b p) (t p) 0 n (λ x i l e. low x (test-tied p x e) (ltb x p) refl));
             root-only = λ k l tk qk. only k l tk qk (decLt k p) (decLt p k);
           }
         where
           low : (x : ℕ) → Tied pairs p x → (b : Bool) → ltb x p ≡ b → b ≡ false
           low x w false e = refl
-          low x w true e = no-true (sym (t-of x a (chain (turned w) (t-yes p a (f .2)))) ∙ f .3 x (omega arith) (ltb-true x p e))
+          low x w true e = no-true (sym (tied-test x a (chain (turned w) (test-tied p a (f .2)))) ∙ f .3 x (omega arith) (ltb-true x p e))
 
           only : (k : ℕ) → k < n → Tied pairs k a → q k ≡ true → Dec (k < p) → Dec (p < k) → k ≡ p
-          only k l tk qk (yes lt) d = no-true (sym (t-of k a tk) ∙ f .3 k (omega arith) lt)
-          only k l tk qk (no nl) (yes lt) = no-true (sym qk ∙ pos-neg (some-yes (λ b. ltb b k) (t k) 0 n p (omega arith) (omega (arith, f .1)) (t-of k p (chain tk (turned (t-yes p a (f .2))))) (lt-ltb p k lt)))
+          only k l tk qk (yes lt) d = no-true (sym (tied-test k a tk) ∙ f .3 k (omega arith) lt)
+          only k l tk qk (no nl) (yes lt) = no-true (sym qk ∙ pos-neg (some-yes (λ b. ltb b k) (t k) 0 n p (omega arith) (omega (arith, f .1)) (tied-test k p (chain tk (turned (test-tied p a (f .2))))) (lt-ltb p k lt)))
           only k l tk qk (no nl) (no ng) = omega arith
 
   -- the sum over the classes of the kept axes is the sum over all
@@ -232,9 +232,9 @@ module _ (pairs : List (ℕ × ℕ)) (n : ℕ) where
       one : (a : ℕ) → a < n → sumOf (λ k. if q k && t k a then f a else 0) (upFrom 0 n) ≡ f a
       one a h =
           let r = root-of a h in
-          let e : (q (r .root) && t (r .root) a) ≡ true = rw (r .root-kept, t-of (r .root) a (r .root-tied)) in
+          let e : (q (r .root) && t (r .root) a) ≡ true = rw (r .root-kept, tied-test (r .root) a (r .root-tied)) in
           sum-one (λ k. q k && t k a) (f a) (r .root) 0 n (omega arith) (omega (arith, r .root-lt)) e
-          (λ k i l b. let w = and-both (q k) (t k a) b in r .root-only k (omega arith) (t-yes k a (w .1)) (w .0))
+          (λ k i l b. let w = and-both (q k) (t k a) b in r .root-only k (omega arith) (test-tied k a (w .1)) (w .0))
 
 -- ---- offsets
 
@@ -271,7 +271,7 @@ module _ (l : LayoutM) (pairs : List (ℕ × ℕ)) (index : List ℕ) where
     in-class : (h : ℕ → ℕ) (k : ℕ) → y k * sumOf h (classOf pairs (rank l) k) ≡ sumOf (λ a. y a * h a) (classOf pairs (rank l) k)
     unfolding classOf
     in-class h k = sym (sum-times (y k) h (classOf pairs (rank l) k)) ∙ sum-those (t pairs (rank l) k) (λ a. y k * h a) (upFrom 0 (rank l))
-        ∙ sum-ext (λ a. if t pairs (rank l) k a then y k * h a else 0) (λ a. if t pairs (rank l) k a then y a * h a else 0) (upFrom 0 (rank l)) (λ a. same a (t pairs (rank l) k a) (t-yes pairs (rank l) k a))
+        ∙ sum-ext (λ a. if t pairs (rank l) k a then y k * h a else 0) (λ a. if t pairs (rank l) k a then y a * h a else 0) (upFrom 0 (rank l)) (λ a. same a (t pairs (rank l) k a) (test-tied pairs (rank l) k a))
         ∙ sym (sum-those (t pairs (rank l) k) (λ a. y a * h a) (upFrom 0 (rank l)))
       where
         same : (a : ℕ) (b : Bool) → (b ≡ true → Tied pairs k a) → (if b then y k * h a else 0) ≡ (if b then y a * h a else 0)

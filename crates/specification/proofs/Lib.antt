@@ -33,3 +33,12 @@ pub mod RecordFields
 pub mod RoundTripLaws
 pub mod ViewLaws
 pub mod DiagonalLaws
+pub mod AnswerRules
+pub mod ReachClaimed
+pub mod PermuteAnswers
+pub mod BroadcastAnswers
+pub mod DiagonalAnswers
+pub mod AnswerLaws
+pub mod RangeLaws
+pub mod ClassLaws
+pub mod NewLayoutLaws

@@ -2,6 +2,7 @@
 use mathlib.Core.Path.{_≡_, refl, sym, ap, subst, _∙_}
 use mathlib.Core.Bool.{Bool, true, false, not, _&&_, _||_}
 use mathlib.Core.List.{List, [], _∷_}
+use mathlib.Core.Logic.{_⊎_, inl, inr}
 use Prim.Native.Nat.{ℕ, _+_, _-_, _<_, _≤_}
 use native.Mathlib.Nat.{mul-le-mul-right}
 use native.Mathlib.Omega.{arith}
@@ -192,22 +193,38 @@ unfolding refuseIf
 pass-false true e = absurd (clash (sym e))
 pass-false false e = refl
 
-pub bounds-reach : (l : LayoutM) → bounds l ≡ pass → inReach l ≡ true
-unfolding bounds inReach
-bounds-reach l q = go (isEmpty (l .axes)) q
+-- check-in lets pass an empty layout, and one with no extent too wide whose ends are within
+pub bounds-within : (l : LayoutM) → bounds l ≡ pass → (isEmpty (l .axes) ≡ true) ⊎ ((some tooWide (l .axes) ≡ false) × Within l)
+unfolding bounds
+bounds-within l q = go (isEmpty (l .axes)) refl q
   where
-    within : (a b : Bool) → (a || b || ltZ (pos mostSigned) (highest l) || ltZ (lowest l) (pos 0) || leZ (pos (l .buffer)) (highest l)) ≡ false → Within l
+    within : (a b : Bool) → (a || b || ltZ (pos mostSigned) (highest l) || ltZ (lowest l) (pos 0) || leZ (pos (l .buffer)) (highest l)) ≡ false → (a ≡ false) × Within l
     within a b e =
         let w₁ = or-false (a || b || ltZ (pos mostSigned) (highest l) || ltZ (lowest l) (pos 0)) (leZ (pos (l .buffer)) (highest l)) e in
         let w₂ = or-false (a || b || ltZ (pos mostSigned) (highest l)) (ltZ (lowest l) (pos 0)) (w₁ .0) in
-        let w₃ = or-false (a || b) (ltZ (pos mostSigned) (highest l)) (w₂ .0) in
-        record {
-          w-low = omega (arith, ltZ-false (lowest l) (pos 0) (w₂ .1));
-          w-most = omega (arith, ltZ-false (pos mostSigned) (highest l) (w₃ .1));
-          w-in = omega (arith, leZ-false (pos (l .buffer)) (highest l) (w₁ .1));
-        }
+        let w₃ = or-false (a || b) (ltZ (pos mostSigned) (highest l)) (w₂ .0) in (
+          or-false a b (w₃ .0) .0,
+          record {
+            w-low = omega (arith, ltZ-false (lowest l) (pos 0) (w₂ .1));
+            w-most = omega (arith, ltZ-false (pos mostSigned) (highest l) (w₃ .1));
+            w-in = omega (arith, leZ-false (pos (l .buffer)) (highest l) (w₁ .1));
+          },
+        )
 
-    go : (t : Bool) → (if t then pass else refuseIf (some tooWide (l .axes) || some (λ a. not (fits (span a))) (l .axes) || ltZ (pos mostSigned) (highest l) || ltZ (lowest l) (pos 0) || leZ (pos (l .buffer)) (highest l)) 3 []) ≡ pass
-        → (t || (leZ (pos 0) (lowest l) && leZ (highest l) (pos mostSigned) && ltZ (highest l) (pos (l .buffer)))) ≡ true
-    go true q = refl
-    go false q = untests l (within (some tooWide (l .axes)) (some (λ a. not (fits (span a))) (l .axes)) (pass-false _ q))
+    go : (t : Bool) → isEmpty (l .axes) ≡ t
+        → (if t then pass else refuseIf (some tooWide (l .axes) || some (λ a. not (fits (span a))) (l .axes) || ltZ (pos mostSigned) (highest l) || ltZ (lowest l) (pos 0) || leZ (pos (l .buffer)) (highest l)) 3 []) ≡ pass
+        → (isEmpty (l .axes) ≡ true) ⊎ ((some tooWide (l .axes) ≡ false) × Within l)
+    go true e q = inl e
+    go false e q = inr (within (some tooWide (l .axes)) (some (λ a. not (fits (span a))) (l .axes)) (pass-false _ q))
+
+pub bounds-reach : (l : LayoutM) → bounds l ≡ pass → inReach l ≡ true
+unfolding inReach
+bounds-reach l q = go (bounds-within l q)
+  where
+    or-right : (t u : Bool) → u ≡ true → (t || u) ≡ true
+    or-right true u e = refl
+    or-right false u e = e
+
+    go : (isEmpty (l .axes) ≡ true) ⊎ ((some tooWide (l .axes) ≡ false) × Within l) → (isEmpty (l .axes) || (leZ (pos 0) (lowest l) && leZ (highest l) (pos mostSigned) && ltZ (highest l) (pos (l .buffer)))) ≡ true
+    go (inl e) = rw e
+    go (inr w) = or-right (isEmpty (l .axes)) _ (untests l (w .1))

@@ -87,7 +87,7 @@ spans-fit l e a =
     let w = accepted-within l e a in
     omega (arith, w .w-low, w .w-most, parts-minus (l .offset) (pos (downward (l .axes))), parts-add (l .offset) (pos (upward (l .axes))))
 
-fits-small : (z : ℤ) → posPart z ≤ mostSigned → negPart z ≤ mostSigned → fits z ≡ true
+pub fits-small : (z : ℤ) → posPart z ≤ mostSigned → negPart z ≤ mostSigned → fits z ≡ true
 fits-small z p n = rw (le-leZ (negsuc mostSigned) z (omega arith), le-leZ z (pos mostSigned) (omega arith))
 
 record Clear (l : List Axis) : Type 0 where
