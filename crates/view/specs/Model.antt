@@ -1,0 +1,26 @@
+-- What a layout means: as many axes as the rank says, also above 16; places past the rank are no part of it.
+use mathlib.Core.List.{List}
+use Prim.Native.Nat.{ℕ}
+use lib.IntN.{ℤ, pos}
+use lib.ListN.{getD}
+use Rattle.lists.specs.Table.{table}
+use Rattle.specification.specs.Axis.{Axis}
+use Rattle.specification.specs.Layout.{LayoutM}
+use Rattle.specification.specs.Views.{After}
+use Rattle.view.specs.Answers.{outcomeOf}
+use Rattle.view.specs.declared.layout.Layout.{Layout}
+use Rattle.view.specs.declared.layout.Viewed.{Viewed}
+
+-- axis i of two arrays
+abbrev pub axisOf : List ℕ → List ℤ → ℕ → Axis
+axisOf extents strides i = record { extent = getD extents i 0; stride = getD strides i (pos 0) }
+
+-- the first `rank` axes of two arrays
+abbrev pub axesIn : List ℕ → List ℤ → ℕ → List Axis
+axesIn extents strides rank = table rank (axisOf extents strides)
+
+abbrev pub modelOf : Layout → LayoutM
+modelOf l = record { buffer = l .len; offset = l .offset .0; axes = axesIn (l .extents) (l .strides) (l .rank) }
+
+abbrev pub viewedOf : Viewed → After
+viewedOf v = record { answer = outcomeOf (v .answer); layout = modelOf (v .layout) }

@@ -1,0 +1,2 @@
+// The layout half of view.rs: layouts of strided readings, check-in, views, dense strides and indexed offsets.
+pub mod layout;
