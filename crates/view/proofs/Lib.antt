@@ -1,1 +1,6 @@
 pub mod ModelLaws
+pub mod SomeLaws
+pub mod ReachLaws
+pub mod BoundsLaws
+pub mod AnswerLaws
+pub mod HandedLaws

@@ -4,7 +4,7 @@ use Prim.Native.Nat.{ℕ}
 use lib.IntN.{ℤ, pos}
 use lib.ListN.{getD}
 use Rattle.lists.specs.Table.{table}
-use Rattle.specification.specs.Axis.{Axis}
+use Rattle.specification.specs.Axis.{Axis, axesOf}
 use Rattle.specification.specs.Layout.{LayoutM}
 use Rattle.specification.specs.Views.{After}
 use Rattle.view.specs.Answers.{outcomeOf}
@@ -24,3 +24,7 @@ modelOf l = record { buffer = l .len; offset = l .offset .0; axes = axesIn (l .e
 
 abbrev pub viewedOf : Viewed → After
 viewedOf v = record { answer = outcomeOf (v .answer); layout = modelOf (v .layout) }
+
+-- the layout that two lists give
+abbrev pub modelFrom : ℕ → ℤ → List ℕ → List ℤ → LayoutM
+modelFrom buffer offset extents strides = record { buffer = buffer; offset = offset; axes = axesOf extents strides }
