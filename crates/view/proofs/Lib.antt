@@ -4,3 +4,4 @@ pub mod ReachLaws
 pub mod BoundsLaws
 pub mod AnswerLaws
 pub mod HandedLaws
+pub mod CheckInLaws

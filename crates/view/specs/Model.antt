@@ -1,11 +1,13 @@
 -- What a layout means: as many axes as the rank says, also above 16; places past the rank are no part of it.
-use mathlib.Core.List.{List}
+use mathlib.Core.List.{List, [], _∷_}
 use Prim.Native.Nat.{ℕ}
 use lib.IntN.{ℤ, pos}
 use lib.ListN.{getD}
 use Rattle.lists.specs.Table.{table}
 use Rattle.specification.specs.Axis.{Axis, axesOf}
 use Rattle.specification.specs.Layout.{LayoutM}
+use Rattle.specification.specs.Outcome.{Outcome, done, refused, pass}
+use Rattle.specification.specs.CheckIn.{checkIn}
 use Rattle.specification.specs.Views.{After}
 use Rattle.view.specs.Answers.{outcomeOf}
 use Rattle.view.specs.declared.layout.Layout.{Layout}
@@ -28,3 +30,16 @@ viewedOf v = record { answer = outcomeOf (v .answer); layout = modelOf (v .layou
 -- the layout that two lists give
 abbrev pub modelFrom : ℕ → ℤ → List ℕ → List ℤ → LayoutM
 modelFrom buffer offset extents strides = record { buffer = buffer; offset = offset; axes = axesOf extents strides }
+
+-- the empty layout that stands beside a refusal of check-in
+abbrev pub noLayout : LayoutM
+noLayout = record { buffer = 0; offset = pos 0; axes = record { extent = 0; stride = pos 0 } ∷ [] }
+
+-- an outcome as an answer with a layout
+abbrev pub afterOf : Outcome LayoutM → After
+afterOf (done l) = record { answer = pass; layout = l }
+afterOf (refused number values) = record { answer = refused number values; layout = noLayout }
+
+-- check-in's answer and layout
+abbrev pub checkedIn : ℕ → ℤ → List ℕ → List ℤ → After
+checkedIn buffer offset extents strides = afterOf (checkIn buffer offset extents strides)
