@@ -1,0 +1,60 @@
+-- Laws of the axes in two arrays: one stored at the end, one read, and the axes of two lists.
+use mathlib.Core.Path.{_≡_, refl, sym, _∙_}
+use mathlib.Core.List.{List, [], _∷_, _++_}
+use Prim.Native.Nat.{ℕ, zero, suc, _+_, _≤_, _<_}
+use native.Mathlib.Omega.{arith}
+use lib.IntN.{ℤ, pos}
+use lib.ListN.{length, take, drop, set}
+use lib.Seq.{getD-set-same, getD-set-other, getD-take, ext-getD, length-take-le}
+use Rattle.lists.proofs.TableLaws.{table-ext, table-snoc, table-suc, getD-table, drop-table, length-table}
+use Rattle.specification.specs.Axis.{axesOf}
+use Rattle.specification.specs.Views.{axisAt}
+use Rattle.view.specs.Model.{axisOf, axesIn}
+
+-- an axis stored right after the first n
+pub axesIn-store : (es : List ℕ) (ss : List ℤ) (n e : ℕ) (s : ℤ) → n < length es → n < length ss
+    → axesIn (set es n e) (set ss n s) (n + 1) ≡ axesIn es ss n ++ (record { extent = e; stride = s } ∷ [])
+axesIn-store es ss n e s h k = table-snoc (axisOf (set es n e) (set ss n s)) (axisOf es ss) n _
+    (λ i l. let ne : i ≡ n → ⊥ = λ q. absurd (omega arith) in rw (getD-set-other es n i e 0 ne, getD-set-other ss n i s (pos 0) ne))
+    (rw (getD-set-same es n e 0 h, getD-set-same ss n s (pos 0) k))
+
+pub axesIn-suc : (es : List ℕ) (ss : List ℤ) (n : ℕ) → axesIn es ss (n + 1) ≡ axesIn es ss n ++ (axisOf es ss n ∷ [])
+axesIn-suc es ss n = table-suc (axisOf es ss) n
+
+-- axis i, of those that there are
+pub axisAt-axesIn : (es : List ℕ) (ss : List ℤ) (n i : ℕ) → i < n → axisAt (axesIn es ss n) i ≡ axisOf es ss i
+axisAt-axesIn es ss n i h = getD-table (axisOf es ss) n i _ h
+
+pub length-axesIn : (es : List ℕ) (ss : List ℤ) (n : ℕ) → length (axesIn es ss n) ≡ n
+length-axesIn es ss n = length-table (axisOf es ss) n
+
+-- from axis i on
+pub drop-axesIn : (es : List ℕ) (ss : List ℤ) (n i : ℕ) → i < n → drop i (axesIn es ss n) ≡ axisOf es ss i ∷ drop (i + 1) (axesIn es ss n)
+drop-axesIn es ss n i h = drop-table (axisOf es ss) n i h
+
+length-axesOf : (es : List ℕ) (ss : List ℤ) → length es ≡ length ss → length (axesOf es ss) ≡ length es
+unfolding axesOf
+length-axesOf [] ss h = refl
+length-axesOf (e ∷ es) [] h = absurd (omega arith)
+length-axesOf (e ∷ es) (s ∷ ss) h = let r = length-axesOf es ss (omega arith) in omega arith
+
+-- axis i of two lists that are equally long
+axisAt-axesOf : (es : List ℕ) (ss : List ℤ) (i : ℕ) → length es ≡ length ss → i < length es → axisAt (axesOf es ss) i ≡ axisOf es ss i
+unfolding axesOf
+axisAt-axesOf [] ss i h k = absurd (omega arith)
+axisAt-axesOf (e ∷ es) [] i h k = absurd (omega arith)
+axisAt-axesOf (e ∷ es) (s ∷ ss) zero h k = refl
+axisAt-axesOf (e ∷ es) (s ∷ ss) (suc i) h k = axisAt-axesOf es ss i (omega arith) (omega arith)
+
+-- two lists that are equally long hold these axes
+pub axesIn-axesOf : (es : List ℕ) (ss : List ℤ) (n : ℕ) → length es ≡ n → length ss ≡ n → axesIn es ss n ≡ axesOf es ss
+axesIn-axesOf es ss n h k =
+    ext-getD (record { extent = 0; stride = pos 0 }) (axesIn es ss n) (axesOf es ss) (length-axesIn es ss n ∙ sym (length-axesOf es ss (omega arith) ∙ h))
+    (λ i l. let b : i < n = omega (arith, length-axesIn es ss n) in
+    axisAt-axesIn es ss n i b ∙ sym (axisAt-axesOf es ss i (omega arith) (omega arith)))
+
+-- the first n entries of two arrays hold these axes
+pub axesOf-take : (es : List ℕ) (ss : List ℤ) (n : ℕ) → n ≤ length es → n ≤ length ss → axesOf (take n es) (take n ss) ≡ axesIn es ss n
+axesOf-take es ss n h k =
+    sym (axesIn-axesOf (take n es) (take n ss) n (length-take-le n es h) (length-take-le n ss k))
+    ∙ table-ext (axisOf (take n es) (take n ss)) (axisOf es ss) n (λ i l. rw (getD-take n es i 0 l, getD-take n ss i (pos 0) l))

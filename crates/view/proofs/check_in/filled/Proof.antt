@@ -1,0 +1,115 @@
+use mathlib.Core.Path.{_≡_, refl, sym, _∙_}
+use Prim.Native.Nat.{_-_, _≤_}
+use native.Mathlib.Omega.{arith}
+use lib.ListN.{length, length-set}
+use mir.Syntax.{w64}
+use mir.ValLaws.{toZ-ofZ}
+use Rattle.lists.proofs.TableLaws.{table-zero}
+use Rattle.view.specs.Model.{axesIn}
+use Rattle.view.proofs.ModelLaws.{axesIn-store, axesIn-suc, axesIn-axesOf}
+use borrow.Author.Needs.{needs}
+use Rattle.view.proofs.check_in.filled.Statement.{statement}
+use Rattle.view.proofs.check_in.filled.Tie as tie
+
+abbrev Inv-loop : tie.InvT-loop
+Inv-loop len extents strides next₀ i₀ next i =
+    (i ≤ length extents)
+    × (next .len ≡ next₀ .len) × (next .offset ≡ next₀ .offset) × (next .rank ≡ next₀ .rank)
+    × (length (next .extents) ≡ 16) × (length (next .strides) ≡ 16)
+    × (axesIn (next .extents) (next .strides) i ≡ axesIn extents strides i)
+
+abbrev μ-loop : tie.MeasureT-loop
+μ-loop len extents strides next₀ i₀ next i = length extents - i
+
+-- src/check_in.rt:30:20
+no-layout-requires : tie.Need-no-layout-requires Inv-loop μ-loop
+no-layout-requires c κs = search needs
+
+-- src/check_in.rt:35:5
+loop-holds : tie.Need-loop-holds Inv-loop μ-loop
+loop-holds c = (search needs, refl, refl, refl, search needs, search needs, table-zero _ ∙ sym (table-zero _))
+
+-- src/check_in.rt:36:22
+mul-extent : tie.Need-mul-extent Inv-loop μ-loop
+mul-extent c = search needs
+
+-- src/check_in.rt:36:22
+shared-slice-read-extent : tie.Need-shared-slice-read-extent Inv-loop μ-loop
+shared-slice-read-extent c = search needs
+
+-- src/check_in.rt:37:22
+mul-stride : tie.Need-mul-stride Inv-loop μ-loop
+mul-stride c = search needs
+
+-- src/check_in.rt:37:22
+shared-slice-copy-out-stride : tie.Need-shared-slice-copy-out-stride Inv-loop μ-loop
+shared-slice-copy-out-stride c = search needs
+
+-- src/check_in.rt:38:9
+mul-next : tie.Need-mul-next Inv-loop μ-loop
+mul-next c = search needs
+
+-- src/check_in.rt:38:9
+element-write-next : tie.Need-element-write-next Inv-loop μ-loop
+element-write-next c = search needs
+
+-- src/check_in.rt:39:9
+mul-stride-2 : tie.Need-mul-stride-2 Inv-loop μ-loop
+mul-stride-2 c = search needs
+
+-- src/check_in.rt:39:9
+element-set-from-stride : tie.Need-element-set-from-stride Inv-loop μ-loop
+element-set-from-stride c = search needs
+
+-- src/check_in.rt:40:9
+add-i : tie.Need-add-i Inv-loop μ-loop
+add-i c = search needs
+
+-- src/check_in.rt:35:5
+loop-less : tie.Need-loop-less Inv-loop μ-loop
+loop-less c = search needs
+
+-- src/check_in.rt:35:5
+loop-again : tie.Need-loop-again Inv-loop μ-loop
+loop-again c =
+    let l = c .before .before .before .loop in
+    let a = c .before .before .before .before .before .before .args in (
+      search needs,
+      l .inv .1,
+      l .inv .2,
+      l .inv .3,
+      simp length-set (l .inv .4),
+      simp length-set (l .inv .5),
+      axesIn-store (l .next .extents) (l .next .strides) (l .i) _ _ (omega arith) (omega arith)
+          ∙ rw (l .inv .6, toZ-ofZ w64 _ (record { sfits = c .stride .given })) (sym (axesIn-suc (a .extents .now) (a .strides .now) (l .i))),
+    )
+
+-- src/check_in.rt:26:1
+returns : tie.Need-returns Inv-loop μ-loop
+returns c =
+    let l = c .before .loop in
+    let a = c .before .before .before .before .args in
+    let e : l .i ≡ length (a .extents .now) = omega arith in
+    let x = axesIn-axesOf (a .extents .now) (a .strides .now) (length (a .extents .now)) refl (c .before .before .before .before .pre .1) in
+    rw (l .inv .1, l .inv .2, l .inv .3) (cc)
+
+pub filled-spec : {M : Type 1} → statement M
+filled-spec =
+    tie.close
+    (tie.spec
+    Inv-loop
+    μ-loop
+    no-layout-requires
+    loop-holds
+    mul-extent
+    shared-slice-read-extent
+    mul-stride
+    shared-slice-copy-out-stride
+    mul-next
+    element-write-next
+    mul-stride-2
+    element-set-from-stride
+    add-i
+    loop-less
+    loop-again
+    returns)
