@@ -1,1 +1,4 @@
 pub mod ModelLaws
+pub mod MaskLaws
+pub mod OrderLaws
+pub mod TargetLaws

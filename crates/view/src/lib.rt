@@ -1,2 +1,4 @@
 // The layout half of view.rs: layouts of strided readings, check-in, views, dense strides and indexed offsets.
+pub mod broadcast;
 pub mod layout;
+pub mod permute;
