@@ -1,7 +1,7 @@
 // Numbers as bytes, big-endian, and two's complement.
 ghost use mathlib.Core.Path.{_≡_};
 ghost use mathlib.Core.List.{_++_};
-ghost use Prim.Native.Nat.{_≤_, _+_};
+ghost use Prim.Native.Nat.{_≤_, _<_, _+_, _^_};
 ghost use lib.ListN.{length, take, drop};
 ghost use Rattle.specification.specs.Record.{bigEndian, twos, numberFrom};
 ghost use Rattle.record.specs.Bytes.{signedOf};
@@ -54,9 +54,17 @@ pub fn from_twos(n: u64) -> i64
 }
 
 fn wide(x: u8) -> u64
-    ensures { λ r. ⌜ r ≡ x ⌝ }
+    ensures { λ r. ⌜ (r ≡ x) × (r < 256) ⌝ }
 {
     x as u64
+}
+
+// The number that the 4 bytes from a place on hold.
+fn u32_at(bytes: &[u8], at: usize) -> u64
+    requires { ⌜ at + 4 ≤ length (now bytes) ⌝ }
+    ensures { λ r. ⌜ (r ≡ numberFrom (now (bytes .entry)) at 4) × (r < 2 ^ 32) ⌝ }
+{
+    wide(bytes[at]) * 16777216 + wide(bytes[at + 1]) * 65536 + wide(bytes[at + 2]) * 256 + wide(bytes[at + 3])
 }
 
 // The number that the 8 bytes from a place on hold.
@@ -64,7 +72,5 @@ pub fn u64_at(bytes: &[u8], at: usize) -> u64
     requires { ⌜ at + 8 ≤ length (now bytes) ⌝ }
     ensures { λ r. ⌜ r ≡ numberFrom (now (bytes .entry)) at 8 ⌝ }
 {
-    let high = wide(bytes[at]) * 16777216 + wide(bytes[at + 1]) * 65536 + wide(bytes[at + 2]) * 256 + wide(bytes[at + 3]);
-    let low = wide(bytes[at + 4]) * 16777216 + wide(bytes[at + 5]) * 65536 + wide(bytes[at + 6]) * 256 + wide(bytes[at + 7]);
-    high * 4294967296 + low
+    u32_at(bytes, at) * 4294967296 + u32_at(bytes, at + 4)
 }
