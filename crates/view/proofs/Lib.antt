@@ -2,3 +2,8 @@ pub mod ModelLaws
 pub mod MaskLaws
 pub mod OrderLaws
 pub mod TargetLaws
+pub mod SomeLaws
+pub mod ReachLaws
+pub mod BoundsLaws
+pub mod AnswerLaws
+pub mod HandedLaws

@@ -1,12 +1,12 @@
 -- Laws of the axes in two arrays: one stored at the end, one read, and the axes of two lists.
 use mathlib.Core.Path.{_≡_, refl, sym, _∙_}
 use mathlib.Core.List.{List, [], _∷_, _++_}
-use Prim.Native.Nat.{ℕ, zero, suc, _+_, _<_}
+use Prim.Native.Nat.{ℕ, zero, suc, _+_, _≤_, _<_}
 use native.Mathlib.Omega.{arith}
 use lib.IntN.{ℤ, pos}
-use lib.ListN.{length, drop, set}
-use lib.Seq.{getD-set-same, getD-set-other, ext-getD}
-use Rattle.lists.proofs.TableLaws.{table-snoc, table-suc, getD-table, drop-table, length-table}
+use lib.ListN.{length, take, drop, set}
+use lib.Seq.{getD-set-same, getD-set-other, getD-take, ext-getD, length-take-le}
+use Rattle.lists.proofs.TableLaws.{table-ext, table-snoc, table-suc, getD-table, drop-table, length-table}
 use Rattle.specification.specs.Axis.{axesOf}
 use Rattle.specification.specs.Views.{axisAt}
 use Rattle.view.specs.Model.{axisOf, axesIn}
@@ -52,3 +52,9 @@ axesIn-axesOf es ss n h k =
     ext-getD (record { extent = 0; stride = pos 0 }) (axesIn es ss n) (axesOf es ss) (length-axesIn es ss n ∙ sym (length-axesOf es ss (omega arith) ∙ h))
     (λ i l. let b : i < n = omega (arith, length-axesIn es ss n) in
     axisAt-axesIn es ss n i b ∙ sym (axisAt-axesOf es ss i (omega arith) (omega arith)))
+
+-- the first n entries of two arrays hold these axes
+pub axesOf-take : (es : List ℕ) (ss : List ℤ) (n : ℕ) → n ≤ length es → n ≤ length ss → axesOf (take n es) (take n ss) ≡ axesIn es ss n
+axesOf-take es ss n h k =
+    sym (axesIn-axesOf (take n es) (take n ss) n (length-take-le n es h) (length-take-le n ss k))
+    ∙ table-ext (axisOf (take n es) (take n ss)) (axisOf es ss) n (λ i l. rw (getD-take n es i 0 l, getD-take n ss i (pos 0) l))

@@ -1,7 +1,7 @@
 -- Refusals and answers in the numbers and values of 01's table.
 use mathlib.Core.List.{List, [], _∷_}
 use Prim.Native.Nat.{ℕ}
-use Rattle.specification.specs.Outcome.{Check, refused, pass}
+use Rattle.specification.specs.Outcome.{Outcome, Check, done, refused, pass}
 use Rattle.view.specs.declared.layout.Answer.{Answer}
 use Rattle.view.specs.declared.layout.Answer.the-variants.{Done, Refused}
 use Rattle.view.specs.declared.layout.Refusal.{Refusal}
@@ -39,3 +39,8 @@ valuesOf NotARecord = []
 abbrev pub outcomeOf : Answer → Check
 outcomeOf Done = pass
 outcomeOf (Refused why) = refused (numberOf why) (valuesOf why)
+
+-- an outcome without its result
+abbrev pub answerOf : {A : Type 0} → Outcome A → Check
+answerOf (done a) = pass
+answerOf (refused number values) = refused number values

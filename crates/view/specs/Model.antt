@@ -4,7 +4,7 @@ use Prim.Native.Nat.{ℕ, _<_}
 use lib.IntN.{ℤ, pos}
 use lib.ListN.{length, getD}
 use Rattle.lists.specs.Table.{table}
-use Rattle.specification.specs.Axis.{Axis}
+use Rattle.specification.specs.Axis.{Axis, axesOf}
 use Rattle.specification.specs.Layout.{LayoutM}
 use Rattle.specification.specs.Views.{After}
 use Rattle.view.specs.Answers.{outcomeOf}
@@ -28,3 +28,7 @@ viewedOf v = record { answer = outcomeOf (v .answer); layout = modelOf (v .layou
 -- each entry of a list is below n
 abbrev pub AllBelow : ℕ → List ℕ → Type 0
 AllBelow n list = (i : ℕ) → i < length list → getD list i 0 < n
+
+-- the layout that two lists give
+abbrev pub modelFrom : ℕ → ℤ → List ℕ → List ℤ → LayoutM
+modelFrom buffer offset extents strides = record { buffer = buffer; offset = offset; axes = axesOf extents strides }

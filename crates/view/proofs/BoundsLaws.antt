@@ -1,0 +1,165 @@
+-- The reach of a layout by its offset and the two sums of spans, and what it says of check-in's refusal 3.
+use mathlib.Core.Path.{_≡_, refl, sym, ap, _∙_, subst}
+use mathlib.Core.Bool.{Bool, true, false, not, _&&_}
+use mathlib.Core.List.{List, [], _∷_}
+use mathlib.Core.Logic.{_⊎_, inl, inr}
+use Prim.Native.Nat.{ℕ, _+_, _-_, _≤_, _<_}
+use native.Mathlib.Omega.{arith}
+use lib.Dec.{T}
+use lib.IntN.{ℤ, pos, natAbs}
+use lib.Signed.{leZ, ltZ}
+use Rattle.integer.specs.Parts.{posPart, negPart}
+use Rattle.integer.specs.Range.{fits, mostSigned}
+use Rattle.integer.proofs.PartLaws.{parts-add, parts-minus, parts-ext, parts-fit, leZ-true, ltZ-true, ltZ-false, le-leZ, lt-leZ}
+use Rattle.integer.proofs.CheckedLaws.{fits-of-sfits}
+use Rattle.specification.specs.Tests.{if_then_else_, some}
+use Rattle.specification.specs.Outcome.{Check, refused, pass, refuseIf}
+use Rattle.specification.specs.Axis.{Axis, isEmpty, span, upward, downward}
+use Rattle.specification.specs.Layout.{LayoutM, lowest, highest, inReach}
+use Rattle.specification.specs.CheckIn.{bounds, tooWide}
+use Rattle.specification.proofs.ReachLaws.{Within, and-true, bounds-reach}
+use Rattle.view.specs.Reach.{reachOf}
+use Rattle.view.specs.declared.bounds.Reach.{Reach}
+use Rattle.view.specs.declared.bounds.Reach.the-variants.{Empty, Between, Outside}
+
+lt-ltZ : (x y : ℤ) → posPart x + negPart y < posPart y + negPart x → ltZ x y ≡ true
+lt-ltZ x y h = go (ltZ x y) (ltZ-false x y)
+  where
+    go : (t : Bool) → (t ≡ false → posPart y + negPart x ≤ posPart x + negPart y) → t ≡ true
+    go true f = refl
+    go false f = absurd (omega (arith, f refl))
+
+le-ltZ : (x y : ℤ) → posPart y + negPart x ≤ posPart x + negPart y → ltZ x y ≡ false
+le-ltZ x y h = go (ltZ x y) (ltZ-true x y)
+  where
+    go : (t : Bool) → (t ≡ true → posPart x + negPart y < posPart y + negPart x) → t ≡ false
+    go true f = absurd (omega (arith, f refl))
+    go false f = refl
+
+-- ---- a layout that is not empty
+
+module _ (l : LayoutM) (e : isEmpty (l .axes) ≡ false) where
+  within-reach : Within l → inReach l ≡ true
+  unfolding inReach
+  within-reach w = rw (e, le-leZ (pos 0) (lowest l) (omega (arith, w .w-low)), le-leZ (highest l) (pos mostSigned) (omega (arith, w .w-most)), lt-ltZ (highest l) (pos (l .buffer)) (omega (arith, w .w-in)))
+
+  pub reach-within : inReach l ≡ true → Within l
+  unfolding inReach
+  reach-within r =
+      let q = rw e at r in
+      let x = and-true (leZ (pos 0) (lowest l) && leZ (highest l) (pos mostSigned)) (ltZ (highest l) (pos (l .buffer))) q in
+      let y = and-true (leZ (pos 0) (lowest l)) (leZ (highest l) (pos mostSigned)) (x .0) in
+      record {
+        w-low = omega (arith, leZ-true (pos 0) (lowest l) (y .0));
+        w-most = omega (arith, leZ-true (highest l) (pos mostSigned) (y .1));
+        w-in = omega (arith, ltZ-true (highest l) (pos (l .buffer)) (x .1));
+      }
+
+  -- the facts of both ends, in natural numbers
+  pub low-parts : posPart (lowest l) + (negPart (l .offset) + downward (l .axes)) ≡ (posPart (l .offset) + 0) + negPart (lowest l)
+  low-parts = parts-minus (l .offset) (pos (downward (l .axes)))
+
+  pub high-parts : posPart (highest l) + (negPart (l .offset) + 0) ≡ (posPart (l .offset) + upward (l .axes)) + negPart (highest l)
+  high-parts = parts-add (l .offset) (pos (upward (l .axes)))
+
+  pub reach-between : negPart (l .offset) ≡ 0 → downward (l .axes) ≤ posPart (l .offset) → posPart (l .offset) + upward (l .axes) ≤ mostSigned
+      → posPart (l .offset) + upward (l .axes) < l .buffer
+      → reachOf l ≡ Between (posPart (l .offset) - downward (l .axes)) (posPart (l .offset) + upward (l .axes))
+  unfolding reachOf
+  reach-between n d u b =
+      let w : Within l = record { w-low = omega (arith, low-parts); w-most = omega (arith, high-parts); w-in = omega (arith, high-parts) } in
+      let x : lowest l ≡ pos (posPart (l .offset) - downward (l .axes)) = parts-ext (omega (arith, low-parts)) in
+      let y : highest l ≡ pos (posPart (l .offset) + upward (l .axes)) = parts-ext (omega (arith, high-parts)) in
+      rw (e, within-reach w, ap natAbs x, ap natAbs y)
+
+  pub reach-outside : (Within l → ⊥) → reachOf l ≡ Outside
+  unfolding reachOf
+  reach-outside never = rw (e, not-reached (inReach l) refl)
+    where
+      not-reached : (t : Bool) → inReach l ≡ t → t ≡ false
+      not-reached true q = absurd (never (reach-within q))
+      not-reached false q = refl
+
+-- ---- what the reach says of check-in
+
+-- one axis among them spans no more than all
+spans-fit : (axes : List Axis) → upward axes ≤ mostSigned → downward axes ≤ mostSigned → some (λ a. not (fits (span a))) axes ≡ false
+unfolding some upward downward
+spans-fit [] u d = refl
+spans-fit (a ∷ rest) u d = rw (fits-of-sfits (span a) (parts-fit (omega arith) (omega arith)), spans-fit rest (omega arith) (omega arith))
+
+refuses : (t : Bool) → (refuseIf t 3 [] ≡ pass) ⊎ (refuseIf t 3 [] ≡ refused 3 [])
+unfolding refuseIf
+refuses true = inr refl
+refuses false = inl refl
+
+-- bounds let pass or refuse 3
+bounds-three : (l : LayoutM) → (bounds l ≡ pass) ⊎ (bounds l ≡ refused 3 [])
+unfolding bounds
+bounds-three l = by (isEmpty (l .axes)) _ (refuses _)
+  where
+    by : (s : Bool) (c : Check) → (c ≡ pass) ⊎ (c ≡ refused 3 []) → ((if s then pass else c) ≡ pass) ⊎ ((if s then pass else c) ≡ refused 3 [])
+    by true c f = inl refl
+    by false c f = f
+
+-- the three answers, by the two tests
+reach-by : Bool → Bool → ℕ → ℕ → Reach
+reach-by empty inside low high = if empty then Empty else if inside then Between low high else Outside
+
+pub empty-means : (l : LayoutM) → reachOf l ≡ Empty → isEmpty (l .axes) ≡ true
+unfolding reachOf reach-by
+empty-means l r = by (isEmpty (l .axes)) (inReach l) (natAbs (lowest l)) (natAbs (highest l)) r
+  where
+    by : (s t : Bool) (a b : ℕ) → reach-by s t a b ≡ Empty → s ≡ true
+    by true t a b q = refl
+    by false true a b q = let z : _≡_ {A = ℕ} 0 1 = cc in absurd (omega arith)
+    by false false a b q = let z : _≡_ {A = ℕ} 0 1 = cc in absurd (omega arith)
+
+pub outside-means : (l : LayoutM) → reachOf l ≡ Outside → inReach l ≡ false
+unfolding reachOf reach-by
+outside-means l r = by (isEmpty (l .axes)) (inReach l) (natAbs (lowest l)) (natAbs (highest l)) r
+  where
+    by : (s t : Bool) (a b : ℕ) → reach-by s t a b ≡ Outside → t ≡ false
+    by true t a b q = let z : _≡_ {A = ℕ} 0 1 = cc in absurd (omega arith)
+    by false true a b q = let z : _≡_ {A = ℕ} 0 1 = cc in absurd (omega arith)
+    by false false a b q = refl
+
+pub between-means : (l : LayoutM) {low high : ℕ} → reachOf l ≡ Between low high → (isEmpty (l .axes) ≡ false) × (inReach l ≡ true)
+unfolding reachOf reach-by
+between-means l {low} {high} r = by (isEmpty (l .axes)) (inReach l) (natAbs (lowest l)) (natAbs (highest l)) r
+  where
+    by : (s t : Bool) (a b : ℕ) → reach-by s t a b ≡ Between low high → (s ≡ false) × (t ≡ true)
+    by true t a b q = let z : _≡_ {A = ℕ} 0 1 = cc in absurd (omega arith)
+    by false true a b q = (refl, refl)
+    by false false a b q = let z : _≡_ {A = ℕ} 0 1 = cc in absurd (omega arith)
+
+pub empty-bounds : (l : LayoutM) → isEmpty (l .axes) ≡ true → bounds l ≡ pass
+unfolding bounds
+empty-bounds l e = rw e
+
+-- bounds refuse what is out of reach
+pub outside-bounds : (l : LayoutM) → inReach l ≡ false → bounds l ≡ refused 3 []
+outside-bounds l r = by (bounds l) refl (bounds-three l)
+  where
+    by : (c : Check) → bounds l ≡ c → (c ≡ pass) ⊎ (c ≡ refused 3 []) → c ≡ refused 3 []
+    by c e (inl p) = absurd (subst T (sym (bounds-reach l (e ∙ p)) ∙ r) tt)
+    by c e (inr p) = p
+
+pub wide-bounds : (l : LayoutM) → isEmpty (l .axes) ≡ false → some tooWide (l .axes) ≡ true → bounds l ≡ refused 3 []
+unfolding bounds refuseIf
+wide-bounds l e w = rw (e, w)
+
+pub narrow-bounds : (l : LayoutM) → isEmpty (l .axes) ≡ false → some tooWide (l .axes) ≡ false → inReach l ≡ true → bounds l ≡ pass
+unfolding bounds refuseIf
+narrow-bounds l e n r =
+    let w = reach-within l e r in
+    let u : upward (l .axes) ≤ mostSigned = omega (arith, low-parts l e, high-parts l e) in
+    let d : downward (l .axes) ≤ mostSigned = omega (arith, low-parts l e, high-parts l e) in
+    rw (
+      e,
+      n,
+      spans-fit (l .axes) u d,
+      le-ltZ (pos mostSigned) (highest l) (omega (arith, w .w-most)),
+      le-ltZ (lowest l) (pos 0) (omega (arith, w .w-low)),
+      lt-leZ (pos (l .buffer)) (highest l) (omega (arith, w .w-in)),
+    )

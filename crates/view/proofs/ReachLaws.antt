@@ -1,0 +1,124 @@
+-- The sums of spans, one axis after another, and what they say of the reach.
+use mathlib.Core.Path.{_≡_, refl, sym, _∙_}
+use mathlib.Core.Bool.{Bool, true, false, _&&_}
+use Prim.Native.Nat.{ℕ, _+_, _-_, _*_, _≤_, _<_}
+use native.Mathlib.Numerals.{add-one}
+use native.Mathlib.Omega.{arith}
+use mathlib.Core.List.{List, [], _∷_}
+use lib.IntN.{ℤ, pos}
+use lib.ListN.{length, drop, getD, drop-of-length-le}
+use lib.Seq.{drop-cons}
+use Rattle.integer.specs.Parts.{posPart, negPart}
+use Rattle.integer.proofs.MultipleLaws.{posPart-·, negPart-·}
+use Rattle.specification.specs.Axis.{Axis, axesOf, span, upward, downward}
+use Rattle.view.specs.Model.{axisOf}
+use lib.Dec.{ltb, leb}
+use borrow.Author.Tests.{le-leb, lt-leb, leb-true, leb-false, lt-ltb, le-ltb}
+use Rattle.integer.specs.Range.{mostSigned}
+use Rattle.specification.specs.Tests.{if_then_else_}
+use Rattle.view.specs.Reach.{spansUpTo, sumUpTo, tooWideExtent}
+use Rattle.view.specs.declared.bounds.Spans.{Spans}
+use Rattle.view.specs.declared.bounds.Spans.the-variants as spans
+use Rattle.view.specs.declared.bounds.Sum.{Sum}
+use Rattle.view.specs.declared.bounds.Sum.the-variants.{Is, Over}
+
+and-false : (b : Bool) → (b && false) ≡ false
+and-false true = refl
+and-false false = refl
+
+-- ---- a sum with a limit
+
+pub sum-is : (limit sum : ℕ) → sum ≤ limit → sumUpTo limit sum ≡ Is sum
+sum-is limit sum h = rw (le-leb sum limit h)
+
+pub sum-over : (limit sum : ℕ) → limit < sum → sumUpTo limit sum ≡ Over
+sum-over limit sum h = rw (lt-leb sum limit h)
+
+-- what an answer says of the sum
+pub is-sum : {r : Sum} (limit sum x : ℕ) → r ≡ sumUpTo limit sum → r ≡ Is x → (x ≡ sum) × (sum ≤ limit)
+is-sum limit sum x e k = by (leb sum limit) refl (sym k ∙ e)
+  where
+    by : (t : Bool) → leb sum limit ≡ t → Is x ≡ (if t then Is sum else Over) → (x ≡ sum) × (sum ≤ limit)
+    by true t q = (cc, leb-true sum limit t)
+    by false t q = let z : _≡_ {A = ℕ} 0 1 = cc in absurd (omega arith)
+
+pub over-sum : {r : Sum} (limit sum : ℕ) → r ≡ sumUpTo limit sum → r ≡ Over → limit < sum
+over-sum limit sum e k = by (leb sum limit) refl (sym k ∙ e)
+  where
+    by : (t : Bool) → leb sum limit ≡ t → Over ≡ (if t then Is sum else Over) → limit < sum
+    by true t q = let z : _≡_ {A = ℕ} 0 1 = cc in omega arith
+    by false t q = leb-false sum limit t
+
+-- the same of both sums
+pub spans-are : (above below : ℕ) (axes : List Axis) → upward axes ≤ above → downward axes ≤ below
+    → spansUpTo above below axes ≡ spans.Of (upward axes) (downward axes)
+spans-are above below axes h k = rw (le-leb (upward axes) above h, le-leb (downward axes) below k)
+
+pub spans-above : (above below : ℕ) (axes : List Axis) → above < upward axes → spansUpTo above below axes ≡ spans.Over
+spans-above above below axes h = rw (lt-leb (upward axes) above h)
+
+pub spans-below : (above below : ℕ) (axes : List Axis) → below < downward axes → spansUpTo above below axes ≡ spans.Over
+spans-below above below axes h = rw (lt-leb (downward axes) below h, and-false)
+
+-- what an answer says of both
+pub spans-of : {r : Spans} (above below : ℕ) (axes : List Axis) (up down : ℕ) → r ≡ spansUpTo above below axes → r ≡ spans.Of up down
+    → (up ≡ upward axes) × (down ≡ downward axes) × (upward axes ≤ above) × (downward axes ≤ below)
+spans-of above below axes up down e k = by (leb (upward axes) above) refl (leb (downward axes) below) refl (sym k ∙ e)
+  where
+    by : (s : Bool) → leb (upward axes) above ≡ s → (t : Bool) → leb (downward axes) below ≡ t
+        → spans.Of up down ≡ (if s && t then spans.Of (upward axes) (downward axes) else spans.Over)
+        → (up ≡ upward axes) × (down ≡ downward axes) × (upward axes ≤ above) × (downward axes ≤ below)
+    by true p true q z = (cc, cc, leb-true (upward axes) above p, leb-true (downward axes) below q)
+    by true p false q z = let n : _≡_ {A = ℕ} 0 1 = cc in absurd (omega arith)
+    by false p t q z = let n : _≡_ {A = ℕ} 0 1 = cc in absurd (omega arith)
+
+pub spans-over : {r : Spans} (above below : ℕ) (axes : List Axis) → r ≡ spansUpTo above below axes → r ≡ spans.Over
+    → upward axes ≤ above → downward axes ≤ below → ⊥
+spans-over above below axes e k u d =
+    let q = sym (spans-are above below axes u d) ∙ sym e ∙ k in
+    let n : _≡_ {A = ℕ} 0 1 = cc in omega arith
+
+-- ---- an extent that is too wide
+
+pub wide-extent : (n : ℕ) → 9223372036854775808 < n → tooWideExtent n ≡ true
+wide-extent n h = rw (lt-ltb 1 n (omega arith), lt-ltb mostSigned (n - 1) (omega arith))
+
+pub narrow-extent : (n : ℕ) → n ≤ 9223372036854775808 → tooWideExtent n ≡ false
+narrow-extent n h = rw (le-ltb mostSigned (n - 1) (omega arith)) (and-false (ltb 1 n))
+
+-- ---- sums of spans, from axis i on
+
+axesOf-drop : (es : List ℕ) (ss : List ℤ) (i : ℕ) → i < length es → i < length ss
+    → axesOf (drop i es) (drop i ss) ≡ axisOf es ss i ∷ axesOf (drop (i + 1) es) (drop (i + 1) ss)
+unfolding axesOf
+axesOf-drop es ss i h k = rw (add-one, drop-cons es i 0 h, drop-cons ss i (pos 0) k)
+
+axesOf-end : (es : List ℕ) (ss : List ℤ) (i : ℕ) → length es ≤ i → axesOf (drop i es) ss ≡ []
+unfolding axesOf
+axesOf-end es ss i h = rw (drop-of-length-le es h)
+
+-- a turn: the span of axis i goes from what is left to the sum
+module _ (es : List ℕ) (ss : List ℤ) (i sum total last step : ℕ) (h : i < length es) (k : i < length ss) (is-last : last ≡ getD es i 0 - 1) where
+  pub upward-turn : step ≡ posPart (getD ss i (pos 0)) → sum + upward (axesOf (drop i es) (drop i ss)) ≡ total
+      → (sum + last * step) + upward (axesOf (drop (i + 1) es) (drop (i + 1) ss)) ≡ total
+  unfolding upward
+  upward-turn is-step e =
+      let p : last * step ≡ posPart (span (axisOf es ss i)) = rw (posPart-·, is-last, is-step) in
+      let q = rw (axesOf-drop es ss i h k) at e in
+      omega arith
+
+  pub downward-turn : step ≡ negPart (getD ss i (pos 0)) → sum + downward (axesOf (drop i es) (drop i ss)) ≡ total
+      → (sum + last * step) + downward (axesOf (drop (i + 1) es) (drop (i + 1) ss)) ≡ total
+  unfolding downward
+  downward-turn is-step e =
+      let p : last * step ≡ negPart (span (axisOf es ss i)) = rw (negPart-·, is-last, is-step) in
+      let q = rw (axesOf-drop es ss i h k) at e in
+      omega arith
+
+pub upward-end : (es : List ℕ) (ss : List ℤ) (i : ℕ) → length es ≤ i → upward (axesOf (drop i es) ss) ≡ 0
+unfolding upward
+upward-end es ss i h = rw (axesOf-end es ss i h)
+
+pub downward-end : (es : List ℕ) (ss : List ℤ) (i : ℕ) → length es ≤ i → downward (axesOf (drop i es) ss) ≡ 0
+unfolding downward
+downward-end es ss i h = rw (axesOf-end es ss i h)

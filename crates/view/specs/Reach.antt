@@ -1,0 +1,36 @@
+-- How far the offsets of a layout reach, as the code answers it.
+use mathlib.Core.Bool.{Bool, _&&_}
+use Prim.Native.Nat.{ℕ, _-_}
+use lib.Dec.{ltb, leb}
+use lib.IntN.{natAbs}
+use Rattle.integer.specs.Range.{mostSigned}
+use Rattle.specification.specs.Tests.{if_then_else_}
+use mathlib.Core.List.{List}
+use Rattle.specification.specs.Axis.{Axis, isEmpty, upward, downward}
+use Rattle.specification.specs.Layout.{LayoutM, lowest, highest, inReach}
+use Rattle.view.specs.declared.bounds.Reach.{Reach}
+use Rattle.view.specs.declared.bounds.Reach.the-variants.{Empty, Between, Outside}
+use Rattle.view.specs.declared.bounds.Spans.{Spans}
+use Rattle.view.specs.declared.bounds.Spans.the-variants as spans
+use Rattle.view.specs.declared.bounds.Sum.{Sum}
+use Rattle.view.specs.declared.bounds.Sum.the-variants.{Is, Over}
+
+-- empty; or all offsets accepted, with the lowest and the highest; or one that is not
+unfoldable pub reachOf : LayoutM → Reach
+reachOf l =
+    if isEmpty (l .axes) then Empty
+    else if inReach l then Between (natAbs (lowest l)) (natAbs (highest l))
+    else Outside
+
+-- the sums of the positive and of the negative spans, if each is at most its limit
+abbrev pub spansUpTo : ℕ → ℕ → List Axis → Spans
+spansUpTo above below axes =
+    if leb (upward axes) above && leb (downward axes) below then spans.Of (upward axes) (downward axes) else spans.Over
+
+-- a sum, if it is at most the limit
+abbrev pub sumUpTo : ℕ → ℕ → Sum
+sumUpTo limit sum = if leb sum limit then Is sum else Over
+
+-- an active extent minus 1 above 2^63 - 1: `tooWide` of an axis with this extent
+abbrev pub tooWideExtent : ℕ → Bool
+tooWideExtent n = ltb 1 n && ltb mostSigned (n - 1)

@@ -1,0 +1,67 @@
+// What precedes in every call that is handed a layout: refusal 1, then 3.
+ghost use mathlib.Core.Path.{_≡_};
+ghost use mathlib.Core.List.{List};
+ghost use Prim.Native.Nat.{ℕ, _≤_};
+ghost use lib.ListN.{length};
+ghost use Rattle.specification.specs.Layout.{handed};
+ghost use Rattle.specification.specs.CheckIn.{bounds};
+ghost use Rattle.view.specs.Answers.{outcomeOf};
+ghost use Rattle.view.specs.Model.{modelOf};
+ghost use Rattle.view.specs.Reach.{reachOf};
+use crate::bounds::Reach;
+use crate::bounds::bounds_refusal;
+use crate::bounds::reach_of;
+use crate::layout::Answer;
+use crate::layout::Layout;
+use crate::layout::Refusal;
+
+// The reach of a layout.
+pub fn layout_reach(layout: Layout) -> Reach
+    requires { ⌜ layout .rank ≤ 16 ⌝ }
+    ensures { λ r. ⌜ r ≡ reachOf (modelOf layout) ⌝ }
+{
+    let rank = layout.rank;
+    let extents = layout.extents;
+    let strides = layout.strides;
+    reach_of(
+        layout.len,
+        layout.offset,
+        &extents[..rank],
+        &strides[..rank],
+    )
+}
+
+// Check-in's refusal 3 of a layout.
+pub fn layout_bounds(layout: Layout) -> Answer
+    requires { ⌜ layout .rank ≤ 16 ⌝ }
+    ensures { λ r. ⌜ outcomeOf r ≡ bounds (modelOf layout) ⌝ }
+{
+    let rank = layout.rank;
+    let extents = layout.extents;
+    let strides = layout.strides;
+    bounds_refusal(
+        layout.len,
+        layout.offset,
+        &extents[..rank],
+        &strides[..rank],
+    )
+}
+
+// Refusals 1 and 3 of a layout handed to a call whose list has so many entries (0 for a call that takes none).
+pub fn handed_refusal(layout: Layout, entries: usize) -> Answer
+    ensures { λ r. ⌜ ((list : List ℕ) → length list ≡ entries → outcomeOf r ≡ handed (modelOf layout) list) ⌝ }
+{
+    let rank = layout.rank;
+    if 16 < rank {
+        return Answer::Refused(Refusal::TooManyAxes);
+    }
+    if 16 < entries {
+        return Answer::Refused(Refusal::TooManyAxes);
+    }
+    let reach = layout_reach(layout);
+    match reach {
+        Reach::Outside => Answer::Refused(Refusal::OutOfRange),
+        Reach::Empty => Answer::Done,
+        Reach::Between(_, _) => Answer::Done,
+    }
+}

@@ -1,0 +1,185 @@
+// How far the offsets of a layout reach, and check-in by it.
+ghost use mathlib.Core.Path.{_≡_};
+ghost use mathlib.Core.List.{List};
+ghost use Prim.Native.Nat.{ℕ, _+_, _*_, _-_, _≤_};
+ghost use lib.ListN.{length};
+ghost use Rattle.integer.specs.Parts.{posPart, negPart};
+ghost use Rattle.specification.specs.Tests.{some};
+ghost use Rattle.specification.specs.Axis.{axesOf};
+ghost use Rattle.specification.specs.Layout.{handed};
+ghost use Rattle.specification.specs.CheckIn.{bounds, checkIn};
+ghost use Rattle.specification.specs.Beside.{zeroAmong};
+ghost use Rattle.view.specs.Answers.{outcomeOf, answerOf};
+ghost use Rattle.view.specs.Model.{modelOf, modelFrom};
+ghost use Rattle.view.specs.Reach.{reachOf, spansUpTo, sumUpTo, tooWideExtent};
+use crate::layout::Answer;
+use crate::layout::Layout;
+use crate::layout::ReadingOffset;
+use crate::layout::Refusal;
+use integer::signed::magnitude;
+
+// The lowest and the highest offset of a layout that is not empty, where all its offsets are accepted.
+pub enum Reach {
+    Empty,
+    Between(u64, u64),
+    Outside,
+}
+
+// A sum that is at most a limit, or none.
+pub enum Sum {
+    Is(u64),
+    Over,
+}
+
+// Two sums, each at most a limit of its own, or none.
+pub enum Spans {
+    Of(u64, u64),
+    Over,
+}
+
+// Whether there is no position.
+pub fn empty_layout(extents: &[u64]) -> bool
+    ensures { λ r. ⌜ r ≡ zeroAmong (now (extents .entry)) ⌝ }
+{
+    let mut i = 0;
+    while i < extents.len() {
+        if extents[i] == 0 {
+            return true;
+        }
+        i += 1;
+    }
+    false
+}
+
+// Whether an extent minus 1 is above 2^63 - 1.
+fn too_wide(extents: &[u64]) -> bool
+    ensures { λ r. ⌜ r ≡ some tooWideExtent (now (extents .entry)) ⌝ }
+{
+    let mut i = 0;
+    while i < extents.len() {
+        if 9223372036854775808 < extents[i] {
+            return true;
+        }
+        i += 1;
+    }
+    false
+}
+
+// The part of a stride that is above 0, and below, without its sign.
+fn positive_part(stride: i64) -> u64
+    ensures { λ r. ⌜ r ≡ posPart stride ⌝ }
+{
+    if stride < 0 { 0 } else { magnitude(stride) }
+}
+
+fn negative_part(stride: i64) -> u64
+    ensures { λ r. ⌜ r ≡ negPart stride ⌝ }
+{
+    if stride < 0 { magnitude(stride) } else { 0 }
+}
+
+// The last index of an extent, and 0 of an empty one.
+fn last_index(extent: u64) -> u64
+    ensures { λ r. ⌜ r ≡ extent - 1 ⌝ }
+{
+    if extent == 0 { 0 } else { extent - 1 }
+}
+
+// sum + times * step, where that is at most the limit.
+fn add_product(sum: u64, times: u64, step: u64, limit: u64) -> Sum
+    requires { ⌜ sum ≤ limit ⌝ }
+    ensures { λ r. ⌜ r ≡ sumUpTo limit (sum + times * step) ⌝ }
+{
+    if step == 0 {
+        return Sum::Is(sum);
+    }
+    if (limit - sum) / step < times {
+        return Sum::Over;
+    }
+    Sum::Is(sum + times * step)
+}
+
+// The sums of the positive and of the negative spans, where each is at most its limit.
+pub fn sum_spans(extents: &[u64], strides: &[i64], above: u64, below: u64) -> Spans
+    requires { ⌜ length (now extents) ≡ length (now strides) ⌝ }
+    ensures { λ r. ⌜ r ≡ spansUpTo above below (axesOf (now (extents .entry)) (now (strides .entry))) ⌝ }
+{
+    let mut up: u64 = 0;
+    let mut down: u64 = 0;
+    let mut i = 0;
+    while i < extents.len() {
+        let last = last_index(extents[i]);
+        let stride = strides[i];
+        let Sum::Is(more_up) = add_product(up, last, positive_part(stride), above) else {
+            return Spans::Over;
+        };
+        let Sum::Is(more_down) = add_product(down, last, negative_part(stride), below) else {
+            return Spans::Over;
+        };
+        up = more_up;
+        down = more_down;
+        i += 1;
+    }
+    Spans::Of(up, down)
+}
+
+// The reach of the layout that two lists of equal length give.
+pub fn reach_of(len: u64, offset: ReadingOffset, extents: &[u64], strides: &[i64]) -> Reach
+    requires { ⌜ length (now extents) ≡ length (now strides) ⌝ }
+    ensures { λ r. ⌜ r ≡ reachOf (modelFrom len (offset .0) (now (extents .entry)) (now (strides .entry))) ⌝ }
+{
+    if empty_layout(extents) {
+        return Reach::Empty;
+    }
+    let start = offset.0;
+    if start < 0 {
+        return Reach::Outside;
+    }
+    let base = positive_part(start);
+    let spans = sum_spans(extents, strides, 9223372036854775807 - base, base);
+    match spans {
+        Spans::Over => Reach::Outside,
+        Spans::Of(up, down) => {
+            if len <= base + up {
+                Reach::Outside
+            } else {
+                Reach::Between(base - down, base + up)
+            }
+        }
+    }
+}
+
+// Check-in's refusal 3, for two lists of equal length.
+pub fn bounds_refusal(len: u64, offset: ReadingOffset, extents: &[u64], strides: &[i64]) -> Answer
+    requires { ⌜ length (now extents) ≡ length (now strides) ⌝ }
+    ensures { λ r. ⌜ outcomeOf r ≡ bounds (modelFrom len (offset .0) (now (extents .entry)) (now (strides .entry))) ⌝ }
+{
+    let found = reach_of(len, offset, extents, strides);
+    match found {
+        Reach::Empty => Answer::Done,
+        Reach::Outside => Answer::Refused(Refusal::OutOfRange),
+        Reach::Between(_, _) => {
+            if too_wide(extents) {
+                Answer::Refused(Refusal::OutOfRange)
+            } else {
+                Answer::Done
+            }
+        }
+    }
+}
+
+// Refusals 1 and 2, then the bounds.
+pub fn validate_bounds(len: u64, offset: ReadingOffset, extents: &[u64], strides: &[i64]) -> Answer
+    ensures { λ r. ⌜ outcomeOf r ≡ answerOf (checkIn len (offset .0) (now (extents .entry)) (now (strides .entry))) ⌝ }
+{
+    if 16 < extents.len() {
+        return Answer::Refused(Refusal::TooManyAxes);
+    }
+    if 16 < strides.len() {
+        return Answer::Refused(Refusal::TooManyAxes);
+    }
+    if extents.len() != strides.len() {
+        return Answer::Refused(Refusal::LengthsDiffer);
+    }
+    bounds_refusal(len, offset, extents, strides)
+}
