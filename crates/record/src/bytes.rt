@@ -64,7 +64,10 @@ fn u32_at(bytes: &[u8], at: usize) -> u64
     requires { ⌜ at + 4 ≤ length (now bytes) ⌝ }
     ensures { λ r. ⌜ (r ≡ numberFrom (now (bytes .entry)) at 4) × (r < 2 ^ 32) ⌝ }
 {
-    wide(bytes[at]) * 16777216 + wide(bytes[at + 1]) * 65536 + wide(bytes[at + 2]) * 256 + wide(bytes[at + 3])
+    wide(bytes[at]) * 16777216
+        + wide(bytes[at + 1]) * 65536
+        + wide(bytes[at + 2]) * 256
+        + wide(bytes[at + 3])
 }
 
 // The number that the 8 bytes from a place on hold.

@@ -28,7 +28,14 @@ fn put_head(out: &mut [u8], rank: usize, verdict: u8, offset: i64)
     ensures { λ _. ⌜ now (out .exit) ≡ headBytes rank verdict offset ++ drop 13 (now (out .entry)) ⌝ }
 {
     let size = 13 + 16 * rank;
-    put_five(out, (size / 256 % 256) as u8, (size % 256) as u8, 1, verdict, rank as u8);
+    put_five(
+        out,
+        (size / 256 % 256) as u8,
+        (size % 256) as u8,
+        1,
+        verdict,
+        rank as u8,
+    );
     let bits = twos_complement(offset);
     put_u64_at(out, 5, bits);
 }

@@ -7,3 +7,4 @@ pub mod ReachLaws
 pub mod BoundsLaws
 pub mod AnswerLaws
 pub mod HandedLaws
+pub mod ListedLaws

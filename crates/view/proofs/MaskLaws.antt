@@ -1,5 +1,5 @@
 -- A mask of axes below 16 in a 16-bit number: what a bit is, and what the bits are after one is set.
-use mathlib.Core.Path.{_≡_, refl, ap, _∙_}
+use mathlib.Core.Path.{_≡_, refl, _∙_}
 use mathlib.Core.Bool.{Bool, true, false}
 use Prim.Native.Nat.{ℕ, zero, suc, _+_, _*_, _-_, _^_, _/_, _%_, _<_, _≤_}
 use native.Mathlib.Nat.{one-mul, div-self, div-eq-of-lt, mul-div-right, mod-lt, pow-suc, mul-mod-left}

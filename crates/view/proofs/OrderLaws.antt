@@ -9,9 +9,10 @@ use lib.Bits.{bitOr}
 use lib.Dec.{eqb, leb}
 use lib.ListN.{length, take, drop, getD, drop-of-length-le}
 use lib.Seq.{take-suc, drop-cons}
-use borrow.Author.Tests.{eqb-true, eqb-false, le-leb, lt-leb}
+use borrow.Author.Tests.{eqb-true, eqb-false, le-leb, lt-leb, leb-false}
+use Rattle.specification.proofs.OutcomeLaws.{passed}
 use Rattle.specification.specs.Tests.{some}
-use Rattle.specification.specs.Outcome.{Check, refused, pass, refuseIf, _>>_}
+use Rattle.specification.specs.Outcome.{refused, pass, refuseIf, _>>_}
 use Rattle.specification.specs.Views.{orderFault}
 use Rattle.view.proofs.MaskLaws.{bitAt, bitOf, shifted-one, set-same, set-other}
 
@@ -85,3 +86,16 @@ map-more f l i h = rw (add-one, take-suc l i 0) (snoc (take i l))
     snoc : (m : List ℕ) → map f (m ++ (getD l i 0 ∷ [])) ≡ map f m ++ (f (getD l i 0) ∷ [])
     snoc [] = refl
     snoc (b ∷ m) = ap (λ (x : List _). f b ∷ x) (snoc m)
+
+-- ---- an order without a fault
+
+-- its entries are below the rank
+pub order-below : (rank : ℕ) (before l : List ℕ) → orderFault rank before l ≡ pass → (i : ℕ) → i < length l → getD l i 0 < rank
+unfolding orderFault
+order-below rank before [] e i h = absurd (omega arith)
+order-below rank before (a ∷ l) e zero h =
+    let p = passed (leb rank a) 5 (a ∷ rank ∷ []) e in leb-false rank a (p .0)
+order-below rank before (a ∷ l) e (suc i) h =
+    let p = passed (leb rank a) 5 (a ∷ rank ∷ []) e in
+    let q = passed (some (eqb a) before) 5 (a ∷ rank ∷ []) (p .1) in
+    order-below rank (before ++ (a ∷ [])) l (q .1) i (omega arith)

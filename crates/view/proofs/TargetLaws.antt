@@ -1,12 +1,12 @@
 -- Laws of the targets of a broadcast: the first fault from an axis on, and the axes stretched so far.
-use mathlib.Core.Path.{_≡_, refl, sym, ap, _∙_}
+use mathlib.Core.Path.{_≡_, refl}
 use mathlib.Core.Bool.{Bool, true, false, _||_}
 use mathlib.Core.List.{List, [], _∷_, _++_}
 use Prim.Native.Nat.{ℕ, zero, suc, _+_, _≤_, _<_}
 use native.Mathlib.Numerals.{add-one}
 use native.Mathlib.Omega.{arith}
 use lib.Dec.{eqb}
-use lib.IntN.{ℤ, pos}
+use lib.IntN.{pos}
 use lib.ListN.{length, take, drop, getD, drop-of-length-le}
 use lib.Seq.{drop-cons, take-suc}
 use borrow.Author.Tests.{eqb-true}

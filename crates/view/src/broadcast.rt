@@ -6,12 +6,15 @@ ghost use lib.Dec.{eqb};
 ghost use lib.IntN.{pos};
 ghost use lib.ListN.{length};
 ghost use Rattle.specification.specs.Tests.{if_then_else_};
-ghost use Rattle.specification.specs.Views.{targetFault, spread, withAxes};
+ghost use Rattle.specification.specs.Views.{targetFault, spread, withAxes, broadcast};
 ghost use Rattle.view.specs.Answers.{outcomeOf};
-ghost use Rattle.view.specs.Model.{modelOf};
+ghost use Rattle.view.specs.Model.{modelOf, viewedOf};
+ghost use Rattle.view.specs.Refusals.{broadcastRefusal};
+use crate::accepted::handed_refusal;
 use crate::layout::Answer;
 use crate::layout::Layout;
 use crate::layout::Refusal;
+use crate::layout::Viewed;
 
 // Whether an extent is its target or 1.
 fn stretches(extent: u64, target: u64) -> bool
@@ -64,4 +67,43 @@ pub fn stretched(l: Layout, targets: &[u64]) -> Layout
         i += 1;
     }
     next
+}
+
+// Every refusal of broadcast, in 01's order.
+fn broadcast_refusal(l: Layout, targets: &[u64]) -> Answer
+    ensures { λ r. ⌜ outcomeOf r ≡ broadcastRefusal (modelOf l) (now (targets .entry)) ⌝ }
+{
+    let first = handed_refusal(l, targets.len());
+    match first {
+        Answer::Refused(why) => Answer::Refused(why),
+        Answer::Done => {
+            let rank = l.rank;
+            if targets.len() != rank {
+                return Answer::Refused(Refusal::WrongLength(rank, targets.len()));
+            }
+            target_fault(l, targets)
+        }
+    }
+}
+
+impl Layout {
+    // The layout stretched to the target extents; or the refusal, and the layout as it was.
+    pub fn broadcast(self, targets: &[u64]) -> Viewed
+        ensures { λ r. ⌜ viewedOf r ≡ broadcast (modelOf self) (now (targets .entry)) ⌝ }
+    {
+        let answer = broadcast_refusal(self, targets);
+        match answer {
+            Answer::Refused(why) => Viewed {
+                layout: self,
+                answer: Answer::Refused(why),
+            },
+            Answer::Done => {
+                let next = stretched(self, targets);
+                Viewed {
+                    layout: next,
+                    answer: Answer::Done,
+                }
+            }
+        }
+    }
 }

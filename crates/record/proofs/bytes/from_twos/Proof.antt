@@ -1,5 +1,5 @@
 -- `from_twos`: each way out of the test says its side of the rule.
-use mathlib.Core.Path.{_≡_, ap}
+use mathlib.Core.Path.{ap}
 use native.Mathlib.Omega.{arith}
 use lib.Arith.{sub-sub-self}
 use lib.IntN.{negsuc}
@@ -7,28 +7,21 @@ use borrow.Author.Tests.{lt-ltb, le-ltb}
 use borrow.Author.Needs.{needs}
 use Rattle.record.proofs.bytes.from_twos.Statement.{statement}
 use Rattle.record.proofs.bytes.from_twos.Tie as tie
-use Rattle.record.proofs.bytes.from_twos.Reads as reads
-use Rattle.record.proofs.bytes.from_twos.Lts as lts
 
--- src/bytes.rt:49:9
 cast-result : tie.Need-cast-result
 cast-result c = search needs
 
--- src/bytes.rt:51:18
 sub-m : tie.Need-sub-m
 sub-m c = search needs
 
--- src/bytes.rt:51:17
 cast-m : tie.Need-cast-m
 cast-m c = search needs
 
--- src/bytes.rt:45:1
 returns : tie.Need-returns
 returns c = rw (lt-ltb _ _ (c .if1 .taken))
 
--- src/bytes.rt:45:1
 returns-2 : tie.Need-returns-2
-returns-2 c = 
+returns-2 c =
     let n = c .before .args .n in
     rw (sub-sub-self {a = n} {m = 18446744073709551615} (search needs), le-ltb _ _ (c .if1 .left))
     (ap negsuc (omega arith))

@@ -9,81 +9,61 @@ use Rattle.specification.specs.Record.{bigEndian}
 use borrow.Author.Needs.{needs}
 use Rattle.record.proofs.bytes.put_u64.Statement.{statement}
 use Rattle.record.proofs.bytes.put_u64.Tie as tie
-use Rattle.record.proofs.bytes.put_u64.Reads as reads
-use Rattle.record.proofs.bytes.put_u64.Lts as lts
 
--- src/bytes.rt:14:14
 cast-out : tie.Need-cast-out
 cast-out c = search needs
 
--- src/bytes.rt:14:5
 slice-write-out : tie.Need-slice-write-out
 slice-write-out c = search needs
 
--- src/bytes.rt:15:14
 cast-out-2 : tie.Need-cast-out-2
 cast-out-2 c = search needs
 
--- src/bytes.rt:15:5
 slice-write-out-2 : tie.Need-slice-write-out-2
 slice-write-out-2 c = simp length-set (omega arith)
 
--- src/bytes.rt:16:14
 cast-out-3 : tie.Need-cast-out-3
 cast-out-3 c = search needs
 
--- src/bytes.rt:16:5
 slice-write-out-3 : tie.Need-slice-write-out-3
 slice-write-out-3 c = simp length-set (omega arith)
 
--- src/bytes.rt:17:14
 cast-out-4 : tie.Need-cast-out-4
 cast-out-4 c = search needs
 
--- src/bytes.rt:17:5
 slice-write-out-4 : tie.Need-slice-write-out-4
 slice-write-out-4 c = simp length-set (omega arith)
 
--- src/bytes.rt:18:14
 cast-out-5 : tie.Need-cast-out-5
 cast-out-5 c = search needs
 
--- src/bytes.rt:18:5
 slice-write-out-5 : tie.Need-slice-write-out-5
 slice-write-out-5 c = simp length-set (omega arith)
 
--- src/bytes.rt:19:14
 cast-out-6 : tie.Need-cast-out-6
 cast-out-6 c = search needs
 
--- src/bytes.rt:19:5
 slice-write-out-6 : tie.Need-slice-write-out-6
 slice-write-out-6 c = simp length-set (omega arith)
 
--- src/bytes.rt:20:14
 cast-out-7 : tie.Need-cast-out-7
 cast-out-7 c = search needs
 
--- src/bytes.rt:20:5
 slice-write-out-7 : tie.Need-slice-write-out-7
 slice-write-out-7 c = simp length-set (omega arith)
 
--- src/bytes.rt:21:14
 cast-out-8 : tie.Need-cast-out-8
 cast-out-8 c = search needs
 
--- src/bytes.rt:21:5
 slice-write-out-8 : tie.Need-slice-write-out-8
 slice-write-out-8 c = simp length-set (omega arith)
 
--- src/bytes.rt:10:1
 same-length : tie.Need-same-length
 same-length c = search needs
 
--- src/bytes.rt:10:1
 returns : tie.Need-returns
 unfolding bigEndian
-returns c = 
+returns c =
     let x = c .args .x in
     let e : x % 256 ≡ x / 1 % 256 = rw (div-one x) in
     rw e (sets-eq (bigEndian 8 x) (c .args .out .now) 0 (omega arith))

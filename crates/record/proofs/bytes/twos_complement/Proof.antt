@@ -1,45 +1,36 @@
 -- `twos_complement`: `!z` of a negative number is one less than its size.
-use mathlib.Core.Path.{_≡_, refl, sym, ap, _∙_}
+use mathlib.Core.Path.{sym}
 use Prim.Native.Nat.{_-_}
 use native.Mathlib.Omega.{arith}
-use lib.IntN.{natAbs}
 use mir.Syntax.{w64}
 use mir.ValLaws.{toZ-ofZ}
-use Rattle.integer.proofs.MachineInteger.{Negative, negative-tested, NonNegative, nonnegative-tested}
+use Rattle.integer.proofs.MachineInteger.{negative-tested, nonnegative-tested}
 use Rattle.record.proofs.TwosLaws.{twos-negative, twos-positive}
-use borrow.Author.Needs.{needs}
 use Rattle.record.proofs.bytes.twos_complement.Statement.{statement}
 use Rattle.record.proofs.bytes.twos_complement.Tie as tie
-use Rattle.record.proofs.bytes.twos_complement.Reads as reads
-use Rattle.record.proofs.bytes.twos_complement.Lts as lts
 
--- src/bytes.rt:37:17
 cast-m : tie.Need-cast-m
-cast-m c = 
+cast-m c =
     let n = negative-tested _ (c .before .fits .z) (c .if1 .taken) in
     rw (n .complement) (tt, record { fits = omega (arith, n .at-most) })
 
--- src/bytes.rt:38:9
 sub-result : tie.Need-sub-result
-sub-result c = 
+sub-result c =
     let n = negative-tested _ (c .before .fits .z) (c .if1 .taken) in
     rw (n .complement) (omega (arith, n .at-most))
 
--- src/bytes.rt:40:9
 cast-result : tie.Need-cast-result
-cast-result c = 
+cast-result c =
     let n = nonnegative-tested _ (c .before .fits .z) (c .if1 .left) in
     (n .castable, rw (toZ-ofZ w64 _ (c .before .fits .z)) (record { fits = omega (arith, n .below) }))
 
--- src/bytes.rt:33:1
 returns : tie.Need-returns
-returns c = 
+returns c =
     let n = negative-tested _ (c .before .fits .z) (c .if1 .taken) in
     rw (n .complement) (sym (twos-negative (c .before .args .z) (n .above) (n .size)))
 
--- src/bytes.rt:33:1
 returns-2 : tie.Need-returns-2
-returns-2 c = 
+returns-2 c =
     let n = nonnegative-tested _ (c .before .fits .z) (c .if1 .left) in
     rw (toZ-ofZ w64 _ (c .before .fits .z)) (sym (twos-positive (c .before .args .z) (n .no-negative)))
 

@@ -1,85 +1,63 @@
 -- `u32_at` adds the bytes with their weights.
-use mathlib.Core.Path.{_≡_}
 use native.Mathlib.Omega.{arith}
 use Rattle.record.proofs.NumberLaws.{number-of-four}
 use borrow.Author.Needs.{needs}
 use Rattle.record.proofs.bytes.u32_at.Statement.{statement}
 use Rattle.record.proofs.bytes.u32_at.Tie as tie
-use Rattle.record.proofs.bytes.u32_at.Reads as reads
-use Rattle.record.proofs.bytes.u32_at.Lts as lts
-use Rattle.record.proofs.bytes.wide.Reads as wide-reads
 
--- src/bytes.rt:67:10
 shared-slice-read-wide : tie.Need-shared-slice-read-wide
 shared-slice-read-wide c = search needs
 
--- src/bytes.rt:67:5
 wide-requires : tie.Need-wide-requires
 wide-requires c κs = search needs
 
--- src/bytes.rt:67:5
 mul-result : tie.Need-mul-result
 mul-result c = search needs
 
--- src/bytes.rt:67:45
 add-wide : tie.Need-add-wide
 add-wide c = search needs
 
--- src/bytes.rt:67:39
 shared-slice-read-wide-2 : tie.Need-shared-slice-read-wide-2
 shared-slice-read-wide-2 c = search needs
 
--- src/bytes.rt:67:34
 wide-requires-2 : tie.Need-wide-requires-2
 wide-requires-2 c κs = search needs
 
--- src/bytes.rt:67:34
 mul-result-2 : tie.Need-mul-result-2
 mul-result-2 c = search needs
 
--- src/bytes.rt:67:5
 add-result : tie.Need-add-result
 add-result c = search needs
 
--- src/bytes.rt:67:75
 add-wide-2 : tie.Need-add-wide-2
 add-wide-2 c = search needs
 
--- src/bytes.rt:67:69
 shared-slice-read-wide-3 : tie.Need-shared-slice-read-wide-3
 shared-slice-read-wide-3 c = search needs
 
--- src/bytes.rt:67:64
 wide-requires-3 : tie.Need-wide-requires-3
 wide-requires-3 c κs = search needs
 
--- src/bytes.rt:67:64
 mul-result-3 : tie.Need-mul-result-3
 mul-result-3 c = search needs
 
--- src/bytes.rt:67:5
 add-result-2 : tie.Need-add-result-2
 add-result-2 c = search needs
 
--- src/bytes.rt:67:103
 add-wide-3 : tie.Need-add-wide-3
 add-wide-3 c = search needs
 
--- src/bytes.rt:67:97
 shared-slice-read-wide-4 : tie.Need-shared-slice-read-wide-4
 shared-slice-read-wide-4 c = search needs
 
--- src/bytes.rt:67:92
 wide-requires-4 : tie.Need-wide-requires-4
 wide-requires-4 c κs = search needs
 
--- src/bytes.rt:67:5
 add-result-3 : tie.Need-add-result-3
 add-result-3 c = search needs
 
--- src/bytes.rt:63:1
 returns : tie.Need-returns
-returns c = 
+returns c =
     let a = c .before .before .before .before .before .before .before .before .before .args in
     (omega (arith, number-of-four (a .bytes .now) (a .at)), omega arith)
 
