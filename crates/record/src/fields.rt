@@ -9,6 +9,7 @@ ghost use Rattle.record.specs.Fields.{headBytes, axisField, recordFields
 use crate::bytes::put_u64_at;
 use crate::bytes::twos_complement;
 use view::layout::Layout;
+use view::layout::ReadingOffset;
 
 // Five bytes at the front; the others stay.
 fn put_five(out: &mut [u8], a: u8, b: u8, c: u8, d: u8, e: u8)
@@ -23,9 +24,9 @@ fn put_five(out: &mut [u8], a: u8, b: u8, c: u8, d: u8, e: u8)
 }
 
 // Length of the whole, version, verdict, rank and offset: the first 13 bytes.
-fn put_head(out: &mut [u8], rank: usize, verdict: u8, offset: i64)
+fn put_head(out: &mut [u8], rank: usize, verdict: u8, offset: ReadingOffset)
     requires { ⌜ (13 ≤ length (now out)) × (rank ≤ 16) ⌝ }
-    ensures { λ _. ⌜ now (out .exit) ≡ headBytes rank verdict offset ++ drop 13 (now (out .entry)) ⌝ }
+    ensures { λ _. ⌜ now (out .exit) ≡ headBytes rank verdict (offset .0) ++ drop 13 (now (out .entry)) ⌝ }
 {
     let size = 13 + 16 * rank;
     put_five(
@@ -36,7 +37,7 @@ fn put_head(out: &mut [u8], rank: usize, verdict: u8, offset: i64)
         verdict,
         rank as u8,
     );
-    let bits = twos_complement(offset);
+    let bits = twos_complement(offset.0);
     put_u64_at(out, 5, bits);
 }
 
@@ -56,7 +57,7 @@ pub fn put_record(out: &mut [u8], layout: Layout, verdict: u8)
     ensures { λ _. ⌜ now (out .exit) ≡ recordFields (modelOf layout) verdict ++ drop (recordLength (layout .rank)) (now (out .entry)) ⌝ }
 {
     let rank = layout.rank;
-    put_head(out, rank, verdict, layout.offset.0);
+    put_head(out, rank, verdict, layout.offset);
     let mut i = 0;
     while i < rank {
         let extent = layout.extents[i];

@@ -1,36 +1,32 @@
+-- `put_five`: the stores together are the five bytes at the front.
+use mathlib.Core.List.{[], _∷_}
+use native.Mathlib.Omega.{arith}
+use lib.ListN.{length-set}
+use lib.Seq.{sets-eq}
 use borrow.Author.Needs.{needs}
 use Rattle.record.proofs.fields.put_five.Statement.{statement}
 use Rattle.record.proofs.fields.put_five.Tie as tie
-use Rattle.record.proofs.fields.put_five.Reads as reads
-use Rattle.record.proofs.fields.put_five.Lts as lts
 
--- src/fields.rt:18:5
 slice-write-out : tie.Need-slice-write-out
 slice-write-out c = search needs
 
--- src/fields.rt:19:5
 slice-write-out-2 : tie.Need-slice-write-out-2
-slice-write-out-2 c = ?
+slice-write-out-2 c = simp length-set (omega arith)
 
--- src/fields.rt:20:5
 slice-write-out-3 : tie.Need-slice-write-out-3
-slice-write-out-3 c = ?
+slice-write-out-3 c = simp length-set (omega arith)
 
--- src/fields.rt:21:5
 slice-write-out-4 : tie.Need-slice-write-out-4
-slice-write-out-4 c = ?
+slice-write-out-4 c = simp length-set (omega arith)
 
--- src/fields.rt:22:5
 slice-write-out-5 : tie.Need-slice-write-out-5
 slice-write-out-5 c = search needs
 
--- src/fields.rt:14:1
 same-length : tie.Need-same-length
 same-length c = search needs
 
--- src/fields.rt:14:1
 returns : tie.Need-returns
-returns c = ?
+returns c = sets-eq (c .args .a ∷ c .args .b ∷ c .args .c ∷ c .args .d ∷ c .args .e ∷ []) (c .args .out .now) 0 (omega arith)
 
 pub put-five-spec : {M : Type 1} → statement M
 put-five-spec =
