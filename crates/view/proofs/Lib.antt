@@ -1,7 +1,11 @@
 pub mod ModelLaws
+pub mod MaskLaws
+pub mod OrderLaws
+pub mod TargetLaws
 pub mod SomeLaws
 pub mod ReachLaws
 pub mod BoundsLaws
 pub mod AnswerLaws
 pub mod HandedLaws
 pub mod CheckInLaws
+pub mod ListedLaws

@@ -2,4 +2,6 @@
 pub mod accepted;
 pub mod bounds;
 pub mod check_in;
+pub mod broadcast;
 pub mod layout;
+pub mod permute;

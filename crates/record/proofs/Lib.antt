@@ -1,0 +1,3 @@
+pub mod TwosLaws
+pub mod NumberLaws
+pub mod FieldLaws

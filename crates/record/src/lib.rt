@@ -1,0 +1,3 @@
+// The record of a layout: its normal form with a verdict, written, read back and stepped over.
+pub mod bytes;
+pub mod fields;
