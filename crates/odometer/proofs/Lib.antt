@@ -1,3 +1,3 @@
 pub mod VectorLaws
 pub mod OrderLaws
-pub mod Turning
+mod Turning

@@ -1,15 +1,16 @@
 -- `after` is the order of positions: from the vector at position k to the one at k + 1; and what it does from place j on.
 use mathlib.Core.Bool.{Bool}
-use mathlib.Core.List.{List, [], _∷_}
+use mathlib.Core.List.{List, [], _∷_, _++_, append-nil}
 use mathlib.Core.Path.{_≡_, refl, sym, ap, ap₂, _∙_}
 use Prim.Native.Nat.{ℕ, suc, _+_, _*_, _/_, _%_, _<_, _≤_}
 use native.Mathlib.Decide.{decLt}
 use native.Mathlib.Nat.{mod-lt, div-add-mod'}
+use native.Mathlib.Numerals.{add-one}
 use native.Mathlib.Omega.{arith}
 use borrow.Author.Tests.{lt-ltb, le-ltb}
 use lib.Arith.{digits-div, digits-mod}
-use lib.ListN.{length, getD, drop, drop-of-length-le}
-use lib.Seq.{drop-cons}
+use lib.ListN.{length, getD, set, take, drop, drop-of-length-le}
+use lib.Seq.{drop-cons, set-split, take-suc-set, drop-set-lt, take-all, append-snoc}
 use Rattle.specification.specs.Tests.{if_then_else_}
 use Rattle.specification.specs.Axis.{indexAt}
 use Rattle.specification.proofs.Positions.{IndexVector, empty, _and_}
@@ -28,17 +29,39 @@ goes-round e i es x h = ap (λ (t : Bool). if t then (i + 1) ∷ x else 0 ∷ af
 
 -- ---- the same at place j
 
-pub after-up : (es x : List ℕ) (j : ℕ) → j < length es → j < length x → getD x j 0 + 1 < getD es j 0
+after-up : (es x : List ℕ) (j : ℕ) → j < length es → j < length x → getD x j 0 + 1 < getD es j 0
     → after (drop j es) (drop j x) ≡ (getD x j 0 + 1) ∷ drop (suc j) x
 after-up es x j h k l = ap₂ after (drop-cons es j 0 h) (drop-cons x j 0 k) ∙ goes-up (getD es j 0) (getD x j 0) (drop (suc j) es) (drop (suc j) x) l
 
-pub after-round : (es x : List ℕ) (j : ℕ) → j < length es → j < length x → getD es j 0 ≤ getD x j 0 + 1
+after-round : (es x : List ℕ) (j : ℕ) → j < length es → j < length x → getD es j 0 ≤ getD x j 0 + 1
     → after (drop j es) (drop j x) ≡ 0 ∷ after (drop (suc j) es) (drop (suc j) x)
 after-round es x j h k l = ap₂ after (drop-cons es j 0 h) (drop-cons x j 0 k) ∙ goes-round (getD es j 0) (getD x j 0) (drop (suc j) es) (drop (suc j) x) l
 
-pub after-none : (es x : List ℕ) (j : ℕ) → length es ≤ j → after (drop j es) x ≡ []
+after-none : (es x : List ℕ) (j : ℕ) → length es ≤ j → after (drop j es) x ≡ []
 unfolding after
 after-none es x j h = rw (drop-of-length-le es h)
+
+-- ---- from a vector to the one after it, place by place
+
+-- x is on the way from `from` to the vector after it: the places before j went round, the others are still as they were
+abbrev pub Partway : List ℕ → List ℕ → List ℕ → ℕ → Type 0
+Partway es from x j = take j x ++ after (drop j es) (drop j x) ≡ after es from
+
+pub partway-round : (es from x : List ℕ) (j : ℕ) → j < length es → j < length x → getD es j 0 ≤ getD x j 0 + 1
+    → Partway es from x j → Partway es from (set x j 0) (j + 1)
+partway-round es from x j h k l w =
+    rw (add-one, take-suc-set x j 0 k, drop-set-lt (suc j) x j 0 (omega arith))
+    (append-snoc (take j x) 0 (after (drop (suc j) es) (drop (suc j) x))
+    ∙ ap (λ (z : List ℕ). take j x ++ z) (sym (after-round es x j h k l))
+    ∙ w)
+
+pub partway-up : (es from x : List ℕ) (j : ℕ) → j < length es → j < length x → getD x j 0 + 1 < getD es j 0
+    → Partway es from x j → set x j (getD x j 0 + 1) ≡ after es from
+partway-up es from x j h k l w = set-split x j (getD x j 0 + 1) k ∙ ap (λ (z : List ℕ). take j x ++ z) (sym (after-up es x j h k l)) ∙ w
+
+pub partway-all : (es from x : List ℕ) (j : ℕ) → length es ≤ j → length x ≤ j → Partway es from x j → x ≡ after es from
+partway-all es from x j h k w =
+    sym (take-all j x k) ∙ sym (append-nil (take j x)) ∙ ap (λ (z : List ℕ). take j x ++ z) (sym (after-none es (drop j x) j h)) ∙ w
 
 -- ---- the order of positions
 

@@ -1,22 +1,20 @@
 -- The loop of `advance`: the places before j went round, and the sum is that of the vector as it is now.
-use mathlib.Core.List.{List, _++_, append-nil}
-use mathlib.Core.Path.{_≡_, refl, sym, ap, _∙_}
-use Prim.Native.Nat.{ℕ, suc, _+_, _*_, _-_, _^_, _<_, _≤_}
-use native.Mathlib.Numerals.{add-one}
+use mathlib.Core.List.{List}
+use mathlib.Core.Path.{_≡_, refl, _∙_}
+use Prim.Native.Nat.{ℕ, _+_, _*_, _-_, _^_, _<_, _≤_}
 use native.Mathlib.Omega.{arith}
-use lib.ListN.{length, getD, set, take, drop, length-set}
-use lib.Seq.{set-split, take-suc-set, drop-set-lt, take-all, append-snoc}
+use lib.ListN.{length, getD, set, length-set}
 use Rattle.specification.proofs.Positions.{IndexVector}
 use Rattle.odometer.specs.Odometer.{dot, after, SumsFit, StandsAt}
 use Rattle.odometer.proofs.VectorLaws.{index-length, index-below, index-set, dot-set}
-use Rattle.odometer.proofs.OrderLaws.{after-up, after-round, after-none}
+use Rattle.odometer.proofs.OrderLaws.{Partway, partway-round, partway-up, partway-all}
 
--- x is on the way from `from` to the vector after it: what is before j is done, and the rest is still to be turned
+-- place j is next: x stands at its sum, on the way from `from` to the vector after it
 pub record Turning (es ss from x : List ℕ) (sum j : ℕ) : Type 0 where
   pub at : StandsAt es ss x sum
   pub le : j ≤ length es
   pub one-length : length x ≡ length es
-  pub ends : take j x ++ after (drop j es) (drop j x) ≡ after es from
+  pub ends : Partway es from x j
 
 pub turning-start : (es ss x : List ℕ) (sum : ℕ) → StandsAt es ss x sum → Turning es ss x x sum 0
 turning-start es ss x sum a = record { at = a; le = omega arith; one-length = index-length (a .within); ends = refl }
@@ -44,10 +42,7 @@ module _ (es ss from x : List ℕ) (sum j : ℕ) (f : SumsFit es ss) (t : Turnin
       at = record { within = index-set (t .at .within) j 0 (omega (arith, below)); is = omega (arith, without) };
       le = omega arith;
       one-length = length-set x j 0 ∙ t .one-length;
-      ends = rw (add-one, take-suc-set x j 0 in-index, drop-set-lt (suc j) x j 0 (omega arith))
-          (append-snoc (take j x) 0 (after (drop (suc j) es) (drop (suc j) x))
-          ∙ ap (λ (z : List ℕ). take j x ++ z) (sym (after-round es x j h in-index l))
-          ∙ t .ends);
+      ends = partway-round es from x j h in-index l (t .ends);
     }
 
     module _ (l : getD x j 0 + 1 < getD es j 0) where
@@ -61,9 +56,7 @@ module _ (es ss from x : List ℕ) (sum j : ℕ) (f : SumsFit es ss) (t : Turnin
       up-fits = omega (arith, up-is, f .fits (set x j (getD x j 0 + 1)) up-within)
 
       pub up-ends : set x j (getD x j 0 + 1) ≡ after es from
-      up-ends = set-split x j (getD x j 0 + 1) in-index ∙ ap (λ (z : List ℕ). take j x ++ z) (sym (after-up es x j h in-index l)) ∙ t .ends
+      up-ends = partway-up es from x j h in-index l (t .ends)
 
   pub turning-end : length es ≤ j → x ≡ after es from
-  turning-end h =
-      sym (take-all j x (omega (arith, t .one-length))) ∙ sym (append-nil (take j x))
-      ∙ ap (λ (z : List ℕ). take j x ++ z) (sym (after-none es (drop j x) j h)) ∙ t .ends
+  turning-end h = partway-all es from x j h (omega (arith, t .one-length)) (t .ends)
