@@ -13,8 +13,8 @@ use Rattle.specification.specs.Decided.{sameSum?}
 use Rattle.specification.specs.Verdict.{Judged, enumerated, carryOut, freedBy}
 use Rattle.specification.specs.Verdict as verdict
 use Rattle.specification.proofs.OutcomeLaws.{refuse-yes, refuse-no}
-use Rattle.enumeration.specs.Words.{Tells}
 use Rattle.specification.proofs.Pigeonhole.{Clash}
+use Rattle.enumeration.specs.Words.{Tells}
 use Rattle.enumeration.specs.Sums.{positionSum}
 use Rattle.enumeration.specs.Enumeration.{Describes, Block, outcomeOf, AsDefined, Enumerated}
 use Rattle.enumeration.specs.declared.Answer.{Answer}
@@ -29,6 +29,7 @@ pub words-by-total : (positions span : ℕ) → positions < span / 64 → wordsF
 unfolding wordsFor
 words-by-total positions span h = ap (λ (t : Bool). if t then span / 64 + 1 else positions) (lt-leb (span / 64) positions h)
 
+-- an answer that tells is the decision's
 tells-yes : (r : Bool) {P : Type 0} → Tells r P → (d : Dec P) → isYes d ≡ r
 tells-yes true t (yes p) = refl
 tells-yes true t (no f) = absurd (f (t .yes refl))
@@ -37,37 +38,42 @@ tells-yes false t (no f) = refl
 
 -- ---- what step 6 is defined to be, by how many words there are
 
-module _ (block : List ActiveAxis) (words : ℕ) where
-  carried-short : words < wordsFor (total block) (spanSum block) → carryOut words (enumerated block) ≡ refused 9 (wordsFor (total block) (spanSum block) ∷ [])
-  unfolding carryOut
-  carried-short h = refuse-yes 9 (wordsFor (total block) (spanSum block) ∷ []) _ (lt-ltb words (wordsFor (total block) (spanSum block)) h)
+-- the words that a block needs
+abbrev needed : List ActiveAxis → ℕ
+needed block = wordsFor (total block) (spanSum block)
 
-  carried-done : wordsFor (total block) (spanSum block) ≤ words → (r : Bool) → Tells r (SameSum block)
-      → carryOut words (enumerated block) ≡ done (record { answer = if r then verdict.Repeated else verdict.Distinct; count = 0; freed = wordsFor (total block) (spanSum block) })
+-- the outcome where there are words enough, and two positions of one sum or none
+abbrev judged : ℕ → Bool → Outcome Judged
+judged need r = done (record { answer = if r then verdict.Repeated else verdict.Distinct; count = 0; freed = need })
+
+module _ (block : List ActiveAxis) (words : ℕ) where
+  carried-short : words < needed block → carryOut words (enumerated block) ≡ refused 9 (needed block ∷ [])
   unfolding carryOut
-  carried-done h r t =
-      refuse-no 9 (wordsFor (total block) (spanSum block) ∷ []) _ (le-ltb words (wordsFor (total block) (spanSum block)) h)
-      ∙ ap (λ (z : Bool). done (record { answer = if z then verdict.Repeated else verdict.Distinct; count = 0; freed = wordsFor (total block) (spanSum block) })) (tells-yes r t (sameSum? block))
+  carried-short h = refuse-yes 9 (needed block ∷ []) _ (lt-ltb words (needed block) h)
+
+  carried-done : needed block ≤ words → (r : Bool) → Tells r (SameSum block) → carryOut words (enumerated block) ≡ judged (needed block) r
+  unfolding carryOut
+  carried-done h r t = refuse-no 9 (needed block ∷ []) _ (le-ltb words (needed block) h) ∙ ap (judged (needed block)) (tells-yes r t (sameSum? block))
 
 -- ---- the answers
 
 abbrev found : Bool → Answer
 found r = if r then Repeated else Distinct
 
-found-outcome : (need : ℕ) (r : Bool) → outcomeOf need (found r) ≡ done (record { answer = if r then verdict.Repeated else verdict.Distinct; count = 0; freed = need })
+found-outcome : (need : ℕ) (r : Bool) → outcomeOf need (found r) ≡ judged need r
 found-outcome need true = refl
 found-outcome need false = refl
 
+-- need is what the code found, and l is the scratch that it was lent
 module _ (es ss : List ℕ) (positions span : ℕ) (k : Block es ss positions span) (need : ℕ) (e : need ≡ wordsFor positions span) (l : List ℕ) where
   module _ (block : List ActiveAxis) (d : Describes es ss block) where
     total-of : positions ≡ total block
     total-of = k .total-is ∙ describes-total (k .described) d
 
-    need-of : need ≡ wordsFor (total block) (spanSum block)
+    need-of : need ≡ needed block
     need-of = e ∙ ap₂ wordsFor total-of (k .span-is ∙ describes-span (k .described) d)
 
     short-defined : length l < need → AsDefined block l l (Short need)
-    unfolding freedBy
     short-defined h =
         let c = carried-short block (length l) (rw need-of at h) in
         record { outcome = ap (λ (z : ℕ). refused 9 (z ∷ [])) need-of ∙ sym c; scratch = (refl, refl) }
@@ -77,7 +83,7 @@ module _ (es ss : List ℕ) (positions span : ℕ) (k : Block es ss positions sp
     found-defined h w q r t =
         let c = carried-done block (length l) (rw need-of at h) r (tells-same es ss block d r (subst (λ (z : ℕ). Tells r (Clash (positionSum es ss) z)) total-of t)) in
         record {
-          outcome = found-outcome (wordsFor (total block) (spanSum block)) r ∙ sym c;
+          outcome = found-outcome (needed block) r ∙ sym c;
           scratch = (
             length-front l w need q,
             ap (λ (o : Outcome Judged). drop (freedBy o) (w ++ drop need l)) c
@@ -86,13 +92,11 @@ module _ (es ss : List ℕ) (positions span : ℕ) (k : Block es ss positions sp
           );
         }
 
+  -- the scratch is short, and stays as it is
   pub enumerated-short : length l < need → Enumerated es ss l l (Short need)
   enumerated-short h block d = short-defined block d h
 
-  -- where the sums are written out, there are as many words as positions
-  pub of-list : need ≤ length l → (r : Bool) → positions < span / 64 → Tells r (Clash (positionSum es ss) (length (take need l))) → Tells r (Clash (positionSum es ss) positions)
-  of-list h r o t = subst (λ (z : ℕ). Tells r (Clash (positionSum es ss) z)) (length-take-le need l h ∙ e ∙ words-by-total positions span o) t
-
+  -- the words needed came back as w
   module _ (h : need ≤ length l) (w : List ℕ) (q : length w ≡ length (take need l)) (r : Bool) (t : Tells r (Clash (positionSum es ss) positions)) where
     pub enumerated-repeated : r ≡ true → Enumerated es ss l (w ++ drop need l) Repeated
     enumerated-repeated p block d = subst (λ (z : Bool). AsDefined block l (w ++ drop need l) (found z)) p (found-defined block d h w q r t)

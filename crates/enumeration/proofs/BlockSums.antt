@@ -23,7 +23,7 @@ one-length : (b : List ActiveAxis) → length (strides b) ≡ length (lengths b)
 one-length [] = refl
 one-length (a ∷ rest) = ap suc (one-length rest)
 
--- the span is one of extents and strides
+-- the span depends on extents and strides alone
 span-same : (b c : List ActiveAxis) → lengths b ≡ lengths c → strides b ≡ strides c → spanSum b ≡ spanSum c
 unfolding spanSum
 span-same [] [] p q = refl
@@ -41,6 +41,7 @@ pub describes-span : {es ss : List ℕ} {b c : List ActiveAxis} → Describes es
 describes-span {b = b} {c = c} d e = span-same b c (d .extents-are ∙ sym (e .extents-are)) (d .strides-are ∙ sym (e .strides-are))
 
 module _ (es ss : List ℕ) (block : List ActiveAxis) (d : Describes es ss block) where
+  -- no sum is above the span
   sum-below : (x : List ℕ) → IndexVector es x → dot ss x ≤ spanSum block
   sum-below x v =
       let w : IndexVector (lengths block) x = rw (d .extents-are) v in
@@ -57,6 +58,7 @@ module _ (es ss : List ℕ) (block : List ActiveAxis) (d : Describes es ss block
   pub block-room : (words : List ℕ) → spanSum block / 64 < length words → BitForEach es ss words
   block-room words h x v = omega (arith, sum-below x v)
 
+  -- the sum of the definition at position k
   sum-is : (k : ℕ) → reach block (indexAt (lengths block) k) ≡ positionSum es ss k
   sum-is k = reach-dot block (indexAt (lengths block) k) ∙ ap₂ (λ (s : List ℕ) (e : List ℕ). dot s (indexAt e k)) (d .strides-are) (d .extents-are)
 

@@ -23,10 +23,11 @@ Met f k n = (j : ℕ) × (j < k) × (f j ≡ n)
 
 -- the bits of l are the first k values of f, which all differ
 pub record Seen (f : ℕ → ℕ) (k : ℕ) (l : List ℕ) : Type 0 where
-  pub set : (j : ℕ) → j < k → bitAt l (f j) ≡ 1
+  pub on : (j : ℕ) → j < k → bitAt l (f j) ≡ 1
   pub met : (n : ℕ) → bitAt l n ≡ 1 → Met f k n
   pub apart : Clash f k → ⊥
 
+-- a clear list is 0 at every place, past its end too
 clear-at : (l : List ℕ) → Clear l → (i : ℕ) → at l i ≡ 0
 clear-at l z i = go (decLt i (length l))
   where
@@ -36,7 +37,7 @@ clear-at l z i = go (decLt i (length l))
 
 seen-start : (f : ℕ → ℕ) (l : List ℕ) → Clear l → Seen f 0 l
 seen-start f l z = record {
-  set = λ j h. absurd (omega arith);
+  on = λ j h. absurd (omega arith);
   met = λ n e. absurd (none n e);
   apart = λ t. let p = t .below in omega arith;
 }
@@ -48,21 +49,21 @@ seen-start f l z = record {
 
 seen-more : (f : ℕ → ℕ) (k : ℕ) (l m : List ℕ) (r : Bool) → Seen f k l → Marked l m (f k) r → r ≡ false → Seen f (k + 1) m
 seen-more f k l m r s a e = record {
-  set = λ j h. set-more j h (ℕ-discrete (f j) (f k));
+  on = λ j h. on-more j h (ℕ-discrete (f j) (f k));
   met = λ n h. met-more n h (ℕ-discrete n (f k));
   apart = λ t. apart-more t (ℕ-discrete (t .j) k);
 }
   where
-    set-more : (j : ℕ) → j < k + 1 → Dec (f j ≡ f k) → bitAt m (f j) ≡ 1
-    set-more j h (yes q) = ap (bitAt m) q ∙ a .here e
-    set-more j h (no q) = a .elsewhere (f j) e q ∙ s .set j (let z : j ≢ k = λ p. q (ap f p) in omega arith)
+    on-more : (j : ℕ) → j < k + 1 → Dec (f j ≡ f k) → bitAt m (f j) ≡ 1
+    on-more j h (yes q) = ap (bitAt m) q ∙ a .here e
+    on-more j h (no q) = a .elsewhere (f j) e q ∙ s .on j (let z : j ≢ k = λ p. q (ap f p) in omega arith)
 
     met-more : (n : ℕ) → bitAt m n ≡ 1 → Dec (n ≡ f k) → Met f (k + 1) n
     met-more n h (yes q) = (k, omega arith, sym q)
     met-more n h (no q) = let w = s .met n (sym (a .elsewhere n e q) ∙ h) in (w .0, omega (arith, w .1), w .2)
 
     apart-more : (t : Clash f (k + 1)) → Dec (t .j ≡ k) → ⊥
-    apart-more t (yes q) = a .new e (ap (bitAt l) (sym (t .same ∙ ap f q)) ∙ s .set (t .i) (omega (arith, t .lt)))
+    apart-more t (yes q) = a .new e (ap (bitAt l) (sym (t .same ∙ ap f q)) ∙ s .on (t .i) (omega (arith, t .lt)))
     apart-more t (no q) = s .apart (record { i = t .i; j = t .j; lt = t .lt; below = omega (arith, t .below); same = t .same })
 
 -- ---- the loop

@@ -77,10 +77,27 @@ fn by_list(extents: &[u64], strides: &[u64], index: &mut [u64], words: &mut [u64
 fn words_needed(total: u64, span: u64) -> u64
     ensures { λ r. ⌜ r ≡ wordsFor total span ⌝ }
 {
+    let words = span / 64;
+    if words <= total { words + 1 } else { total }
+}
+
+// Whether two positions of the block have one sum, in as many words as are needed.
+fn has_equal_sums(
+    extents: &[u64],
+    strides: &[u64],
+    total: u64,
+    span: u64,
+    words: &mut [u64],
+) -> bool
+    requires { ⌜ Block (now extents) (now strides) total span × (length (now words) ≡ wordsFor total span) ⌝ }
+    ensures { λ r. ⌜ Tells r (Clash (positionSum (now (extents .entry)) (now (strides .entry))) total) ⌝ }
+{
+    let rank = extents.len();
+    let mut index = [0u64; 16];
     if span / 64 <= total {
-        span / 64 + 1
+        by_bitmap(extents, strides, &mut index[..rank], total, words)
     } else {
-        total
+        by_list(extents, strides, &mut index[..rank], words)
     }
 }
 
@@ -100,21 +117,7 @@ pub fn enumerate(
         return Answer::Short(need);
     }
     let words = need as usize;
-    let rank = extents.len();
-    let mut index = [0u64; 16];
-    if span / 64 <= total {
-        if by_bitmap(
-            extents,
-            strides,
-            &mut index[..rank],
-            total,
-            &mut scratch[..words],
-        ) {
-            return Answer::Repeated;
-        }
-        return Answer::Distinct;
-    }
-    if by_list(extents, strides, &mut index[..rank], &mut scratch[..words]) {
+    if has_equal_sums(extents, strides, total, span, &mut scratch[..words]) {
         return Answer::Repeated;
     }
     Answer::Distinct
