@@ -13,9 +13,16 @@ pub mod DifferenceWalk
 pub mod Collisions
 pub mod NormalScan
 pub mod NormalLaws
+pub mod Sorting
 pub mod BlockLaws
+pub mod TwoAxes
 pub mod SearchLaws
 pub mod OutcomeLaws
+pub mod OnePosition
+pub mod PlanCases
+pub mod VerdictTruth
+pub mod VerdictRefusals
+pub mod VerdictWords
 pub mod VerdictLaws
 pub mod ReachLaws
 pub mod AcceptedLaws

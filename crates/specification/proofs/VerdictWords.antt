@@ -1,0 +1,77 @@
+-- The words that the verdict needs: 01's number where step 6 enumerates, none elsewhere; just these are free afterwards.
+use mathlib.Core.Path.{_≡_, refl, sym, ap, _∙_}
+use mathlib.Core.List.{List, [], _∷_}
+use Prim.Native.Nat.{ℕ, _+_, _/_, _<_, _≤_}
+use native.Mathlib.Omega.{arith}
+use lib.Dec.{ltb}
+use borrow.Author.Tests.{le-leb, lt-leb}
+use Rattle.specification.specs.Axis.{Axis}
+use Rattle.specification.specs.Outcome.{Outcome, done}
+use Rattle.specification.specs.Search.{ActiveAxis, spanSum, total, half, wordsFor}
+use Rattle.specification.specs.Verdict.{Judged, Plan, answered, enumerated, blockOf, othersOf, planOf, carryOut, judge, wordsOf, wordsNeeded}
+use Rattle.specification.specs.VerdictClaims.{Enumerates, WordsClaims}
+use Rattle.specification.proofs.OutcomeLaws.{passed, bound, done-inj}
+use Rattle.specification.proofs.SearchLaws.{SearchEnd, collided, completed, exhausted, search-end}
+use Rattle.specification.proofs.PlanCases.{SearchCase, searching, enumerating, past-both, small, large, PlanCase, when-empty, when-overfull, when-one, when-still, when-out, by-block, plan-case, comes-to-search, search-planned}
+
+-- ---- where step 6 enumerates
+
+enumerating-plan : {block : List ActiveAxis} {p : Plan} → SearchCase block p → 4194304 < half (othersOf block) → total block ≤ 16777216 → p ≡ enumerated block
+enumerating-plan (searching h e) s t = absurd (omega arith)
+enumerating-plan (enumerating h k) s t = refl
+enumerating-plan (past-both h k) s t = absurd (omega arith)
+
+words-enumerated : (axes : List Axis) → Enumerates axes → wordsNeeded axes ≡ wordsFor (total (blockOf axes)) (spanSum (blockOf axes))
+unfolding wordsOf
+words-enumerated axes e = let w = search-planned axes (e .comes) in ap wordsOf (w .1 ∙ ap done (enumerating-plan (w .2) (e .past-search) (e .within)))
+
+words-of-bitmap : (total span : ℕ) → span / 64 ≤ total → wordsFor total span ≡ span / 64 + 1
+unfolding wordsFor
+words-of-bitmap total span h = rw (le-leb (span / 64) total h)
+
+words-of-list : (total span : ℕ) → total < span / 64 → wordsFor total span ≡ total
+unfolding wordsFor
+words-of-list total span h = rw (lt-leb (span / 64) total h)
+
+-- ---- elsewhere
+
+search-words : {a b : ActiveAxis} {others : List ActiveAxis} {p : Plan} → SearchEnd a b others p → wordsOf (done p) ≡ 0
+unfolding wordsOf
+search-words (collided e) = refl
+search-words (completed e h w f) = refl
+search-words (exhausted e f) = refl
+
+no-words : (axes : List Axis) → ¬ (Enumerates axes) → wordsNeeded axes ≡ 0
+unfolding wordsOf
+no-words axes n = go (planOf axes) (plan-case axes)
+  where
+    go : (o : Outcome Plan) → PlanCase axes o → wordsOf o ≡ 0
+    go _ (when-empty e) = refl
+    go _ (when-overfull f o) = refl
+    go _ (when-one f o e) = refl
+    go _ (when-still f o e) = refl
+    go _ (when-out f o s e) = refl
+    go _ (by-block t (small c)) = refl
+    go _ (by-block t (large m h (searching {a} {b} k e))) = search-words (search-end a b (othersOf (blockOf axes)))
+    go _ (by-block t (large m h (enumerating k l))) = absurd (n (record { comes = comes-to-search t m h; past-search = k; within = l }))
+    go _ (by-block t (large m h (past-both k l))) = refl
+
+pub words-claims : WordsClaims
+words-claims = record {
+  bitmap = λ axes e h. words-enumerated axes e ∙ words-of-bitmap (total (blockOf axes)) (spanSum (blockOf axes)) h;
+  list = λ axes e h. words-enumerated axes e ∙ words-of-list (total (blockOf axes)) (spanSum (blockOf axes)) h;
+  none = no-words;
+}
+
+-- ---- freed
+
+carried-freed : (words : ℕ) (p : Plan) (j : Judged) → carryOut words p ≡ done j → j .freed ≡ wordsOf (done p)
+unfolding carryOut wordsOf
+carried-freed words (answered v c) j e = ap (λ (k : Judged). k .freed) (sym (done-inj e))
+carried-freed words (enumerated block) j e =
+    let need = wordsFor (total block) (spanSum block) in
+    ap (λ (k : Judged). k .freed) (sym (done-inj (passed (ltb words need) 9 (need ∷ []) e .1)))
+
+pub freed-are : (axes : List Axis) (words : ℕ) (j : Judged) → judge axes words ≡ done j → j .freed ≡ wordsNeeded axes
+unfolding judge
+freed-are axes words j e = let b = bound e in carried-freed words (b .what) j (b .after) ∙ ap wordsOf (sym (b .was))
