@@ -1,20 +1,22 @@
 -- Every way that a plan comes about, with what holds there: steps 1 and 2 (`PlanCase`), the block (`BlockCase`), three axes or more (`SearchCase`).
 -- What is claimed of the verdict is then proved case by case.
-use mathlib.Core.Path.{_≡_, refl, sym, ap, _∙_}
+use mathlib.Core.Path.{_≡_, refl, sym, ap, subst, _∙_}
 use mathlib.Core.Bool.{Bool, true, false, false≢true}
 use mathlib.Core.List.{List, [], _∷_}
-use Prim.Native.Nat.{_-_, _<_, _≤_}
+use Prim.Native.Nat.{ℕ, _-_, _<_, _≤_}
 use native.Mathlib.Omega.{arith}
 use lib.Dec.{eqb, ltb, leb}
 use lib.ListN.{length}
 use borrow.Author.Tests.{ltb-true, ltb-false, leb-true, leb-false, eqb-true}
-use Rattle.specification.specs.Tests.{if_then_else_, some, sortBy}
+use Rattle.specification.specs.Tests.{if_then_else_, isYes, some, sortBy}
 use Rattle.specification.specs.Axis.{Axis, positions, isEmpty}
 use Rattle.specification.specs.Outcome.{Outcome, done, refused, refuseIf, _>>_}
 use Rattle.specification.specs.Normal.{overfull}
-use Rattle.specification.specs.Search.{ActiveAxis, spanSum, total, twoDistinct, half}
-use Rattle.specification.specs.Verdict.{Verdict, Distinct, Repeated, Undecided, Plan, answered, enumerated, blockOf, byTwo, longer, othersOf, searched, pastSearch, byMany, bySize, byBlock, still, outOfRange, planOf}
+use Rattle.specification.specs.Search.{ActiveAxis, spanSum, total, twoDistinct, half, wordsFor}
+use Rattle.specification.specs.Decided.{sameSum?}
+use Rattle.specification.specs.Verdict.{Verdict, Distinct, Repeated, Undecided, Judged, Plan, answered, enumerated, blockOf, byTwo, longer, othersOf, searched, pastSearch, byMany, bySize, byBlock, still, outOfRange, planOf, carryOut, judge}
 use Rattle.specification.specs.VerdictClaims.{ComesToSearch}
+use Rattle.specification.proofs.OutcomeLaws.{passed, bound, done-inj}
 use Rattle.specification.proofs.OnePosition.{one-block}
 use Rattle.specification.proofs.Sorting.{perm-length, sort-perm}
 
@@ -166,3 +168,30 @@ search-planned axes c = go (planOf axes) refl (plan-case axes)
     go (done p) e k = (p, e, plan-of-large k (c .no-zero-extent) (c .no-still-axis) (c .three-or-more) (c .not-crowded))
     go (refused n vs) e (when-overfull f o) = contrary (c .not-eight) o
     go (refused n vs) e (when-out f o s r) = contrary (c .not-three) r
+
+-- ---- carried out
+
+-- what a plan comes to where the words are enough
+abbrev pub judgedAs : Plan → Judged
+judgedAs (answered v c) = record { answer = v; count = c; freed = 0 }
+judgedAs (enumerated block) = record { answer = if isYes (sameSum? block) then Repeated else Distinct; count = 0; freed = wordsFor (total block) (spanSum block) }
+
+carried : (words : ℕ) (p : Plan) {j : Judged} → carryOut words p ≡ done j → judgedAs p ≡ j
+unfolding carryOut
+carried words (answered v c) e = done-inj e
+carried words (enumerated block) e = let need = wordsFor (total block) (spanSum block) in done-inj (passed (ltb words need) 9 (need ∷ []) e .1)
+
+pub record JudgedBy (axes : List Axis) (j : Judged) : Type 0 where
+  pub plan : Plan
+  pub planned : planOf axes ≡ done plan
+  pub case-is : PlanCase axes (done plan)
+  pub comes-to : judgedAs plan ≡ j
+
+pub judged-by : (axes : List Axis) (words : ℕ) (j : Judged) → judge axes words ≡ done j → JudgedBy axes j
+unfolding judge
+judged-by axes words j e = let b = bound e in record {
+  plan = b .what;
+  planned = b .was;
+  case-is = subst (PlanCase axes) (b .was) (plan-case axes);
+  comes-to = carried words (b .what) (b .after);
+}

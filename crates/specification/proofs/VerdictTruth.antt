@@ -4,14 +4,13 @@ use mathlib.Core.Bool.{true, false}
 use mathlib.Core.List.{List, [], _∷_}
 use Prim.Native.Nat.{ℕ, _<_}
 use native.Mathlib.Omega.{arith}
-use lib.Dec.{ltb}
 use lib.ListN.{drop}
 use Rattle.specification.specs.Tests.{if_then_else_, isYes, sortBy}
 use Rattle.specification.specs.Axis.{Axis, positions, Shared, isEmpty}
 use Rattle.specification.specs.Outcome.{done}
-use Rattle.specification.specs.Search.{ActiveAxis, spanSum, total, half, SameSum, wordsFor}
+use Rattle.specification.specs.Search.{ActiveAxis, spanSum, total, half, SameSum}
 use Rattle.specification.specs.Decided.{sameSum?}
-use Rattle.specification.specs.Verdict.{Verdict, Distinct, Repeated, Undecided, Judged, Plan, answered, enumerated, activeFrom, blockOf, longer, lower, othersOf, searched, carryOut, judge, BothBudgetsPassed}
+use Rattle.specification.specs.Verdict.{Verdict, Distinct, Repeated, Undecided, Judged, Plan, answered, enumerated, activeFrom, blockOf, longer, lower, othersOf, searched, judge, BothBudgetsPassed}
 use Rattle.specification.specs.VerdictClaims.{Says}
 use Rattle.specification.proofs.NormalAxes.{AllPositive}
 use Rattle.specification.proofs.Positions.{IndexVector, empty, digitSum-is}
@@ -25,8 +24,7 @@ use Rattle.specification.proofs.BlockLaws.{Live, Lives, lives-pos, perm
 use Rattle.specification.proofs.TwoAxes.{no-pair-of-two, pair-of-two}
 use Rattle.specification.proofs.SearchLaws.{TruePlan, move, search-end, says-search, same-pair, no-same}
 use Rattle.specification.proofs.NormalLaws.{full-pos, empty-none}
-use Rattle.specification.proofs.OutcomeLaws.{passed, bound, done-inj}
-use Rattle.specification.proofs.PlanCases.{SmallCase, no-block, one-axis, crowded, two-apart, two-meet, SearchCase, searching, enumerating, past-both, BlockCase, small, large, ToBlock, PlanCase, when-empty, when-one, when-still, by-block, plan-case, plan-of-large}
+use Rattle.specification.proofs.PlanCases.{SmallCase, no-block, one-axis, crowded, two-apart, two-meet, SearchCase, searching, enumerating, past-both, BlockCase, small, large, ToBlock, PlanCase, when-empty, when-one, when-still, by-block, plan-of-large, judgedAs, judged-by}
 
 -- ---- a block
 
@@ -87,11 +85,6 @@ empty-unshared l e s = omega (arith, empty-none l e, s .one-is)
 one-unshared : (l : List Axis) → positions l ≡ 1 → ¬ (Shared l)
 one-unshared l e s = s .different (omega (arith, s .one-is, s .other-is))
 
--- what a plan says of them
-abbrev PlanSays : List Axis → Plan → Type 0
-PlanSays axes (answered v c) = Says v axes
-PlanSays axes (enumerated block) = (SameSum block → Shared axes) × (¬ (SameSum block) → ¬ (Shared axes))
-
 module _ (axes : List Axis) (e : isEmpty axes ≡ false) where
   unshared : SumsApart (activeFrom 0 axes) → ¬ (Shared axes)
   unshared f = apart-unshared axes (full-pos axes e) (carry (active-carry 0 (full-pos axes e) .0) f)
@@ -99,46 +92,38 @@ module _ (axes : List Axis) (e : isEmpty axes ≡ false) where
   shared : EqualSums (activeFrom 0 axes) → Shared axes
   shared p = twice-shared axes (pair-twice axes (pair-carry (active-carry 0 (full-pos axes e) .1) p))
 
-  plan-says : (p : Plan) → TruePlan (BothBudgetsPassed axes) (activeFrom 0 axes) p → PlanSays axes p
-  plan-says (answered Distinct c) t = unshared t
-  plan-says (answered Repeated c) t = shared t
-  plan-says (answered Undecided c) t = t
-  plan-says (enumerated block) t = (λ s. shared (t .1 (same-pair block (t .2) s)), λ n. unshared (t .0 (no-same block n)))
+  -- what holds of the active axes holds of the positions
+  says-positions : (p : Plan) → TruePlan (BothBudgetsPassed axes) (activeFrom 0 axes) p → Says (judgedAs p .answer) axes
+  says-positions (answered Distinct c) t = unshared t
+  says-positions (answered Repeated c) t = shared t
+  says-positions (answered Undecided c) t = t
+  says-positions (enumerated block) t = go (sameSum? block)
+    where
+      go : (d : Dec (SameSum block)) → Says (if isYes d then Repeated else Distinct) axes
+      go (yes s) = shared (t .1 (same-pair block (t .2) s))
+      go (no n) = unshared (t .0 (no-same block n))
 
-true-plan : (axes : List Axis) (p : Plan) → PlanCase axes (done p) → PlanSays axes p
-true-plan axes _ (when-empty e) = empty-unshared axes e
-true-plan axes _ (when-one f o e) = one-unshared axes e
-true-plan axes _ (when-still f o e) = shared axes f (still-yes 0 axes e)
-true-plan axes p (by-block t c) =
+says-plan : (axes : List Axis) (p : Plan) → PlanCase axes (done p) → Says (judgedAs p .answer) axes
+says-plan axes _ (when-empty e) = empty-unshared axes e
+says-plan axes _ (when-one f o e) = one-unshared axes e
+says-plan axes _ (when-still f o e) = shared axes f (still-yes 0 axes e)
+says-plan axes p (by-block t c) =
     let l : Lives (activeFrom 0 axes) = still-no 0 axes (t .no-still-axis) in
-    plan-says axes (t .no-zero-extent) p (move (BothBudgetsPassed axes) (block-apart axes) (block-pair axes l) p (says-block t c (block-lives axes l)))
+    says-positions axes (t .no-zero-extent) p (move (BothBudgetsPassed axes) (block-apart axes) (block-pair axes l) p (says-block t c (block-lives axes l)))
 
--- ---- carried out
+-- ---- the claims
 
-carried-says : (axes : List Axis) (words : ℕ) (p : Plan) (j : Judged) → carryOut words p ≡ done j → PlanSays axes p → Says (j .answer) axes
-unfolding carryOut
-carried-says axes words (answered v c) j e s = subst (λ (k : Judged). Says (k .answer) axes) (done-inj e) s
-carried-says axes words (enumerated block) j e s =
-    subst (λ (k : Judged). Says (k .answer) axes) (done-inj (passed (ltb words (wordsFor (total block) (spanSum block))) 9 (wordsFor (total block) (spanSum block) ∷ []) e .1)) (go (sameSum? block))
-  where
-    go : (d : Dec (SameSum block)) → Says (if isYes d then Repeated else Distinct) axes
-    go (yes w) = s .0 w
-    go (no n) = s .1 n
-
-undecided-plan : {block : List ActiveAxis} {p : Plan} → SearchCase block p → 4194304 < half (othersOf block) → 16777216 < total block → p ≡ answered Undecided 0
+undecided-plan : {block : List ActiveAxis} {p : Plan} → SearchCase block p → 4194304 < half (othersOf block) → 16777216 < total block → judgedAs p .answer ≡ Undecided
 undecided-plan (searching h e) s t = absurd (omega arith)
 undecided-plan (enumerating h k) s t = absurd (omega arith)
 undecided-plan (past-both h k) s t = refl
 
 module _ (axes : List Axis) (words : ℕ) (j : Judged) where
   pub true-answer : judge axes words ≡ done j → Says (j .answer) axes
-  unfolding judge
-  true-answer e = let b = bound e in carried-says axes words (b .what) j (b .after) (true-plan axes (b .what) (subst (PlanCase axes) (b .was) (plan-case axes)))
+  true-answer e = let b = judged-by axes words j e in subst (λ (k : Judged). Says (k .answer) axes) (b .comes-to) (says-plan axes (b .plan) (b .case-is))
 
   pub only-undecided : judge axes words ≡ done j → BothBudgetsPassed axes → j .answer ≡ Undecided
-  unfolding judge carryOut
   only-undecided e w =
-      let b = bound e in
-      let c = plan-of-large (subst (PlanCase axes) (b .was) (plan-case axes)) (w .no-zero-extent) (w .no-still-axis) (w .three-or-more) (w .not-crowded) in
-      let q : carryOut words (answered Undecided 0) ≡ done j = subst (λ (p : Plan). carryOut words p ≡ done j) (undecided-plan c (w .past-search) (w .past-enumeration)) (b .after) in
-      ap (λ (k : Judged). k .answer) (sym (done-inj q))
+      let b = judged-by axes words j e in
+      let c = plan-of-large (b .case-is) (w .no-zero-extent) (w .no-still-axis) (w .three-or-more) (w .not-crowded) in
+      ap (λ (k : Judged). k .answer) (sym (b .comes-to)) ∙ undecided-plan c (w .past-search) (w .past-enumeration)

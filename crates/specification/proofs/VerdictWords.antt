@@ -1,18 +1,16 @@
 -- The words that the verdict needs: 01's number where step 6 enumerates, none elsewhere; just these are free afterwards.
 use mathlib.Core.Path.{_≡_, refl, sym, ap, _∙_}
-use mathlib.Core.List.{List, [], _∷_}
+use mathlib.Core.List.{List}
 use Prim.Native.Nat.{ℕ, _+_, _/_, _<_, _≤_}
 use native.Mathlib.Omega.{arith}
-use lib.Dec.{ltb}
 use borrow.Author.Tests.{le-leb, lt-leb}
 use Rattle.specification.specs.Axis.{Axis}
 use Rattle.specification.specs.Outcome.{Outcome, done}
 use Rattle.specification.specs.Search.{ActiveAxis, spanSum, total, half, wordsFor}
-use Rattle.specification.specs.Verdict.{Judged, Plan, answered, enumerated, blockOf, othersOf, planOf, carryOut, judge, wordsOf, wordsNeeded}
+use Rattle.specification.specs.Verdict.{Judged, Plan, answered, enumerated, blockOf, othersOf, planOf, judge, wordsOf, wordsNeeded}
 use Rattle.specification.specs.VerdictClaims.{Enumerates, WordsClaims}
-use Rattle.specification.proofs.OutcomeLaws.{passed, bound, done-inj}
 use Rattle.specification.proofs.SearchLaws.{SearchEnd, collided, completed, exhausted, search-end}
-use Rattle.specification.proofs.PlanCases.{SearchCase, searching, enumerating, past-both, small, large, PlanCase, when-empty, when-overfull, when-one, when-still, when-out, by-block, plan-case, comes-to-search, search-planned}
+use Rattle.specification.proofs.PlanCases.{SearchCase, searching, enumerating, past-both, small, large, PlanCase, when-empty, when-overfull, when-one, when-still, when-out, by-block, plan-case, comes-to-search, search-planned, judgedAs, judged-by}
 
 -- ---- where step 6 enumerates
 
@@ -65,13 +63,10 @@ words-claims = record {
 
 -- ---- freed
 
-carried-freed : (words : ℕ) (p : Plan) (j : Judged) → carryOut words p ≡ done j → j .freed ≡ wordsOf (done p)
-unfolding carryOut wordsOf
-carried-freed words (answered v c) j e = ap (λ (k : Judged). k .freed) (sym (done-inj e))
-carried-freed words (enumerated block) j e =
-    let need = wordsFor (total block) (spanSum block) in
-    ap (λ (k : Judged). k .freed) (sym (done-inj (passed (ltb words need) 9 (need ∷ []) e .1)))
+freed-as : (p : Plan) → judgedAs p .freed ≡ wordsOf (done p)
+unfolding wordsOf
+freed-as (answered v c) = refl
+freed-as (enumerated block) = refl
 
 pub freed-are : (axes : List Axis) (words : ℕ) (j : Judged) → judge axes words ≡ done j → j .freed ≡ wordsNeeded axes
-unfolding judge
-freed-are axes words j e = let b = bound e in carried-freed words (b .what) j (b .after) ∙ ap wordsOf (sym (b .was))
+freed-are axes words j e = let b = judged-by axes words j e in ap (λ (k : Judged). k .freed) (sym (b .comes-to)) ∙ freed-as (b .plan) ∙ ap wordsOf (sym (b .planned))
