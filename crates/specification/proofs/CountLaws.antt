@@ -9,12 +9,14 @@ use Rattle.specification.specs.Axis.{Axis}
 use Rattle.specification.specs.Outcome.{done}
 use Rattle.specification.specs.Search.{ActiveAxis, half, CompletesAt}
 use Rattle.specification.specs.Verdict.{Verdict, Distinct, Repeated, Judged, Plan, blockOf, longer, othersOf, searched, carryOut, judge}
-use Rattle.specification.specs.CountClaims.{Searches, SetApart, TwoCollide, judged, CountClaims}
+use Rattle.specification.specs.CountClaims.{Searches, SetApart, Larger, TwoCollide, judged, CountClaims}
 use Rattle.specification.proofs.OutcomeLaws.{bind-done, done-inj}
+use Rattle.specification.proofs.Sorting.{each-at}
 use Rattle.specification.proofs.BlockLaws.{Lives, perm-lives, still-no, block-lives}
 use Rattle.specification.proofs.TwoAxes.{no-collision-of-two, collision-of-two}
 use Rattle.specification.proofs.SearchLaws.{SearchEnd, collided, completed, exhausted, search-end}
 use Rattle.specification.proofs.PlanCases.{SearchCase, searching, enumerating, past-both, small, large, PlanCase, when-empty, when-one, when-still, by-block, comes-to-search, search-planned, judgedAs, judged-by}
+use Rattle.specification.proofs.AxisNumbers.{two-before-others}
 use Rattle.specification.proofs.VerdictTruth.{apart-perm}
 
 -- ---- where the search is due
@@ -109,5 +111,6 @@ count-claims = record {
   all-passed = λ axes a b words s t n. let l = set-apart-live axes a b s t in
       rw (judge-searched axes a b words s t) (end-passed words (l .0 .moves) (l .1 .0 .moves) (search-end a b (othersOf (blockOf axes))) n);
   two-there = two-to-set-apart;
+  two-largest = λ axes a b t. let w = two-before-others axes a b t in (w .0, λ i h. each-at (Larger b) (othersOf (blockOf axes)) (w .1) i (record { axis = 0; extent = 0; stride = 0 }) h);
   elsewhere = count-elsewhere;
 }

@@ -24,6 +24,7 @@ pub mod VerdictTruth
 pub mod VerdictRefusals
 pub mod VerdictWords
 pub mod VerdictLaws
+pub mod AxisNumbers
 pub mod CountLaws
 pub mod ReachLaws
 pub mod AcceptedLaws
