@@ -26,6 +26,7 @@ pub mod VerdictWords
 pub mod VerdictLaws
 pub mod AxisNumbers
 pub mod CountLaws
+pub mod DigitOrder
 pub mod ReachLaws
 pub mod AcceptedLaws
 pub mod BytesLaws
