@@ -58,7 +58,7 @@ larger-chain a b c (inr h) (inl k) = inl (omega (arith, h .0))
 larger-chain a b c (inr h) (inr k) = inr (omega arith, omega arith)
 
 longer-yes : (a b : ActiveAxis) → longer a b ≡ true → Larger a b
-longer-yes a b = go (ltb (b .extent) (a .extent)) (eqb (a .extent) (b .extent)) (ltb (a .axis) (b .axis)) (ltb-true (b .extent) (a .extent)) (eqb-true (a .extent) (b .extent)) (ltb-true (a .axis) (b .axis))
+longer-yes a b = go _ _ _ (ltb-true _ _) (eqb-true _ _) (ltb-true _ _)
   where
     go : (x y z : Bool) → (x ≡ true → b .extent < a .extent) → (y ≡ true → a .extent ≡ b .extent) → (z ≡ true → a .axis < b .axis) → (x || (y && z)) ≡ true → Larger a b
     go true y z f g h e = inl (f refl)
@@ -67,7 +67,7 @@ longer-yes a b = go (ltb (b .extent) (a .extent)) (eqb (a .extent) (b .extent)) 
     go false false z f g h e = absurd (false≢true e)
 
 longer-no : (a b : ActiveAxis) → Differ a b → longer a b ≡ false → Larger b a
-longer-no a b n = go (ltb (b .extent) (a .extent)) (eqb (a .extent) (b .extent)) (ltb (a .axis) (b .axis)) (ltb-false (b .extent) (a .extent)) (eqb-true (a .extent) (b .extent)) (eqb-false (a .extent) (b .extent)) (ltb-false (a .axis) (b .axis))
+longer-no a b n = go _ _ _ (ltb-false _ _) (eqb-true _ _) (eqb-false _ _) (ltb-false _ _)
   where
     go : (x y z : Bool) → (x ≡ false → a .extent ≤ b .extent) → (y ≡ true → a .extent ≡ b .extent) → (y ≡ false → a .extent ≢ b .extent) → (z ≡ false → b .axis ≤ a .axis) → (x || (y && z)) ≡ false → Larger b a
     go true y z f g k h e = absurd (true≢false e)

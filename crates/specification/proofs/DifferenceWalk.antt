@@ -15,9 +15,9 @@ pub widths-positive : (l : List ActiveAxis) → PositiveExtents (lengths l) → 
 widths-positive [] none = none
 widths-positive (a ∷ r) (more h t) = let z : 0 < 2 * a .extent - 1 = omega arith in more z (widths-positive r t)
 
-pub no-difference-within : (l : List ActiveAxis) → PositiveExtents (lengths l) → IndexVector (widths l) (noDifference l)
-no-difference-within [] none = empty
-no-difference-within (a ∷ r) (more h t) = let z : a .extent - 1 < 2 * a .extent - 1 = omega arith in _and_ z (no-difference-within r t)
+pub noDifference-within : (l : List ActiveAxis) → PositiveExtents (lengths l) → IndexVector (widths l) (noDifference l)
+noDifference-within [] none = empty
+noDifference-within (a ∷ r) (more h t) = let z : a .extent - 1 < 2 * a .extent - 1 = omega arith in _and_ z (noDifference-within r t)
 
 mid-reach : (l : List ActiveAxis) → reach l (noDifference l) ≡ spanSum l
 unfolding reach spanSum
@@ -64,7 +64,7 @@ opp-mid (a ∷ r) = ap₂ (λ (u : ℕ) (v : List ℕ). u ∷ v) (omega arith) (
 
 pub half-half : (l : List ActiveAxis) → PositiveExtents (lengths l) → 2 * middle l + 1 ≡ product (widths l)
 unfolding middle
-half-half l h = omega (arith, opp-place l (no-difference-within l h), ap (λ (z : List ℕ). place (widths l) z) (opp-mid l))
+half-half l h = omega (arith, opp-place l (noDifference-within l h), ap (λ (z : List ℕ). place (widths l) z) (opp-mid l))
 
 -- the two axes make up for t
 pub record Solves (a b : ActiveAxis) (t goal : ℕ) : Type 0 where
@@ -97,7 +97,7 @@ two-zero a b r h z = go (z .d) (z .box) (z .some) (z .sum)
     go : (d : List ℕ) → IndexVector (widths (a ∷ b ∷ [])) d → d ≢ noDifference (a ∷ b ∷ []) → reach (a ∷ b ∷ []) d ≡ spanSum (a ∷ b ∷ []) → ZeroDifference (a ∷ b ∷ r)
     go _ (_and_ {i = u} hu (_and_ {i = v} hv empty)) ne e = record {
       d = u ∷ v ∷ noDifference r;
-      box = _and_ hu (_and_ hv (no-difference-within r h));
+      box = _and_ hu (_and_ hv (noDifference-within r h));
       some = λ q. let qu : u ≡ a .extent - 1 = cc in let qv : v ≡ b .extent - 1 = cc in ne (ap₂ (λ (x y : ℕ). x ∷ y ∷ []) qu qv);
       sum = omega (arith, e, mid-reach r);
     }
@@ -129,7 +129,7 @@ zero-split a b r h z = go (z .d) (z .box) (z .some) (z .sum)
           };
         })
         pick (no p) (no q) =
-            let m : d ≡ noDifference r = place-inj bd (no-difference-within r h) (omega arith) in
+            let m : d ≡ noDifference r = place-inj bd (noDifference-within r h) (omega arith) in
             inl (record {
               d = u ∷ v ∷ [];
               box = _and_ hu (_and_ hv empty);

@@ -15,7 +15,7 @@ use Rattle.specification.specs.CountClaims.{numberOfDigits, Small, NoneE
 use Rattle.specification.proofs.Positions.{IndexVector, empty, _and_, place}
 use Rattle.specification.proofs.Digits.{PositiveExtents, none, more, indexAt-within, place-indexAt, indexAt-place, place-lt}
 use Rattle.specification.proofs.Differences.{noDifference}
-use Rattle.specification.proofs.DifferenceWalk.{widths-positive, no-difference-within, middle, half-half}
+use Rattle.specification.proofs.DifferenceWalk.{widths-positive, noDifference-within, middle, half-half}
 use Rattle.specification.proofs.Sorting.{each-two-at}
 use Rattle.specification.proofs.SearchLaws.{half-is}
 use Rattle.specification.proofs.AxisNumbers.{others-ascend}
@@ -102,7 +102,7 @@ no-difference-zero (a ∷ r) (suc i) = no-difference-zero r i
 
 half-is-zero : (others : List ActiveAxis) → PositiveExtents (lengths others) → differenceAt others (half others) ≡ fromDigits others (noDifference others)
 unfolding middle
-half-is-zero others h = ap (λ (k : ℕ). differenceAt others k) (half-is others h) ∙ ap (fromDigits others) (indexAt-place (no-difference-within others h))
+half-is-zero others h = ap (λ (k : ℕ). differenceAt others k) (half-is others h) ∙ ap (fromDigits others) (indexAt-place (noDifference-within others h))
 
 -- ---- the claims
 

@@ -31,16 +31,17 @@ many-case : (block : List ActiveAxis) → 3 ≤ length block → SearchCase bloc
 unfolding byMany pastSearch
 many-case block h = go (sortBy longer block) refl (perm-length (sort-perm longer block))
   where
-    pick : (a b : ActiveAxis) (more : List ActiveAxis) → sortBy longer block ≡ a ∷ b ∷ more → (t u : Bool) → leb (half (othersOf block)) 4194304 ≡ t → leb (total block) 16777216 ≡ u
+    pick : {a b : ActiveAxis} {more : List ActiveAxis} → sortBy longer block ≡ a ∷ b ∷ more → (t u : Bool)
+        → (t ≡ true → half (othersOf block) ≤ 4194304) → (t ≡ false → 4194304 < half (othersOf block)) → (u ≡ true → total block ≤ 16777216) → (u ≡ false → 16777216 < total block)
         → SearchCase block (if t then searched a b (othersOf block) else if u then enumerated block else answered Undecided 0)
-    pick a b more e true u p q = searching (leb-true (half (othersOf block)) 4194304 p) e
-    pick a b more e false true p q = enumerating (leb-false (half (othersOf block)) 4194304 p) (leb-true (total block) 16777216 q)
-    pick a b more e false false p q = past-both (leb-false (half (othersOf block)) 4194304 p) (leb-false (total block) 16777216 q)
+    pick e true u p n q m = searching (p refl) e
+    pick e false true p n q m = enumerating (n refl) (q refl)
+    pick e false false p n q m = past-both (n refl) (m refl)
 
     go : (s : List ActiveAxis) → sortBy longer block ≡ s → length block ≡ length s → SearchCase block (byMany block s)
     go [] e n = absurd (omega arith)
     go (a ∷ []) e n = absurd (omega arith)
-    go (a ∷ b ∷ more) e n = pick a b more e (leb (half (othersOf block)) 4194304) (leb (total block) 16777216) refl refl
+    go (a ∷ b ∷ more) e n = pick e _ _ (leb-true _ _) (leb-false _ _) (leb-true _ _) (leb-false _ _)
 
 -- ---- the block: steps 3 and 4
 

@@ -25,11 +25,11 @@ words-enumerated axes e = let w = search-planned axes (e .comes) in ap wordsOf (
 
 words-of-bitmap : (total span : ℕ) → span / 64 ≤ total → wordsFor total span ≡ span / 64 + 1
 unfolding wordsFor
-words-of-bitmap total span h = rw (le-leb (span / 64) total h)
+words-of-bitmap total span h = rw le-leb
 
 words-of-list : (total span : ℕ) → total < span / 64 → wordsFor total span ≡ total
 unfolding wordsFor
-words-of-list total span h = rw (lt-leb (span / 64) total h)
+words-of-list total span h = rw lt-leb
 
 -- ---- elsewhere
 
