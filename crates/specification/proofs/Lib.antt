@@ -25,6 +25,7 @@ pub mod VerdictRefusals
 pub mod VerdictWords
 pub mod VerdictLaws
 pub mod AxisNumbers
+pub mod BlockEnds
 pub mod CountLaws
 pub mod DigitOrder
 pub mod ReachLaws
