@@ -18,6 +18,7 @@ use Rattle.specification.specs.CountClaims.{SetApart, Larger}
 use Rattle.specification.proofs.Sorting.{Each, EachTwo, Tells, each-implies, each-two-implies, each-two-drop, perm-each, perm-each-two, sort-perm, sort-sorted}
 use Rattle.specification.proofs.BlockLaws.{last-each-two}
 
+-- two axes have different numbers
 abbrev Differ : ActiveAxis → ActiveAxis → Type 0
 Differ a b = a .axis ≢ b .axis
 
@@ -48,7 +49,7 @@ sort-differ before l d = perm-each-two Differ (λ a b n e. n (sym e)) (sort-perm
 
 block-differ : (axes : List Axis) → EachTwo Differ (blockOf axes)
 unfolding blockOf
-block-differ axes = last-each-two Differ 0 (sortBy smaller (activeFrom 0 axes)) (sort-differ smaller (activeFrom 0 axes) (active-differ 0 axes))
+block-differ axes = last-each-two Differ _ (sortBy smaller (activeFrom 0 axes)) (sort-differ smaller (activeFrom 0 axes) (active-differ 0 axes))
 
 -- ---- two keys: the first decides, then the axis
 

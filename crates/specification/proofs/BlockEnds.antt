@@ -1,8 +1,8 @@
 -- Where the block ends: the last axis of it, and each behind it, held against the absolute spans before.
-use mathlib.Core.Path.{_≡_, refl, sym, ap, _∙_}
+use mathlib.Core.Path.{_≡_, refl, ap}
 use mathlib.Core.Bool.{Bool, true, false}
 use mathlib.Core.List.{List, [], _∷_, _++_}
-use Prim.Native.Nat.{ℕ, suc, _+_, _*_, _-_, _<_, _≤_}
+use Prim.Native.Nat.{ℕ, _+_, _*_, _-_, _<_, _≤_}
 use native.Mathlib.Omega.{arith}
 use lib.Dec.{leb}
 use lib.ListN.{length, length-append}
@@ -63,7 +63,7 @@ pub block-claims : BlockClaims
 unfolding blockOf
 block-claims = record {
   ordered = λ axes i h. each-two-at Smaller (inOrder axes) (in-order axes) i (record { axis = 0; extent = 0; stride = 0 }) h;
-  in-front = λ axes. last-in-front 0 (inOrder axes);
+  in-front = λ axes. last-in-front _ (inOrder axes);
   last-of = λ axes front last e. omega (arith, last-bounded 0 (inOrder axes) front last e);
   none-behind = λ axes front a behind e h. omega (arith, behind-unbounded 0 (inOrder axes) front a behind e h);
 }

@@ -174,7 +174,7 @@ still-no k (a ∷ r) e = go (ltb 1 (a .extent)) (eqZ (a .stride) (pos 0)) (ltb�
 
 pub block-lives : (l : List Axis) → Lives (activeFrom 0 l) → Lives (blockOf l)
 unfolding blockOf
-block-lives l v = last-each Live 0 (sortBy smaller (activeFrom 0 l)) (perm-lives (sort-perm smaller (activeFrom 0 l)) v)
+block-lives l v = last-each Live _ (sortBy smaller (activeFrom 0 l)) (perm-lives (sort-perm smaller (activeFrom 0 l)) v)
 
 pub block-apart : (l : List Axis) → SumsApart (blockOf l) → SumsApart (activeFrom 0 l)
 unfolding blockOf spanSum

@@ -30,6 +30,7 @@ none-empty (a ∷ r) h = more (h 0 (omega arith)) (none-empty r (λ i k. h (suc 
 
 -- ---- digits of differences
 
+-- the digits delta + extent - 1
 digitsOf : List ActiveAxis → List ℤ → List ℕ
 digitsOf [] deltas = []
 digitsOf (a ∷ rest) [] = []
@@ -59,7 +60,7 @@ difference-of-digit d m h = parts-ext (omega (arith, digit-is d m h, shifted (na
 
 -- ---- small differences
 
--- axis by axis
+-- each difference below its extent, axis by axis
 data EachSmall : List ActiveAxis → List ℤ → Type 0 where
   none-left : EachSmall [] []
   small-and : {a : ActiveAxis} {d : ℤ} {r : List ActiveAxis} {deltas : List ℤ} → natAbs d < a .extent → EachSmall r deltas → EachSmall (a ∷ r) (d ∷ deltas)

@@ -19,6 +19,7 @@ use Rattle.specification.specs.Verdict.{activeFrom, upToLast, smaller, b
 use Rattle.specification.proofs.NormalAxes.{AllPositive}
 use Rattle.specification.proofs.NormalLaws.{full-pos, positions-pos}
 
+-- every extent is 1
 abbrev AllOne : List Axis → Type 0
 AllOne [] = Unit {0}
 AllOne (a ∷ rest) = (a .extent ≡ 1) × AllOne rest

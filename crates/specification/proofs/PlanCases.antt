@@ -5,7 +5,7 @@ use mathlib.Core.Bool.{Bool, true, false, false≢true}
 use mathlib.Core.List.{List, [], _∷_}
 use Prim.Native.Nat.{ℕ, _-_, _<_, _≤_}
 use native.Mathlib.Omega.{arith}
-use lib.Dec.{eqb, ltb, leb}
+use lib.Dec.{eqb, ltb}
 use lib.ListN.{length}
 use borrow.Author.Tests.{ltb-true, ltb-false, leb-true, leb-false, eqb-true}
 use Rattle.specification.specs.Tests.{if_then_else_, isYes, some, sortBy}
@@ -22,6 +22,7 @@ use Rattle.specification.proofs.Sorting.{perm-length, sort-perm}
 
 -- ---- three axes or more: steps 5 and 6
 
+-- half within the budget, total within its own, or neither
 pub data SearchCase (block : List ActiveAxis) : Plan → Type 0 where
   searching : {a b : ActiveAxis} {more : List ActiveAxis} → half (othersOf block) ≤ 4194304 → sortBy longer block ≡ a ∷ b ∷ more → SearchCase block (searched a b (othersOf block))
   enumerating : 4194304 < half (othersOf block) → total block ≤ 16777216 → SearchCase block (enumerated block)
@@ -53,6 +54,7 @@ pub data SmallCase : List ActiveAxis → Verdict → Type 0 where
   two-apart : {a b : ActiveAxis} → twoDistinct a b ≡ true → SmallCase (a ∷ b ∷ []) Distinct
   two-meet : {a b : ActiveAxis} → twoDistinct a b ≡ false → SmallCase (a ∷ b ∷ []) Repeated
 
+-- small, or searched and enumerated
 pub data BlockCase (block : List ActiveAxis) : Plan → Type 0 where
   small : {v : Verdict} → SmallCase block v → BlockCase block (answered v 0)
   large : {p : Plan} → 3 ≤ length block → total block - 1 ≤ spanSum block → SearchCase block p → BlockCase block p
@@ -79,13 +81,14 @@ block-case (a ∷ more) = go (ltb (spanSum (a ∷ more)) (total (a ∷ more) - 1
 
 -- ---- steps 1 and 2
 
--- what they leave to the block
+-- what they let pass to the block
 pub record ToBlock (axes : List Axis) : Type 0 where
   pub no-zero-extent : isEmpty axes ≡ false
   pub not-eight : overfull axes ≡ false
   pub no-still-axis : some still axes ≡ false
   pub not-three : outOfRange axes ≡ false
 
+-- in 01's order: empty, 8, one position, an active stride 0, 3, the block
 pub data PlanCase (axes : List Axis) : Outcome Plan → Type 0 where
   when-empty : isEmpty axes ≡ true → PlanCase axes (done (answered Distinct 0))
   when-overfull : isEmpty axes ≡ false → overfull axes ≡ true → PlanCase axes (refused 8 [])
@@ -132,9 +135,11 @@ plan-case axes = first (isEmpty axes) refl
 
 -- ---- a block that is searched
 
+-- a test cannot both fail and hold
 pub contrary : {A : Type 0} {t : Bool} → t ≡ false → t ≡ true → A
 contrary p q = absurd (false≢true (sym p ∙ q))
 
+-- a block of three axes or more that is not crowded is not small
 not-small : {block : List ActiveAxis} {v : Verdict} → SmallCase block v → 3 ≤ length block → total block - 1 ≤ spanSum block → ⊥
 not-small no-block n h = omega arith
 not-small one-axis n h = omega arith
@@ -151,6 +156,7 @@ plan-of-large (when-still f o q) e s n h = contrary s q
 plan-of-large (by-block t (small c)) e s n h = absurd (not-small c n h)
 plan-of-large (by-block t (large m k c)) e s n h = c
 
+-- what holds of such a block, under the names of the claims
 pub comes-to-search : {axes : List Axis} → ToBlock axes → 3 ≤ length (blockOf axes) → total (blockOf axes) - 1 ≤ spanSum (blockOf axes) → ComesToSearch axes
 comes-to-search t n h = record {
   no-zero-extent = t .no-zero-extent;
@@ -161,7 +167,7 @@ comes-to-search t n h = record {
   not-crowded = h;
 }
 
--- and there is one where nothing is refused
+-- and where nothing is refused there is such a plan
 pub search-planned : (axes : List Axis) → ComesToSearch axes → (p : Plan) × (planOf axes ≡ done p) × SearchCase (blockOf axes) p
 search-planned axes c = go (planOf axes) refl (plan-case axes)
   where
@@ -182,6 +188,7 @@ unfolding carryOut
 carried words (answered v c) e = done-inj e
 carried words (enumerated block) e = let need = wordsFor (total block) (spanSum block) in done-inj (passed (ltb words need) 9 (need ∷ []) e .1)
 
+-- the plan behind an answer, and how it came about
 pub record JudgedBy (axes : List Axis) (j : Judged) : Type 0 where
   pub plan : Plan
   pub planned : planOf axes ≡ done plan

@@ -6,7 +6,7 @@ use mathlib.Core.List.{List, [], _∷_}
 use Prim.Native.Nat.{ℕ, _+_, _*_, _/_, _<_}
 use native.Mathlib.Omega.{arith}
 use lib.Dec.{T, leb, leb→le, nleb→lt}
-use lib.IntN.{ℤ, pos, negsuc, natAbs, _+ℤ_, _-ℤ_, +ℤ-idr}
+use lib.IntN.{ℤ, pos, negsuc, natAbs, _-ℤ_, +ℤ-idr}
 use Rattle.integer.specs.Gcd.{gcd}
 use Rattle.integer.specs.Parts.{posPart, negPart}
 use Rattle.integer.proofs.GcdLaws.{Meet, meet, meet-only}

@@ -2,7 +2,7 @@
 use mathlib.Core.Path.{_≡_, refl, ap, subst₂, _∙_}
 use mathlib.Core.Bool.{Bool, true, false}
 use mathlib.Core.List.{List, [], _∷_}
-use Prim.Native.Nat.{ℕ, _-_, _<_}
+use Prim.Native.Nat.{ℕ, _<_}
 use native.Mathlib.Omega.{arith}
 use lib.Dec.{ltb}
 use borrow.Author.Tests.{ltb-true, lt-ltb}
@@ -48,6 +48,7 @@ plan-three axes f o s h = go (planOf axes) (plan-case axes)
 
 -- ---- the verdict is refused 8, 3 or 9
 
+-- the three, with where each stands and what it returns
 pub data Refusal (axes : List Axis) (words : ℕ) : ℕ → List ℕ → Type 0 where
   eight : overfull axes ≡ true → Refusal axes words 8 []
   three : isEmpty axes ≡ false → overfull axes ≡ false → some still axes ≡ false → outOfRange axes ≡ true → Refusal axes words 3 []

@@ -28,6 +28,7 @@ use Rattle.specification.proofs.PlanCases.{SmallCase, no-block, one-axi
 
 -- ---- a block
 
+-- with no axes there is one index vector
 only-one : {x y : List ℕ} → IndexVector [] x → IndexVector [] y → x ≡ y
 only-one empty empty = refl
 
@@ -45,7 +46,7 @@ says-small U (crowded {block} h) l = crowded-pair block (lives-pos block l) (ome
 says-small U (two-apart {a} {b} e) l = no-pair (a ∷ b ∷ []) (no-pair-of-two a b (l .0 .moves) (l .1 .0 .moves) e)
 says-small U (two-meet {a} {b} e) l = pair-of-two a b (l .0 .moves) (l .1 .0 .moves) e
 
--- the two set apart, and the others
+-- the block is the two set apart and the others, in another order
 pub apart-perm : (block : List ActiveAxis) (a b : ActiveAxis) (more : List ActiveAxis) → sortBy longer block ≡ a ∷ b ∷ more → Perm block (a ∷ b ∷ othersOf block)
 unfolding othersOf
 apart-perm block a b more e = subst (λ (s : List ActiveAxis). Perm block (a ∷ b ∷ sortBy lower (drop 2 s))) (sym e)
