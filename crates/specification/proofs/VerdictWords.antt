@@ -23,13 +23,13 @@ words-enumerated : (axes : List Axis) → Enumerates axes → wordsNeeded axes �
 unfolding wordsOf
 words-enumerated axes e = let w = search-planned axes (e .comes) in ap wordsOf (w .1 ∙ ap done (enumerating-plan (w .2) (e .past-search) (e .within)))
 
-words-of-bitmap : (total span : ℕ) → span / 64 ≤ total → wordsFor total span ≡ span / 64 + 1
+words-of-bitmap : (n s : ℕ) → s / 64 ≤ n → wordsFor n s ≡ s / 64 + 1
 unfolding wordsFor
-words-of-bitmap total span h = rw le-leb
+words-of-bitmap n s h = rw le-leb
 
-words-of-list : (total span : ℕ) → total < span / 64 → wordsFor total span ≡ total
+words-of-list : (n s : ℕ) → n < s / 64 → wordsFor n s ≡ n
 unfolding wordsFor
-words-of-list total span h = rw lt-leb
+words-of-list n s h = rw lt-leb
 
 -- ---- elsewhere
 
