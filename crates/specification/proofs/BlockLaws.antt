@@ -9,7 +9,7 @@ use lib.Dec.{T, leb, ltb, eqb, nleb→lt, ltb→lt, nltb→le, eqb·suc-zero}
 use lib.IntN.{ℤ, pos, negsuc, natAbs}
 use borrow.Author.Tests.{eqb-true, eqb-false}
 use Rattle.integer.specs.Multiple.{eqZ}
-use Rattle.specification.specs.Tests.{if_then_else_, some, insertBy, sortBy}
+use Rattle.specification.specs.Tests.{if_then_else_, some, sortBy}
 use Rattle.specification.specs.Axis.{Axis}
 use Rattle.specification.specs.Search.{ActiveAxis, lengths, reach, spanSum}
 use Rattle.specification.specs.Verdict.{activeFrom, upToLast, smaller, blockOf, still}
@@ -20,6 +20,7 @@ use Rattle.specification.proofs.SeparatedAxis.{separated}
 use Rattle.specification.proofs.Digits.{PositiveExtents}
 use Rattle.specification.proofs.Differences.{EqualSums}
 use Rattle.specification.proofs.AxisOrder.{Perm, nil, skip, swap, trans, perm-sym, apart-of-perm, Carry, carry-perm, carry-skip, carry-trans}
+use Rattle.specification.proofs.Sorting.{Each, EachTwo, perm-refl, perm-each, sort-perm}
 use Rattle.specification.proofs.Collisions.{pair-carry, single, single-back, still as still-pair}
 
 -- a pair of the rest is one of the whole
@@ -34,25 +35,7 @@ pair-cons a r h p = record {
   same = ap (λ (z : ℕ). 0 * a .stride + z) (p .same);
 }
 
--- ---- sorting
-
-pub perm-refl : (l : List ActiveAxis) → Perm l l
-perm-refl [] = nil
-perm-refl (a ∷ r) = skip (perm-refl r)
-
-insert-perm : (before : ActiveAxis → ActiveAxis → Bool) (a : ActiveAxis) (r : List ActiveAxis) → Perm (a ∷ r) (insertBy before a r)
-unfolding insertBy
-insert-perm before a [] = skip nil
-insert-perm before a (b ∷ r) = go (before a b) (insert-perm before a r)
-  where
-    go : (t : Bool) → Perm (a ∷ r) (insertBy before a r) → Perm (a ∷ b ∷ r) (if t then a ∷ b ∷ r else b ∷ insertBy before a r)
-    go true p = perm-refl (a ∷ b ∷ r)
-    go false p = trans swap (skip p)
-
-pub sort-perm : (before : ActiveAxis → ActiveAxis → Bool) (l : List ActiveAxis) → Perm l (sortBy before l)
-unfolding sortBy
-sort-perm before [] = nil
-sort-perm before (a ∷ r) = trans (skip (sort-perm before r)) (insert-perm before a (sortBy before r))
+-- ---- an axis moved behind others
 
 middle-perm : (a : ActiveAxis) (r p : List ActiveAxis) → Perm (a ∷ (r ++ p)) (r ++ (a ∷ p))
 middle-perm a [] p = perm-refl (a ∷ p)
@@ -65,30 +48,38 @@ pub record Live (a : ActiveAxis) : Type 0 where
   pub moves : 0 < a .stride
 
 abbrev pub Lives : List ActiveAxis → Type 0
-Lives [] = Unit {0}
-Lives (a ∷ r) = Live a × Lives r
+Lives = Each Live
 
 pub lives-pos : (l : List ActiveAxis) → Lives l → PositiveExtents (lengths l)
 lives-pos [] f = PositiveExtents.none
 lives-pos (a ∷ r) f = let z : 0 < a .extent = omega (arith, f .0 .long) in PositiveExtents.more z (lives-pos r (f .1))
 
 pub perm-lives : {l m : List ActiveAxis} → Perm l m → Lives l → Lives m
-perm-lives nil f = f
-perm-lives (skip p) f = (f .0, perm-lives p (f .1))
-perm-lives swap f = (f .1 .0, (f .0, f .1 .1))
-perm-lives (trans p q) f = perm-lives q (perm-lives p f)
+perm-lives = perm-each Live
 
 -- ---- up to the last axis that is not separated
 
-last-lives : (before : ℕ) (l : List ActiveAxis) → Lives l → Lives (upToLast before l)
+pub last-each : (P : ActiveAxis → Type 0) (before : ℕ) (l : List ActiveAxis) → Each P l → Each P (upToLast before l)
 unfolding upToLast
-last-lives before [] v = v
-last-lives before (a ∷ r) v = go (upToLast (before + (a .extent - 1) * a .stride) r) (leb (a .stride) before) (last-lives (before + (a .extent - 1) * a .stride) r (v .1))
+last-each P before [] e = e
+last-each P before (a ∷ r) e = go (upToLast (before + (a .extent - 1) * a .stride) r) (leb (a .stride) before) (last-each P (before + (a .extent - 1) * a .stride) r (e .1))
   where
-    go : (u : List ActiveAxis) (t : Bool) → Lives u → Lives (elim u [ [] ↦ if t then a ∷ [] else [] | b ∷ more ↦ a ∷ b ∷ more ])
-    go [] true w = (v .0, tt)
+    go : (u : List ActiveAxis) (t : Bool) → Each P u → Each P (elim u [ [] ↦ if t then a ∷ [] else [] | b ∷ more ↦ a ∷ b ∷ more ])
+    go [] true w = (e .0, tt)
     go [] false w = tt
-    go (b ∷ more) t w = (v .0, w)
+    go (b ∷ more) t w = (e .0, w)
+
+pub last-each-two : (R : ActiveAxis → ActiveAxis → Type 0) (before : ℕ) (l : List ActiveAxis) → EachTwo R l → EachTwo R (upToLast before l)
+unfolding upToLast
+last-each-two R before [] e = e
+last-each-two R before (a ∷ r) e =
+    let before′ = before + (a .extent - 1) * a .stride in
+    go (upToLast before′ r) (leb (a .stride) before) (last-each (R a) before′ r (e .0)) (last-each-two R before′ r (e .1))
+  where
+    go : (u : List ActiveAxis) (t : Bool) → Each (R a) u → EachTwo R u → EachTwo R (elim u [ [] ↦ if t then a ∷ [] else [] | b ∷ more ↦ a ∷ b ∷ more ])
+    go [] true w v = (tt, tt)
+    go [] false w v = tt
+    go (b ∷ more) t w v = (w, v)
 
 -- l is what is left, p what was passed
 last-apart : (before : ℕ) (l p : List ActiveAxis) → before ≡ spanSum p → SumsApart (upToLast before l ++ p) → SumsApart (l ++ p)
@@ -193,7 +184,7 @@ still-no k (a ∷ r) e = go (ltb 1 (a .extent)) (eqZ (a .stride) (pos 0)) (ltb�
 -- the axes of the block are active axes
 pub block-lives : (l : List Axis) → Lives (activeFrom 0 l) → Lives (blockOf l)
 unfolding blockOf
-block-lives l v = last-lives 0 (sortBy smaller (activeFrom 0 l)) (perm-lives (sort-perm smaller (activeFrom 0 l)) v)
+block-lives l v = last-each Live _ (sortBy smaller (activeFrom 0 l)) (perm-lives (sort-perm smaller (activeFrom 0 l)) v)
 
 -- sums that tell vectors of the block apart tell those of the active axes apart
 pub block-apart : (l : List Axis) → SumsApart (blockOf l) → SumsApart (activeFrom 0 l)

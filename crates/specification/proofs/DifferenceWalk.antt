@@ -18,7 +18,7 @@ widths-positive [] none = none
 widths-positive (a ∷ r) (more h t) = let z : 0 < 2 * a .extent - 1 = omega arith in more z (widths-positive r t)
 
 -- no difference is one of the vectors
-noDifference-within : (l : List ActiveAxis) → PositiveExtents (lengths l) → IndexVector (widths l) (noDifference l)
+pub noDifference-within : (l : List ActiveAxis) → PositiveExtents (lengths l) → IndexVector (widths l) (noDifference l)
 noDifference-within [] none = empty
 noDifference-within (a ∷ r) (more h t) = let z : a .extent - 1 < 2 * a .extent - 1 = omega arith in _and_ z (noDifference-within r t)
 

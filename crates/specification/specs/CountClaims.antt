@@ -1,6 +1,6 @@
 -- Claims on the count: the place of the first difference vector that completes, in the order of the numbers whose digits the vectors are.
 use mathlib.Core.List.{List, [], _∷_}
-use mathlib.Core.Logic.{_↔_}
+use mathlib.Core.Logic.{_⊎_, _↔_}
 use mathlib.Core.Path.{_≡_}
 use Prim.Native.Nat.{ℕ, suc, _+_, _-_, _*_, _<_, _≤_}
 use lib.IntN.{ℤ, pos, natAbs, _+ℤ_, _*ℤ_}
@@ -21,6 +21,10 @@ pub record Searches (axes : List Axis) : Type 0 where
 pub record SetApart (axes : List Axis) (a b : ActiveAxis) : Type 0 where
   pub more : List ActiveAxis
   pub first-two : sortBy longer (blockOf axes) ≡ a ∷ b ∷ more
+
+-- a goes before b: its extent is larger, or equal and its axis lower
+abbrev pub Larger : ActiveAxis → ActiveAxis → Type 0
+Larger a b = (b .extent < a .extent) ⊎ ((a .extent ≡ b .extent) × (a .axis < b .axis))
 
 -- the two alone collide: a difference of the two, not zero in both, sums to 0 over absolute strides
 pub record TwoCollide (a b : ActiveAxis) : Type 0 where
@@ -48,6 +52,9 @@ pub record CountClaims : Type 0 where
       → (judge axes words ≡ judged Distinct (half (othersOf (blockOf axes)))) ↔ ((d : ℕ) → d < half (othersOf (blockOf axes)) → ¬ (CompletesAt a b (othersOf (blockOf axes)) (suc d)))
   -- where the search is due there are two to set apart
   pub two-there : (axes : List Axis) → Searches axes → (a : ActiveAxis) × (b : ActiveAxis) × SetApart axes a b
+  -- they are the two largest extents (ties: lower axis): the first goes before the second, and that before each other
+  pub two-largest : (axes : List Axis) (a b : ActiveAxis) → SetApart axes a b
+      → Larger a b × ((i : ℕ) → i < length (othersOf (blockOf axes)) → Larger b (getD (othersOf (blockOf axes)) i (record { axis = 0; extent = 0; stride = 0 })))
   -- elsewhere the count is 0
   pub elsewhere : (axes : List Axis) (words : ℕ) (j : Judged) → ¬ (Searches axes) → judge axes words ≡ done j → j .count ≡ 0
 

@@ -19,6 +19,7 @@ pub mod NormalClaims
 pub mod ViewClaims
 pub mod VerdictClaims
 pub mod CountClaims
+pub mod BlockClaims
 pub mod RecordClaims
 pub mod BesideClaims
 pub mod Demand3
