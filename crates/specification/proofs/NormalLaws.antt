@@ -13,6 +13,7 @@ use Rattle.integer.specs.Multiple.{_·_, eqZ}
 use Rattle.specification.specs.Tests.{if_then_else_, some, those}
 use Rattle.specification.specs.Axis.{Axis, positions, product, sumAt, isEmpty}
 use Rattle.specification.specs.Layout.{LayoutM}
+use Rattle.specification.specs.Views.{withAxes}
 use Rattle.specification.specs.Normal.{both, mergeInto, merge, normalAxes, normalOf}
 use Rattle.specification.specs.NormalClaims.{SameOffsets, SameForm, Step, Steps, dropped, merged, further, ended, next, NormalClaims}
 use Rattle.specification.proofs.NormalAxes.{AllPositive, none, more, Normal, Apart, normal, keep, push, join, positions-of-normal, digitSum-of-normal}
@@ -64,6 +65,20 @@ normal-is (a ∷ r) = go (eqb (a .extent) 1) (normal-is r)
     go : (t : Bool) → normalAxes r ≡ normal r → merge (if not t then a ∷ those (λ a. not (eqb (a .extent) 1)) r else those (λ a. not (eqb (a .extent) 1)) r) ≡ keep t a (normal r)
     go true e = e
     go false e = ap (mergeInto a) e ∙ push-is a (normal r)
+
+-- ---- the two cases of the normal form
+
+-- the axes of the normal form of an empty layout
+abbrev pub emptyAxes : List Axis
+emptyAxes = record { extent = 0; stride = pos 0 } ∷ []
+
+pub normal-of-empty : (l : LayoutM) → isEmpty (l .axes) ≡ true → normalOf l ≡ record { buffer = l .buffer; offset = pos 0; axes = emptyAxes }
+unfolding normalOf
+normal-of-empty l e = rw e
+
+pub normal-of-full : (l : LayoutM) → isEmpty (l .axes) ≡ false → normalOf l ≡ withAxes l (normalAxes (l .axes))
+unfolding normalOf
+normal-of-full l e = rw e
 
 -- ---- same offsets
 
