@@ -1,21 +1,21 @@
 -- Demand 3, whole, from the claim on the answers of the views: each list runs as the rules say, and the writer puts into the output
 -- the record of the end layout's normal form, which is canonical.
-use mathlib.Core.Path.{_≡_, refl, sym, ap, ap₂, subst, _∙_}
+use mathlib.Core.Path.{_≡_, refl, sym, ap, subst, _∙_}
 use mathlib.Core.List.{List, [], _∷_, _++_}
-use Prim.Native.Nat.{ℕ, _≤_}
+use Prim.Native.Nat.{ℕ}
 use native.Mathlib.Omega.{arith}
 use lib.ListN.{length, take, drop, getD, length-append, length-drop}
 use lib.Seq.{take-at, drop-at}
 use Rattle.specification.specs.Outcome.{Outcome, Check, done, refused}
 use Rattle.specification.specs.Layout.{LayoutM, rank, Accepted}
 use Rattle.specification.specs.Normal.{normalOf}
-use Rattle.specification.specs.Verdict.{wordsNeeded, ScratchAfter}
-use Rattle.specification.specs.Record.{recordLength, numberFrom, verdictByte, Made, written, writeFrees, outputAfter, writeAnswer, Writing}
+use Rattle.specification.specs.Verdict.{ScratchAfter}
+use Rattle.specification.specs.Record.{recordLength, numberFrom, Made, written, writeFrees, outputAfter, writeAnswer, Writing}
 use Rattle.specification.specs.Calls.{Call, afterCall, answersOf, endOf}
 use Rattle.specification.specs.ViewClaims.{AnswerClaims}
 use Rattle.specification.specs.Demand3.{Run, ended, passed, turned-away, recordIn, AnsweredExactly, TrueByte, RecordMade, Side, Demand3Claim}
 use Rattle.specification.proofs.AcceptedLaws.{ends-keep}
-use Rattle.specification.proofs.BytesLaws.{length-record}
+use Rattle.specification.proofs.RecordFields.{length-recordBytes}
 use Rattle.specification.proofs.WriterLaws.{normal-accepted}
 use Rattle.specification.proofs.RecordFront.{recordThen, length-field, verdict-byte}
 use Rattle.specification.proofs.WriterAnswers.{Writes, writes, answered-exactly}
@@ -51,7 +51,7 @@ module _ (x : LayoutM) (a : Accepted x) (output scratch : List ℕ) {m : Made} (
   record-then = ap (λ (r : Made). r .bytes ++ drop (length (m .bytes)) output) (w .is)
 
   bytes-length : length (m .bytes) ≡ recordLength (rank (normalOf x))
-  bytes-length = ap (λ (r : Made). length (r .bytes)) (w .is) ∙ length-record (normalOf x) (w .j .answer)
+  bytes-length = ap (λ (r : Made). length (r .bytes)) (w .is) ∙ length-recordBytes (normalOf x) (w .j .answer)
 
   counted : numberFrom (outputAfter (done m) output) 0 2 ≡ recordLength (rank (normalOf x))
   counted = ap (λ (b : List ℕ). numberFrom b 0 2) record-then ∙ length-field (normalOf x) (w .j .answer) (drop (length (m .bytes)) output) (normal-accepted x a .few)

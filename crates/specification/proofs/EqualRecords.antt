@@ -1,6 +1,6 @@
 -- Two records are equal exactly if their layouts have the same offsets: the bytes tell the normal form, and the normal form is canonical.
 use mathlib.Core.Path.{_≡_, sym, ap, subst, _∙_}
-use mathlib.Core.List.{List, [], _∷_}
+use mathlib.Core.List.{List, [], _∷_, _++_}
 use mathlib.Core.Logic.{_↔_}
 use Prim.Native.Nat.{ℕ}
 use lib.Dec.{ltb}
@@ -12,11 +12,11 @@ use Rattle.specification.specs.Normal.{normalOf}
 use Rattle.specification.specs.Search.{total, spanSum, wordsFor}
 use Rattle.specification.specs.Decided.{sameSum?}
 use Rattle.specification.specs.Verdict.{Verdict, Distinct, Repeated, Judged, Plan, answered, enumerated, carryOut, judge}
-use Rattle.specification.specs.Record.{Made, recordBytes}
+use Rattle.specification.specs.Record.{recordBytes, Made, withBuffer, layoutFrom}
 use Rattle.specification.specs.NormalClaims.{SameOffsets, SameForm}
 use Rattle.specification.proofs.NormalLaws.{canonical-iff}
-use Rattle.specification.proofs.BytesLaws.{record-inj}
-use Rattle.specification.proofs.WriterLaws.{fields-fit}
+use Rattle.specification.proofs.FieldsFit.{FieldsFit, fields-fit}
+use Rattle.specification.proofs.RecordFront.{layout-told}
 use Rattle.specification.proofs.WriterAnswers.{Writes}
 use Rattle.specification.proofs.OutcomeLaws.{passed, bound, done-inj}
 
@@ -45,14 +45,18 @@ pub same-form-bytes : (l m : LayoutM) (v w : Verdict) → SameForm l m → v ≡
 unfolding recordBytes
 same-form-bytes l m v w f e = λ i. recordBytes (record { buffer = l .buffer; offset = f .same-offset i; axes = f .same-axes i }) (e i)
 
+-- the bytes tell the offset and the axes: each record is read as it was written
+form-told : (l m : LayoutM) (v w : Verdict) → FieldsFit l → FieldsFit m → recordBytes l v ≡ recordBytes m w → SameForm l m
+unfolding withBuffer
+form-told l m v w f g e =
+    let p : withBuffer l ≡ withBuffer m = sym (layout-told l v [] f) ∙ ap (λ (b : List ℕ). layoutFrom (b ++ [])) e ∙ layout-told m w [] g in
+    record { same-offset = ap (λ (x : LayoutM). x .offset) p; same-axes = ap (λ (x : LayoutM). x .axes) p }
+
 module _ (x y : LayoutM) (a : Accepted x) (b : Accepted y) {room room′ words words′ : ℕ} {m m′ : Made} (w : Writes x room words m) (v : Writes y room′ words′ m′) where
   same-offsets : m .bytes ≡ m′ .bytes → SameOffsets x y
   same-offsets e =
-      let f = fields-fit x a (w .few) in
-      let g = fields-fit y b (v .few) in
       let q = ap (λ (r : Made). r .bytes) (sym (w .is)) ∙ e ∙ ap (λ (r : Made). r .bytes) (v .is) in
-      let p = record-inj (normalOf x) (normalOf y) (w .j .answer) (v .j .answer) (f .offset-fits) (g .offset-fits) (f .axes-fit) (g .axes-fit) q in
-      canonical-iff x y .0 (record { same-offset = p .0; same-axes = p .1 })
+      canonical-iff x y .0 (form-told (normalOf x) (normalOf y) (w .j .answer) (v .j .answer) (fields-fit x a (w .few)) (fields-fit y b (v .few)) q)
 
   same-bytes : SameOffsets x y → m .bytes ≡ m′ .bytes
   same-bytes s =

@@ -16,12 +16,11 @@ pub mod NormalLaws
 pub mod BlockLaws
 pub mod SearchLaws
 pub mod OutcomeLaws
-pub mod TestLaws
 pub mod VerdictLaws
 pub mod ReachLaws
 pub mod AcceptedLaws
-pub mod BytesLaws
 pub mod WriterLaws
+pub mod FieldsFit
 pub mod NormalTest
 pub mod RecordFields
 pub mod RecordFront

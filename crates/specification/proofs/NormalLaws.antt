@@ -16,7 +16,7 @@ use Rattle.specification.specs.Layout.{LayoutM}
 use Rattle.specification.specs.Views.{withAxes}
 use Rattle.specification.specs.Normal.{both, mergeInto, merge, normalAxes, normalOf}
 use Rattle.specification.specs.NormalClaims.{SameOffsets, SameForm, Step, Steps, dropped, merged, further, ended, next, NormalClaims}
-use Rattle.specification.proofs.NormalAxes.{AllPositive, none, more, Normal, Apart, normal, keep, push, join, positions-of-normal, digitSum-of-normal}
+use Rattle.specification.proofs.NormalAxes.{AllPositive, none, more, Normal, Apart, normal, keep, push, join, positions-of-normal, digitSum-of-normal, normal-is-normal, normal-positive}
 use Rattle.specification.proofs.Positions.{digitSum-is}
 use Rattle.specification.proofs.NormalOrder as Any
 use Rattle.specification.proofs.NormalScan.{layout-canon}
@@ -65,6 +65,14 @@ normal-is (a ∷ r) = go (eqb (a .extent) 1) (normal-is r)
     go : (t : Bool) → normalAxes r ≡ normal r → merge (if not t then a ∷ those (λ a. not (eqb (a .extent) 1)) r else those (λ a. not (eqb (a .extent) 1)) r) ≡ keep t a (normal r)
     go true e = e
     go false e = ap (mergeInto a) e ∙ push-is a (normal r)
+
+-- the normal form of axes without a zero extent is normal
+pub normalAxes-normal : (l : List Axis) → isEmpty l ≡ false → Normal (normalAxes l)
+normalAxes-normal l e = subst Normal (sym (normal-is l)) (normal-is-normal (full-pos l e))
+
+-- axes that are normal are their own normal form
+pub normalAxes-own : {l : List Axis} → Normal l → normalAxes l ≡ l
+normalAxes-own {l} n = normal-is l ∙ Any.normal-of-normal (normal-positive n) n
 
 -- ---- the two cases of the normal form
 
@@ -156,19 +164,12 @@ to-steps p (ended f) = record { steps = Any.done; normally = end-normal p f }
 to-steps p (next s t) = let e = to-steps (Any.step-pos (to-step s) p) t in record { steps = Any.next (to-step s) (e .steps); normally = e .normally }
 
 -- the buffer length stays
-buffer-stays : (l : LayoutM) → normalOf l .buffer ≡ l .buffer
-unfolding normalOf
-buffer-stays l = go (isEmpty (l .axes))
+pub buffer-stays : (l : LayoutM) → normalOf l .buffer ≡ l .buffer
+buffer-stays l = go (isEmpty (l .axes)) refl
   where
-    full : LayoutM
-    full = record { buffer = l .buffer; offset = l .offset; axes = normalAxes (l .axes) }
-
-    none : LayoutM
-    none = record { buffer = l .buffer; offset = pos 0; axes = record { extent = 0; stride = pos 0 } ∷ [] }
-
-    go : (t : Bool) → (if t then none else full) .buffer ≡ l .buffer
-    go true = refl
-    go false = refl
+    go : (t : Bool) → isEmpty (l .axes) ≡ t → normalOf l .buffer ≡ l .buffer
+    go true e = ap (λ (x : LayoutM). x .buffer) (normal-of-empty l e)
+    go false e = ap (λ (x : LayoutM). x .buffer) (normal-of-full l e)
 
 pub normal-claims : NormalClaims
 normal-claims = record {

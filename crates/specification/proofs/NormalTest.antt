@@ -4,7 +4,7 @@ use mathlib.Core.Path.{_≡_, refl, sym, ap, ap₂, subst, _∙_}
 use mathlib.Core.Bool.{Bool, true, false, not, _&&_, _||_}
 use mathlib.Core.List.{List, [], _∷_}
 use mathlib.Core.Logic.{_↔_}
-use Prim.Native.Nat.{ℕ, _+_, _<_, _≤_}
+use Prim.Native.Nat.{ℕ, _≤_}
 use native.Mathlib.Omega.{arith}
 use lib.Dec.{T, eqb, ltb}
 use lib.IntN.{ℤ, pos}
@@ -15,20 +15,18 @@ use Rattle.integer.specs.Multiple.{eqZ, _·_}
 use Rattle.integer.proofs.MultipleLaws.{eqZ-yes, eqZ-no}
 use Rattle.integer.proofs.PartLaws.{leZ-true, le-leZ, le-parts, parts-le}
 use Rattle.integer.specs.Range.{mostSigned}
-use Rattle.specification.specs.Tests.{if_then_else_, some}
-use Rattle.specification.specs.Axis.{Axis, positions, isEmpty}
-use Rattle.specification.specs.Layout.{LayoutM, offsetAt, lowest, highest}
-use Rattle.specification.specs.Views.{withAxes}
-use Rattle.specification.specs.Normal.{continues, normalAxes, normalOf, overfull}
+use Rattle.specification.specs.Tests.{some}
+use Rattle.specification.specs.Axis.{Axis, isEmpty}
+use Rattle.specification.specs.Layout.{LayoutM, lowest, highest}
+use Rattle.specification.specs.Normal.{continues, normalAxes, overfull}
 use Rattle.specification.specs.Record.{isMerged, isEmptyForm, isNormal}
-use Rattle.specification.specs.NormalClaims.{SameForm}
 use Rattle.specification.specs.RecordClaims.{NormalRecord}
-use Rattle.specification.proofs.NormalAxes.{Normal, none, more, normal-positive, normal-is-normal, Continues}
-use Rattle.specification.proofs.NormalOrder.{normal-of-normal}
-use Rattle.specification.proofs.NormalLaws.{emptyAxes, normal-of-empty, normal-of-full, empty-none, full-pos, normal-is}
+use Rattle.specification.proofs.NormalAxes.{Normal, none, more, normal-positive}
+use Rattle.specification.proofs.NormalLaws.{emptyAxes, empty-none, normalAxes-normal, normalAxes-own, normal-of-empty, normal-of-full}
 use Rattle.specification.proofs.ReachLaws.{reach-of, and-true}
 use Rattle.specification.proofs.AcceptedLaws.{or-true}
-use Rattle.specification.proofs.WriterLaws.{not-empty}
+use Rattle.specification.proofs.FieldsFit.{not-empty}
+use Rattle.specification.proofs.OutcomeLaws.{false-unless}
 
 -- ---- merged axes
 
@@ -46,11 +44,7 @@ unfolding isMerged
 normal-merged none = refl
 normal-merged (more {a} h f none) = lt-ltb 1 (a .extent) h
 normal-merged (more {a} h f (more {a = b} {r} k g t)) =
-    rw (lt-ltb 1 (a .extent) h, apart (continues a b) (eqZ-yes (b .stride) (a .extent · (a .stride)))) (normal-merged (more {a = b} {r = r} k g t))
-  where
-    apart : (t : Bool) → (T t → Continues a b) → t ≡ false
-    apart true p = absurd (f (p tt))
-    apart false p = refl
+    rw (lt-ltb 1 (a .extent) h, false-unless (continues a b) (λ e. eqZ-yes (b .stride) (a .extent · (a .stride)) (subst T (sym e) tt)) f) (normal-merged (more {a = b} {r = r} k g t))
 
 -- ---- the form of an empty layout
 
@@ -106,7 +100,7 @@ merged-record l e =
     let full = not-empty (normal-positive m) in
     let n = normal-of-full l full in
     record {
-      normal = record { same-offset = ap (λ (x : LayoutM). x .offset) n; same-axes = ap (λ (x : LayoutM). x .axes) n ∙ normal-is (l .axes) ∙ normal-of-normal (normal-positive m) m };
+      normal = record { same-offset = ap (λ (x : LayoutM). x .offset) n; same-axes = ap (λ (x : LayoutM). x .axes) n ∙ normalAxes-own m };
       few = not-true (overfull (l .axes)) (r .1);
       within = λ k h. let b = reach-of l full .between k h in (
         parts-le (omega (arith, le-parts (b .0), leZ-true (pos 0) (lowest l) (q .1))),
@@ -118,7 +112,7 @@ full-passes : (l : LayoutM) → isEmpty (l .axes) ≡ false → NormalRecord l �
 unfolding isNormal
 full-passes l e r =
     let own : normalAxes (l .axes) ≡ l .axes = ap (λ (x : LayoutM). x .axes) (sym (normal-of-full l e)) ∙ r .normal .same-axes in
-    let m : Normal (l .axes) = subst Normal (sym (normal-is (l .axes)) ∙ own) (normal-is-normal (full-pos (l .axes) e)) in
+    let m : Normal (l .axes) = subst Normal own (normalAxes-normal (l .axes) e) in
     let w = reach-of l e in
     let low : pos 0 ≤ℤ lowest l = subst (λ (z : ℤ). pos 0 ≤ℤ z) (w .low) (r .within (w .low-at) (w .low-is) .0) in
     let high : highest l ≤ℤ pos mostSigned = subst (λ (z : ℤ). z ≤ℤ pos mostSigned) (w .high) (r .within (w .high-at) (w .high-is) .1) in

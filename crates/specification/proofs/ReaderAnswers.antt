@@ -13,12 +13,11 @@ use Rattle.specification.specs.Outcome.{Outcome, done, refused, refuseIf
 use Rattle.specification.specs.Verdict.{Judged, judge, freedBy, wordsNeeded}
 use Rattle.specification.specs.Record.{verdictByte, fieldsRight, isNormal, layoutFrom, WasRead, readOf, readFrees}
 use Rattle.specification.specs.RecordClaims.{WholeRecord, ReadRefused, no-record, too-short, false-verdict, ReaderClaims}
-use Rattle.specification.proofs.TestLaws.{false-unless}
 use Rattle.specification.proofs.ReachLaws.{and-true}
 use Rattle.specification.proofs.NormalTest.{normal-tested}
 use Rattle.specification.proofs.JudgeLaws.{Judging, is-judged, too-few, judging}
 use Rattle.specification.proofs.ReaderLaws.{whole-accepted}
-use Rattle.specification.proofs.OutcomeLaws.{clash, refuse-yes, refuse-no, bind-done, bind-refused}
+use Rattle.specification.proofs.OutcomeLaws.{clash, false-unless, refuse-yes, refuse-no, bind-done, bind-refused}
 
 -- ---- a whole record or not
 

@@ -11,9 +11,8 @@ use borrow.Author.Tests.{le-ltb, le-leb, eq-eqb}
 use Rattle.specification.specs.Layout.{LayoutM, rank}
 use Rattle.specification.specs.Verdict.{Verdict, Distinct, Repeated, Undecided}
 use Rattle.specification.specs.Record.{bigEndian, twos, verdictByte, recordLength, axisBytes, recordBytes, numberFrom, signedFrom, axesFrom, fieldsRight, withBuffer, layoutFrom, restOf}
-use Rattle.specification.proofs.BytesLaws.{length-big, length-record}
-use Rattle.specification.proofs.WriterLaws.{FieldsFit}
-use Rattle.specification.proofs.RecordFields.{num-at, signed-at, axes-at}
+use Rattle.specification.proofs.FieldsFit.{FieldsFit}
+use Rattle.specification.proofs.RecordFields.{length-bigEndian, length-recordBytes, numberFrom-at, signedFrom-at, axesFrom-at}
 
 -- a record, and bytes behind it
 abbrev pub recordThen : LayoutM → Verdict → List ℕ → List ℕ
@@ -42,12 +41,12 @@ module _ (n : LayoutM) (v : Verdict) (behind : List ℕ) where
   rank-byte = refl
 
   whole-length : length (recordThen n v behind) ≡ recordLength (rank n) + length behind
-  whole-length = length-append (recordBytes n v) behind ∙ ap (λ (k : ℕ). k + length behind) (length-record n v)
+  whole-length = length-append (recordBytes n v) behind ∙ ap (λ (k : ℕ). k + length behind) (length-recordBytes n v)
 
   offset-field : FieldsFit n → signedFrom (recordThen n v behind) 5 ≡ n .offset
   unfolding recordBytes
   offset-field f =
-      ap (λ (b : List ℕ). signedFrom b 5) shape ∙ signed-at (header n v) (n .offset) (axisBytes (n .axes) ++ behind) 5 (simp (length-append, length-big)) (f .offset-fits)
+      ap (λ (b : List ℕ). signedFrom b 5) shape ∙ signedFrom-at (header n v) (n .offset) (axisBytes (n .axes) ++ behind) 5 (simp (length-append, length-bigEndian)) (f .offset-fits)
     where
       shape : recordThen n v behind ≡ header n v ++ (bigEndian 8 (twos (n .offset)) ++ (axisBytes (n .axes) ++ behind))
       shape = simp append-assoc
@@ -55,7 +54,7 @@ module _ (n : LayoutM) (v : Verdict) (behind : List ℕ) where
   axis-fields : FieldsFit n → axesFrom (recordThen n v behind) 13 (rank n) ≡ n .axes
   unfolding recordBytes
   axis-fields f =
-      ap (λ (b : List ℕ). axesFrom b 13 (rank n)) shape ∙ axes-at (n .axes) (header n v ++ bigEndian 8 (twos (n .offset))) behind 13 (simp (length-append, length-big)) (f .axes-fit)
+      ap (λ (b : List ℕ). axesFrom b 13 (rank n)) shape ∙ axesFrom-at (n .axes) (header n v ++ bigEndian 8 (twos (n .offset))) behind 13 (simp (length-append, length-bigEndian)) (f .axes-fit)
     where
       shape : recordThen n v behind ≡ (header n v ++ bigEndian 8 (twos (n .offset))) ++ (axisBytes (n .axes) ++ behind)
       shape = simp append-assoc
@@ -71,7 +70,7 @@ module _ (n : LayoutM) (v : Verdict) (behind : List ℕ) where
 module _ (n : LayoutM) (v : Verdict) (behind : List ℕ) (few : rank n ≤ 16) where
   pub length-field : numberFrom (recordThen n v behind) 0 2 ≡ recordLength (rank n)
   unfolding recordBytes
-  length-field = ap (λ (b : List ℕ). numberFrom b 0 2) shape ∙ num-at [] 2 (recordLength (rank n)) tail 0 refl (small few)
+  length-field = ap (λ (b : List ℕ). numberFrom b 0 2) shape ∙ numberFrom-at [] 2 (recordLength (rank n)) tail 0 refl (small few)
     where
       tail : List ℕ
       tail = (1 ∷ verdictByte v ∷ rank n ∷ []) ++ (bigEndian 8 (twos (n .offset)) ++ (axisBytes (n .axes) ++ behind))
@@ -108,4 +107,4 @@ module _ (n : LayoutM) (v : Verdict) (behind : List ℕ) (few : rank n ≤ 16) w
         le-ltb (recordLength (rank n)) 13 (omega arith),
         le-ltb (length (recordThen n v behind)) (recordLength (rank n)) (omega (arith, whole-length n v behind)),
       )
-      (drop-at (recordBytes n v) behind (recordLength (rank n)) (length-record n v))
+      (drop-at (recordBytes n v) behind (recordLength (rank n)) (length-recordBytes n v))

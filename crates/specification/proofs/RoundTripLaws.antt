@@ -14,8 +14,9 @@ use Rattle.specification.specs.Verdict.{Verdict, Judged, judge}
 use Rattle.specification.specs.Record.{bigEndian, twos, verdictByte, recordLength, axisBytes, recordBytes, Made, written, numberFrom, withBuffer, layoutFrom, WasRead, readOf, restOf}
 use Rattle.specification.specs.RecordClaims.{NormalRecord, WholeRecord, Bytes, RoundTrip}
 use Rattle.specification.proofs.NormalLaws.{normal-same, canonical-iff}
-use Rattle.specification.proofs.WriterLaws.{normal-accepted, normal-few, fields-fit}
-use Rattle.specification.proofs.RecordFields.{big-num, twos-at, axes-num, join-parts}
+use Rattle.specification.proofs.WriterLaws.{normal-accepted, normal-few}
+use Rattle.specification.proofs.FieldsFit.{fields-fit}
+use Rattle.specification.proofs.RecordFields.{bigEndian-numberFrom, twos-signedFrom, axisBytes-axesFrom, join-parts}
 use Rattle.specification.proofs.RecordFront.{recordThen, verdict-byte, layout-told, fields-right, rest-behind}
 use Rattle.specification.proofs.WriterAnswers.{recordOf, Writes, writes, written-made}
 use Rattle.specification.proofs.EqualRecords.{same-form-bytes}
@@ -63,7 +64,7 @@ write-read l room words m behind a e =
 -- each field of the layout told is written as the bytes that it was read from
 module _ (bytes : List ℕ) (b : Bytes bytes) (f : Fields bytes) where
   length-bytes : bigEndian 2 (recordLength (rank (layoutFrom bytes))) ≡ take 2 (drop 0 bytes)
-  length-bytes = ap (λ (k : ℕ). bigEndian 2 k) (ap recordLength (rank-told bytes) ∙ sym (f .length-is)) ∙ big-num bytes 0 2 b (omega (arith, f .front-there))
+  length-bytes = ap (λ (k : ℕ). bigEndian 2 k) (ap recordLength (rank-told bytes) ∙ sym (f .length-is)) ∙ bigEndian-numberFrom bytes 0 2 b (omega (arith, f .front-there))
 
   byte-then : (i : ℕ) → i ≤ 12 → drop i bytes ≡ getD bytes i 0 ∷ drop (suc i) bytes
   byte-then i h = drop-cons bytes i 0 (omega (arith, f .front-there))
@@ -74,11 +75,11 @@ module _ (bytes : List ℕ) (b : Bytes bytes) (f : Fields bytes) where
 
   offset-bytes : bigEndian 8 (twos (layoutFrom bytes .offset)) ≡ take 8 (drop 5 bytes)
   unfolding layoutFrom withBuffer
-  offset-bytes = ap (λ (k : ℕ). bigEndian 8 k) (twos-at bytes 5 b) ∙ big-num bytes 5 8 b (omega (arith, f .front-there))
+  offset-bytes = ap (λ (k : ℕ). bigEndian 8 k) (twos-signedFrom bytes 5 b) ∙ bigEndian-numberFrom bytes 5 8 b (omega (arith, f .front-there))
 
   axes-bytes : axisBytes (layoutFrom bytes .axes) ≡ take (16 * getD bytes 4 0) (drop 13 bytes)
   unfolding layoutFrom withBuffer
-  axes-bytes = axes-num bytes 13 (getD bytes 4 0) b (omega (arith, f .whole-there))
+  axes-bytes = axisBytes-axesFrom bytes 13 (getD bytes 4 0) b (omega (arith, f .whole-there))
 
   -- together: the bytes that the length field counts
   front-bytes : (v : Verdict) → verdictByte v ≡ getD bytes 3 0 → recordBytes (layoutFrom bytes) v ≡ take (numberFrom bytes 0 2) bytes

@@ -15,10 +15,10 @@ use Rattle.specification.specs.Record.{recordLength, recordBytes, Made, 
 use Rattle.specification.specs.RecordClaims.{WriterClaims}
 use Rattle.specification.specs.Demand3.{AnsweredExactly}
 use Rattle.specification.proofs.ReachLaws.{tested-no}
-use Rattle.specification.proofs.BytesLaws.{length-record}
+use Rattle.specification.proofs.RecordFields.{length-recordBytes}
 use Rattle.specification.proofs.WriterLaws.{normal-accepted, form-done, form-eight, normal-few}
 use Rattle.specification.proofs.JudgeLaws.{Judging, is-judged, too-few, judging, freed-is-needed}
-use Rattle.specification.proofs.OutcomeLaws.{clash, passed, refuse-yes, refuse-no, bound, bind-done, bind-refused, done-inj}
+use Rattle.specification.proofs.OutcomeLaws.{clash, false-unless, passed, refuse-yes, refuse-no, bound, bind-done, bind-refused, done-inj}
 
 -- the record of a normal form as it was judged
 abbrev pub recordOf : LayoutM → Judged → Made
@@ -69,7 +69,7 @@ module _ (x : LayoutM) (room words : ℕ) (a : Accepted x) where
 
       made : overfull (x .axes) ≡ false → recordLength (rank (normalOf x)) ≤ room → wordsNeeded (normalOf x .axes) ≤ words
           → Judging (wordsNeeded (normalOf x .axes)) words (judge (normalOf x .axes) words) → writeAnswer (written x room words) ≡ done (recordLength (rank (normalOf x)))
-      made o h k (is-judged g j e f) = ap writeAnswer (written-made o h j e) ∙ ap done (length-record (normalOf x) (j .answer))
+      made o h k (is-judged g j e f) = ap writeAnswer (written-made o h j e) ∙ ap done (length-recordBytes (normalOf x) (j .answer))
       made o h k (too-few g e) = absurd (omega arith)
 
 -- ---- a record that was made
@@ -113,11 +113,7 @@ handed-one x h = refuse-yes 1 [] _ (rw (lt-ltb 16 (length (x .axes)) h))
 
 handed-three : (x : LayoutM) → rank x ≤ 16 → ¬ (Accepted x) → handed x [] ≡ refused 3 []
 unfolding handed refuseIf _>>_
-handed-three x h n = rw (le-ltb 16 (length (x .axes)) h, out (inReach x) (tested-no x h))
-  where
-    out : (t : Bool) → (t ≡ true → Accepted x) → t ≡ false
-    out true f = absurd (n (f refl))
-    out false f = refl
+handed-three x h n = rw (le-ltb 16 (length (x .axes)) h, false-unless (inReach x) (tested-no x h) n)
 
 pub writer-claims : WriterClaims
 unfolding writeFrees
