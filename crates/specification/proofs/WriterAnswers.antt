@@ -33,7 +33,7 @@ fromForm room words n = refuseIf (ltb room (recordLength (rank n))) 10 (recordLe
 module _ (x : LayoutM) (room words : ℕ) (a : Accepted x) where
   written-eight : overfull (x .axes) ≡ true → written x room words ≡ refused 8 []
   unfolding written
-  written-eight o = bind-refused (fromForm room words) (form-eight x a o)
+  written-eight o = bind-refused _ (form-eight x a o)
 
   written-from-form : overfull (x .axes) ≡ false → written x room words ≡ fromForm room words (normalOf x)
   unfolding written
@@ -105,7 +105,7 @@ writes x room words m a e = go (overfull (x .axes)) refl
 
 written-handed : (x : LayoutM) (room words number : ℕ) (values : List ℕ) → handed x [] ≡ refused number values → written x room words ≡ refused number values
 unfolding written normalForm _>>_
-written-handed x room words number values e = bind-refused (fromForm room words) (rw e)
+written-handed x room words number values e = bind-refused _ (rw e)
 
 handed-one : (x : LayoutM) → 16 < rank x → handed x [] ≡ refused 1 []
 unfolding handed
