@@ -227,7 +227,7 @@ permute-keeps l order a = old-or-new Accepted l _ _ a (λ e.
     (down-sum (map (axisAt (l .axes)) order) ∙ s (λ a. negPart (span a)) ∙ sym (down-sum (l .axes)))
     (empty-by-sum (l .axes) (map (axisAt (l .axes)) order) (s isZero)))
 
-length-those : (test : ℕ → Bool) (l : List ℕ) → length (those test l) ≤ length l
+pub length-those : {A : Type 0} (test : A → Bool) (l : List A) → length (those test l) ≤ length l
 unfolding those
 length-those test [] = omega arith
 length-those test (a ∷ r) = go (test a) (length-those test r)

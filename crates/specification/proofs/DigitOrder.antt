@@ -8,7 +8,7 @@ use lib.IntN.{ℤ, pos, natAbs, _+ℤ_, _-ℤ_, -ℤ-+ℤ-cancel}
 use lib.ListN.{length, getD}
 use Rattle.integer.specs.Parts.{posPart, negPart}
 use Rattle.integer.proofs.PartLaws.{parts-add, parts-ext, natAbs-parts, one-part-zero}
-use Rattle.integer.proofs.SignedEquation.{small, below, above, shifted}
+use Rattle.integer.proofs.SignedEquation.{natAbs-of-shifted, negPart-of-natAbs, posPart-of-natAbs, shifted}
 use Rattle.specification.specs.Search.{ActiveAxis, lengths, widths, box, half, fromDigits, differenceAt}
 use Rattle.specification.specs.Verdict.{blockOf, othersOf}
 use Rattle.specification.specs.CountClaims.{numberOfDigits, Small, NoneEmpty, DigitClaims}
@@ -52,15 +52,15 @@ digit-is : (d : ℤ) (m : ℕ) → natAbs d < suc m → natAbs (d +ℤ pos m) + 
 digit-is d m h = go (one-part-zero (d +ℤ pos m))
   where
     go : (posPart (d +ℤ pos m) ≡ 0) ⊎ (negPart (d +ℤ pos m) ≡ 0) → natAbs (d +ℤ pos m) + negPart d ≡ posPart d + m
-    go (inl e) = omega (arith, natAbs-parts (d +ℤ pos m), parts-add d (pos m), below d m h)
+    go (inl e) = omega (arith, natAbs-parts (d +ℤ pos m), parts-add d (pos m), negPart-of-natAbs d m h)
     go (inr e) = omega (arith, natAbs-parts (d +ℤ pos m), parts-add d (pos m))
 
 difference-of-digit : (d : ℤ) (m : ℕ) → natAbs d < suc m → pos (natAbs (d +ℤ pos m)) -ℤ pos m ≡ d
 difference-of-digit d m h = parts-ext (omega (arith, digit-is d m h, shifted (natAbs (d +ℤ pos m)) m))
 
--- ---- small differences
+-- ---- natAbs-of-shifted differences
 
--- each difference below its extent, axis by axis
+-- each difference negPart-of-natAbs its extent, axis by axis
 data EachSmall : List ActiveAxis → List ℤ → Type 0 where
   none-left : EachSmall [] []
   small-and : {a : ActiveAxis} {d : ℤ} {r : List ActiveAxis} {deltas : List ℤ} → natAbs d < a .extent → EachSmall r deltas → EachSmall (a ∷ r) (d ∷ deltas)
@@ -76,7 +76,7 @@ unfolding digitsOf
 digits-within none-left = empty
 digits-within (small-and {a} {d} h t) =
     let k : natAbs d < suc (a .extent - 1) = omega arith in
-    let z : natAbs (d +ℤ pos (a .extent - 1)) < 2 * a .extent - 1 = omega (arith, digit-is d (a .extent - 1) k, above d (a .extent - 1) k) in
+    let z : natAbs (d +ℤ pos (a .extent - 1)) < 2 * a .extent - 1 = omega (arith, digit-is d (a .extent - 1) k, posPart-of-natAbs d (a .extent - 1) k) in
     _and_ z (digits-within t)
 
 differences-of-digits : {others : List ActiveAxis} {deltas : List ℤ} → EachSmall others deltas → fromDigits others (digitsOf others deltas) ≡ deltas
@@ -90,7 +90,7 @@ differences-small [] empty = (refl, λ i h. absurd (omega arith))
 differences-small (a ∷ r) (_and_ {i = d} {is = digits} k b) = let s = differences-small r b in (ap suc (s .0), go s)
   where
     go : Small r (fromDigits r digits) → (i : ℕ) → i < length (a ∷ r) → natAbs (getD ((pos d -ℤ pos (a .extent - 1)) ∷ fromDigits r digits) i (pos 0)) < getD (a ∷ r) i noAxis .extent
-    go s zero h = omega (arith, small (pos d -ℤ pos (a .extent - 1)) d (a .extent - 1) (shifted d (a .extent - 1)) (omega arith))
+    go s zero h = omega (arith, natAbs-of-shifted (pos d -ℤ pos (a .extent - 1)) d (a .extent - 1) (shifted d (a .extent - 1)) (omega arith))
     go s (suc i) h = s .1 i (omega arith)
 
 -- ---- the zero vector
@@ -109,7 +109,7 @@ half-is-zero others h = ap (λ (k : ℕ). differenceAt others k) (half-is others
 
 pub digit-claims : DigitClaims
 digit-claims = record {
-  small = λ others k n h. differences-small others (indexAt-within (widths-positive others (none-empty others n)) k h);
+  natAbs-of-shifted = λ others k n h. differences-small others (indexAt-within (widths-positive others (none-empty others n)) k h);
   number = λ others k n h. let p = widths-positive others (none-empty others n) in
       number-is-place others (differenceAt others k) ∙ ap (place (widths others)) (digits-of-digits others (indexAt-within p k h)) ∙ place-indexAt p k h;
   every = λ others deltas s. let e = number-is-place others deltas in let t = each-small others deltas s in let b = digits-within t in (

@@ -9,10 +9,6 @@ use native.Mathlib.Omega.{arith}
 use lib.Dec.{T}
 use lib.IntN.{ℤ, pos, natAbs, _-ℤ_, _*ℤ_}
 use Rattle.integer.specs.Parts.{posPart, negPart}
-<<<<<<< HEAD
-use Rattle.integer.proofs.Meeting.{Meet, meet-if, meet-only-if}
-=======
->>>>>>> c-verdict
 use Rattle.integer.proofs.PartLaws.{parts-add, posPart-scale, negPart-scale}
 use Rattle.specification.specs.Tests.{if_then_else_, isYes}
 use Rattle.specification.specs.Axis.{product, indexAt}
@@ -36,74 +32,11 @@ TruePlan U l (answered Repeated c) = EqualSums l
 TruePlan U l (answered Undecided c) = U
 TruePlan U l (enumerated b) = (SumsApart b → SumsApart l) × (EqualSums b → EqualSums l) × PositiveExtents (lengths b)
 
-<<<<<<< HEAD
-pub move : {l m : List ActiveAxis} → (SumsApart l → SumsApart m) → (EqualSums l → EqualSums m) → (p : Plan) → TruePlan l p → TruePlan m p
-move f g (answered Distinct c) s = f s
-move f g (answered Repeated c) s = g s
-move f g (answered Undecided c) s = s
-move f g (enumerated b) s = (λ r. f (s .0 r), λ p. g (s .1 p), s .2)
-
--- ---- two axes
-
-meet-pair : (a b : ActiveAxis) → Meet (a .stride) (a .extent) (b .stride) (b .extent) → EqualSums (a ∷ b ∷ [])
-unfolding reach
-meet-pair a b m = record {
-  x = m .i₁ ∷ m .i₂ ∷ [];
-  y = m .j₁ ∷ m .j₂ ∷ [];
-  bx = _and_ (m .i₁-below) (_and_ (m .i₂-below) empty);
-  by = _and_ (m .j₁-below) (_and_ (m .j₂-below) empty);
-  other = λ e. m .other (cc, cc);
-  same = omega (arith, m .same);
-}
-
-pair-meet : (a b : ActiveAxis) → EqualSums (a ∷ b ∷ []) → Meet (a .stride) (a .extent) (b .stride) (b .extent)
-unfolding reach
-pair-meet a b p = go (p .x) (p .y) (p .bx) (p .by) (p .other) (p .same)
-  where
-    go : (x y : List ℕ) → IndexVector (lengths (a ∷ b ∷ [])) x → IndexVector (lengths (a ∷ b ∷ [])) y → x ≢ y → reach (a ∷ b ∷ []) x ≡ reach (a ∷ b ∷ []) y → Meet (a .stride) (a .extent) (b .stride) (b .extent)
-    go _ _ (_and_ {i = i₁} h₁ (_and_ {i = i₂} h₂ empty)) (_and_ {i = j₁} k₁ (_and_ {i = j₂} k₂ empty)) ne e =
-        record {
-          i₁ = i₁;
-          i₂ = i₂;
-          j₁ = j₁;
-          j₂ = j₂;
-          i₁-below = h₁;
-          i₂-below = h₂;
-          j₁-below = k₁;
-          j₂-below = k₂;
-          other = λ w. ne (λ i. w .0 i ∷ w .1 i ∷ []);
-          same = omega arith;
-        }
-
-module _ (a b : ActiveAxis) (ha : 0 < a .stride) (hb : 0 < b .stride) where
-  pub two-apart : twoDistinct a b ≡ true → ¬ (EqualSums (a ∷ b ∷ []))
-  unfolding twoDistinct
-  two-apart e p =
-      let w = meet-only-if (a .stride) (a .extent) (b .stride) (b .extent) ha hb (pair-meet a b p) in
-      go (leb (a .extent) (b .stride / gcd (a .stride) (b .stride))) (leb (b .extent) (a .stride / gcd (a .stride) (b .stride)))
-      (λ t. omega (arith, leb→le (a .extent) (b .stride / gcd (a .stride) (b .stride)) t, w .0)) (λ t. omega (arith, leb→le (b .extent) (a .stride / gcd (a .stride) (b .stride)) t, w .1)) e
-    where
-      go : (x y : Bool) → (T x → ⊥) → (T y → ⊥) → (x || y) ≡ true → ⊥
-      go true y f g e = f tt
-      go false true f g e = g tt
-      go false false f g e = subst T (sym e) tt
-
-  pub two-meet : twoDistinct a b ≡ false → EqualSums (a ∷ b ∷ [])
-  unfolding twoDistinct
-  two-meet e = go (leb (a .extent) (b .stride / gcd (a .stride) (b .stride))) (leb (b .extent) (a .stride / gcd (a .stride) (b .stride)))
-      (nleb→lt (a .extent) (b .stride / gcd (a .stride) (b .stride))) (nleb→lt (b .extent) (a .stride / gcd (a .stride) (b .stride))) e
-    where
-      go : (x y : Bool) → (T (not x) → b .stride / gcd (a .stride) (b .stride) < a .extent) → (T (not y) → a .stride / gcd (a .stride) (b .stride) < b .extent) → (x || y) ≡ false → EqualSums (a ∷ b ∷ [])
-      go true y f g e = absurd (subst T e tt)
-      go false true f g e = absurd (subst T e tt)
-      go false false f g e = meet-pair a b (meet-if (a .stride) (a .extent) (b .stride) (b .extent) ha hb (f tt) (g tt))
-=======
 pub move : (U : Type 0) {l m : List ActiveAxis} → (SumsApart l → SumsApart m) → (EqualSums l → EqualSums m) → (p : Plan) → TruePlan U l p → TruePlan U m p
 move U f g (answered Distinct c) s = f s
 move U f g (answered Repeated c) s = g s
 move U f g (answered Undecided c) s = s
 move U f g (enumerated b) s = (λ r. f (s .0 r), λ p. g (s .1 p), s .2)
->>>>>>> c-verdict
 
 -- ---- completing
 

@@ -9,9 +9,9 @@ use lib.Dec.{T, leb, leb→le, nleb→lt}
 use lib.IntN.{ℤ, pos, negsuc, natAbs, _-ℤ_, +ℤ-idr}
 use Rattle.integer.specs.Gcd.{gcd}
 use Rattle.integer.specs.Parts.{posPart, negPart}
-use Rattle.integer.proofs.GcdLaws.{Meet, meet, meet-only}
+use Rattle.integer.proofs.Meeting.{Meet, meet-if, meet-only-if}
 use Rattle.integer.proofs.PartLaws.{parts-ext, natAbs-parts}
-use Rattle.integer.proofs.SignedEquation.{shifted, to-parts, from-parts}
+use Rattle.integer.proofs.SignedEquation.{shifted, parts-of-equation, equation-of-parts}
 use Rattle.specification.specs.Search.{ActiveAxis, lengths, reach, twoDistinct}
 use Rattle.specification.specs.CountClaims.{TwoCollide}
 use Rattle.specification.proofs.Positions.{IndexVector, empty, _and_}
@@ -28,8 +28,8 @@ unfolding reach
 meet-pair a b m = record {
   x = m .i₁ ∷ m .i₂ ∷ [];
   y = m .j₁ ∷ m .j₂ ∷ [];
-  bx = _and_ (m .lt₁) (_and_ (m .lt₂) empty);
-  by = _and_ (m .mt₁) (_and_ (m .mt₂) empty);
+  bx = _and_ (m .i₁-below) (_and_ (m .i₂-below) empty);
+  by = _and_ (m .j₁-below) (_and_ (m .j₂-below) empty);
   other = λ e. m .other (cc, cc);
   same = omega (arith, m .same);
 }
@@ -45,10 +45,10 @@ pair-meet a b p = go (p .x) (p .y) (p .bx) (p .by) (p .other) (p .same)
           i₂ = i₂;
           j₁ = j₁;
           j₂ = j₂;
-          lt₁ = h₁;
-          lt₂ = h₂;
-          mt₁ = k₁;
-          mt₂ = k₂;
+          i₁-below = h₁;
+          i₂-below = h₂;
+          j₁-below = k₁;
+          j₂-below = k₂;
           other = λ w. ne (λ i. w .0 i ∷ w .1 i ∷ []);
           same = omega arith;
         }
@@ -69,10 +69,10 @@ meet-collide : (a b : ActiveAxis) → Meeting a b → TwoCollide a b
 meet-collide a b m = record {
   x = pos (m .i₁) -ℤ pos (m .j₁);
   y = pos (m .i₂) -ℤ pos (m .j₂);
-  x-below = below-both (pos (m .i₁) -ℤ pos (m .j₁)) (m .i₁) (m .j₁) (a .extent) (shifted (m .i₁) (m .j₁)) (m .lt₁) (m .mt₁);
-  y-below = below-both (pos (m .i₂) -ℤ pos (m .j₂)) (m .i₂) (m .j₂) (b .extent) (shifted (m .i₂) (m .j₂)) (m .lt₂) (m .mt₂);
+  x-below = below-both (pos (m .i₁) -ℤ pos (m .j₁)) (m .i₁) (m .j₁) (a .extent) (shifted (m .i₁) (m .j₁)) (m .i₁-below) (m .j₁-below);
+  y-below = below-both (pos (m .i₂) -ℤ pos (m .j₂)) (m .i₂) (m .j₂) (b .extent) (shifted (m .i₂) (m .j₂)) (m .i₂-below) (m .j₂-below);
   not-both = λ w. m .other (no-difference (m .i₁) (m .j₁) (w .0), no-difference (m .i₂) (m .j₂) (w .1));
-  to-zero = sym (+ℤ-idr _) ∙ from-parts (pos (m .i₁) -ℤ pos (m .j₁)) (pos (m .i₂) -ℤ pos (m .j₂)) (pos 0) (a .stride) (b .stride)
+  to-zero = sym (+ℤ-idr _) ∙ equation-of-parts (pos (m .i₁) -ℤ pos (m .j₁)) (pos (m .i₂) -ℤ pos (m .j₂)) (pos 0) (a .stride) (b .stride)
       (omega (arith, m .same, ap (λ (k : ℕ). k * a .stride) (shifted (m .i₁) (m .j₁)), ap (λ (k : ℕ). k * b .stride) (shifted (m .i₂) (m .j₂))));
 }
 
@@ -82,12 +82,12 @@ collide-meet a b w = record {
   i₂ = posPart (w .y);
   j₁ = negPart (w .x);
   j₂ = negPart (w .y);
-  lt₁ = omega (arith, w .x-below, natAbs-parts (w .x));
-  lt₂ = omega (arith, w .y-below, natAbs-parts (w .y));
-  mt₁ = omega (arith, w .x-below, natAbs-parts (w .x));
-  mt₂ = omega (arith, w .y-below, natAbs-parts (w .y));
+  i₁-below = omega (arith, w .x-below, natAbs-parts (w .x));
+  i₂-below = omega (arith, w .y-below, natAbs-parts (w .y));
+  j₁-below = omega (arith, w .x-below, natAbs-parts (w .x));
+  j₂-below = omega (arith, w .y-below, natAbs-parts (w .y));
   other = λ e. w .not-both (no-parts (w .x) (e .0), no-parts (w .y) (e .1));
-  same = omega (arith, to-parts (w .x) (w .y) (pos 0) (a .stride) (b .stride) (+ℤ-idr _ ∙ w .to-zero));
+  same = omega (arith, parts-of-equation (w .x) (w .y) (pos 0) (a .stride) (b .stride) (+ℤ-idr _ ∙ w .to-zero));
 }
 
 -- ---- the rule
@@ -96,7 +96,7 @@ module _ (a b : ActiveAxis) (ha : 0 < a .stride) (hb : 0 < b .stride) where
   rule-apart : twoDistinct a b ≡ true → ¬ (Meeting a b)
   unfolding twoDistinct
   rule-apart e m =
-      let w = meet-only (a .stride) (a .extent) (b .stride) (b .extent) ha hb m in
+      let w = meet-only-if (a .stride) (a .extent) (b .stride) (b .extent) ha hb m in
       go (leb (a .extent) (b .stride / gcd (a .stride) (b .stride))) (leb (b .extent) (a .stride / gcd (a .stride) (b .stride)))
       (λ t. omega (arith, leb→le (a .extent) (b .stride / gcd (a .stride) (b .stride)) t, w .0)) (λ t. omega (arith, leb→le (b .extent) (a .stride / gcd (a .stride) (b .stride)) t, w .1)) e
     where
@@ -113,7 +113,7 @@ module _ (a b : ActiveAxis) (ha : 0 < a .stride) (hb : 0 < b .stride) where
       go : (x y : Bool) → (T (not x) → b .stride / gcd (a .stride) (b .stride) < a .extent) → (T (not y) → a .stride / gcd (a .stride) (b .stride) < b .extent) → (x || y) ≡ false → Meeting a b
       go true y f g e = absurd (subst T e tt)
       go false true f g e = absurd (subst T e tt)
-      go false false f g e = meet (a .stride) (a .extent) (b .stride) (b .extent) ha hb (f tt) (g tt)
+      go false false f g e = meet-if (a .stride) (a .extent) (b .stride) (b .extent) ha hb (f tt) (g tt)
 
   pub no-pair-of-two : twoDistinct a b ≡ true → ¬ (EqualSums (a ∷ b ∷ []))
   no-pair-of-two e p = rule-apart e (pair-meet a b p)

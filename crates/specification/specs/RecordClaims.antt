@@ -1,4 +1,4 @@
--- Claims on the record: what the reader takes for one, its refusals exactly, both ways of the round trip, and stepping over.
+-- Claims on the record: what the writer frees, what the reader takes for a record, its refusals exactly, both ways of the round trip, and stepping over.
 use mathlib.Core.Bool.{true, false}
 use mathlib.Core.List.{List, [], _∷_, _++_}
 use mathlib.Core.Logic.{_≢_, _⊎_, _↔_}
@@ -10,11 +10,19 @@ use lib.Signed.{_≤ℤ_}
 use Rattle.integer.specs.Range.{mostSigned}
 use Rattle.specification.specs.Axis.{positions}
 use Rattle.specification.specs.Outcome.{done, refused}
-use Rattle.specification.specs.Layout.{LayoutM, offsetAt, Accepted}
+use Rattle.specification.specs.Layout.{LayoutM, rank, offsetAt, Accepted}
 use Rattle.specification.specs.Normal.{normalOf, overfull}
 use Rattle.specification.specs.Verdict.{Judged, judge, wordsNeeded}
-use Rattle.specification.specs.Record.{Made, verdictByte, written, fieldsRight, isNormal, layoutFrom, WasRead, readOf, readFrees, withBuffer, numberFrom, restOf}
+use Rattle.specification.specs.Record.{Made, verdictByte, written, writeFrees, fieldsRight, isNormal, layoutFrom, WasRead, readOf, readFrees, withBuffer, numberFrom, restOf}
 use Rattle.specification.specs.NormalClaims.{SameForm}
+
+-- the writer's refusals before those of demand 3, and what it leaves in the scratch
+pub record WriterClaims : Type 0 where
+  pub too-many-axes : (l : LayoutM) (room words : ℕ) → 16 < rank l → written l room words ≡ refused 1 []
+  pub not-accepted : (l : LayoutM) (room words : ℕ) → rank l ≤ 16 → ¬ (Accepted l) → written l room words ≡ refused 3 []
+  -- the words needed for the normal form are free afterwards where a record gets made; a refusal frees none
+  pub frees : (l : LayoutM) (room words : ℕ) (m : Made) → Accepted l → written l room words ≡ done m → writeFrees (written l room words) ≡ wordsNeeded (normalOf l .axes)
+  pub frees-none : (l : LayoutM) (room words number : ℕ) (values : List ℕ) → written l room words ≡ refused number values → writeFrees (written l room words) ≡ 0
 
 -- a normal form whose positions are at most 2^64 - 1, with offsets within 0 to 2^63 - 1
 pub record NormalRecord (l : LayoutM) : Type 0 where
