@@ -1,6 +1,7 @@
 -- What lets `omega` reason about ℤ: each equation and order of integers, said of their two parts in ℕ, with negative parts moved across.
 -- A lemma `parts-..` goes from the parts to ℤ or says what an operation does to them; the laws of a test end in its value.
 use mathlib.Core.Bool.{Bool, cond, false, true}
+use mathlib.Core.Logic.{_⊎_, inl, inr}
 use mathlib.Core.Path.{_∙_, _≡_, ap, refl, subst, sym}
 use Prim.Native.Nat.{_*_, _+_, _-_, _<_, _^_, _≤_, suc, zero, ℕ}
 use native.Mathlib.Nat.{zero-mul}
@@ -91,6 +92,11 @@ parts-eq {x} {y} e = subst (λ (z : ℤ). posPart x + negPart z ≡ posPart z + 
 pub natAbs-parts : (x : ℤ) → natAbs x ≡ posPart x + negPart x
 natAbs-parts (pos n) = omega arith
 natAbs-parts (negsuc n) = omega arith
+
+-- One of the two parts is 0.
+pub one-part-zero : (x : ℤ) → (posPart x ≡ 0) ⊎ (negPart x ≡ 0)
+one-part-zero (pos n) = inr refl
+one-part-zero (negsuc n) = inl refl
 
 -- The tests `leZ` and `ltZ`, read by their value, and their value by the parts.
 pub leZ-true : (x y : ℤ) → leZ x y ≡ true → posPart x + negPart y ≤ posPart y + negPart x

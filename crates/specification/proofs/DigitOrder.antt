@@ -109,7 +109,7 @@ half-is-zero others h = ap (λ (k : ℕ). differenceAt others k) (half-is others
 
 pub digit-claims : DigitClaims
 digit-claims = record {
-  natAbs-of-shifted = λ others k n h. differences-small others (indexAt-within (widths-positive others (none-empty others n)) k h);
+  small = λ others k n h. differences-small others (indexAt-within (widths-positive others (none-empty others n)) k h);
   number = λ others k n h. let p = widths-positive others (none-empty others n) in
       number-is-place others (differenceAt others k) ∙ ap (place (widths others)) (digits-of-digits others (indexAt-within p k h)) ∙ place-indexAt p k h;
   every = λ others deltas s. let e = number-is-place others deltas in let t = each-small others deltas s in let b = digits-within t in (

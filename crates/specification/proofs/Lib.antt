@@ -61,3 +61,4 @@ pub mod AnswerLaws
 pub mod RangeLaws
 pub mod ClassLaws
 pub mod NewLayoutLaws
+pub mod Proved

@@ -15,9 +15,9 @@ use Rattle.specification.specs.Layout.{LayoutM}
 use Rattle.specification.specs.Views.{withAxes}
 use Rattle.specification.specs.Normal.{normalAxes, normalOf}
 use Rattle.specification.specs.NormalClaims.{SameOffsets, SameForm, NormalClaims}
-use Rattle.specification.proofs.NormalAxes.{AllPositive, none, more, normal-alike}
+use Rattle.specification.proofs.NormalAxes.{AllPositive, none, more, Normal, normal-alike, normal-positive, normal-is-normal}
 use Rattle.specification.proofs.NormalCanonical.{sum-at-zero}
-use Rattle.specification.proofs.NormalOrder.{normal-canonical, any-order}
+use Rattle.specification.proofs.NormalOrder.{normal-canonical, normal-of-normal, any-order}
 pub use Rattle.specification.proofs.NormalAxes.{positions-pos}
 
 -- ---- empty or not
@@ -58,9 +58,13 @@ pub normal-of-full : (l : LayoutM) → isEmpty (l .axes) ≡ false → normalOf 
 unfolding normalOf
 normal-of-full l e = rw e
 
--- the proofs are about `normalAxes` itself; for files that still go from one name to the other
-pub normal-is : (l : List Axis) → normalAxes l ≡ normalAxes l
-normal-is l = refl
+-- the merged axes of a layout that is not empty are normal
+pub normalAxes-normal : (l : List Axis) → isEmpty l ≡ false → Normal (normalAxes l)
+normalAxes-normal l e = normal-is-normal (full-pos l e)
+
+-- axes that are normal are their own normal form
+pub normalAxes-own : {l : List Axis} → Normal l → normalAxes l ≡ l
+normalAxes-own {l} n = normal-of-normal (normal-positive n) n
 
 -- ---- same offsets
 
@@ -120,7 +124,7 @@ canonical-iff x y = (λ f. same-trans (same-sym (normal-same x)) (same-trans (sa
 -- ---- the claims
 
 -- the buffer length stays
-buffer-stays : (l : LayoutM) → normalOf l .buffer ≡ l .buffer
+pub buffer-stays : (l : LayoutM) → normalOf l .buffer ≡ l .buffer
 buffer-stays l = go (isEmpty (l .axes)) refl
   where
     go : (t : Bool) → isEmpty (l .axes) ≡ t → normalOf l .buffer ≡ l .buffer

@@ -1,7 +1,7 @@
 -- The views and the normal form keep a layout in the ranges of the machine types: the claims on ranges.
 use mathlib.Core.Bool.{Bool, true, false, not}
 use mathlib.Core.List.{List, [], _∷_, map}
-use mathlib.Core.Path.{_≡_, refl, sym, ap, subst, _∙_}
+use mathlib.Core.Path.{_≡_, refl}
 use Prim.Native.Nat.{ℕ, zero, suc, _*_, _^_, _<_, _≤_}
 use native.Mathlib.Nat.{le-mul-of-pos-right, mul-le-mul-right}
 use native.Mathlib.Omega.{arith}
@@ -24,7 +24,7 @@ use Rattle.specification.specs.Calls.{Call, permuting, diagonal, broadca
 use Rattle.specification.specs.ViewRules.{SumsFit}
 use Rattle.specification.specs.ViewClaims.{TargetsFit, RangeClaims}
 use Rattle.specification.proofs.NormalAxes.{AllPositive, none, more, normal-is-normal, normal-positive, positions-of-normal}
-use Rattle.specification.proofs.NormalLaws.{full-pos, positions-pos, normal-is}
+use Rattle.specification.proofs.NormalLaws.{full-pos, positions-pos}
 use Rattle.specification.proofs.ReachLaws.{and-true}
 use Rattle.specification.proofs.OutcomeLaws.{passed-check}
 use Rattle.specification.proofs.AcceptedLaws.{old-or-new}
@@ -159,8 +159,8 @@ normal-ranges l r o = go (isEmpty (l .axes)) refl o
     go : (t : Bool) → isEmpty (l .axes) ≡ t → (if t then false else ltb mostUnsigned (positions (l .axes))) ≡ false
         → Ranges (if t then record { buffer = l .buffer; offset = pos 0; axes = record { extent = 0; stride = pos 0 } ∷ [] } else withAxes l (normalAxes (l .axes)))
     go true e o = record { buffer-fits = r .buffer-fits; offset-fits = fits-signed (pos 0) refl; axes-fit = (still-ranges 0 (omega arith), tt) }
-    go false e o = with-ranges l r (counted-ranges (subst AllPositive (sym (normal-is (l .axes))) (normal-positive (normal-is-normal (full-pos (l .axes) e)))) strides
-        (omega (arith, ltb-false mostUnsigned (positions (l .axes)) o, ap positions (normal-is (l .axes)) ∙ positions-of-normal (l .axes))))
+    go false e o = with-ranges l r (counted-ranges (normal-positive (normal-is-normal (full-pos (l .axes) e))) strides
+        (omega (arith, ltb-false mostUnsigned (positions (l .axes)) o, positions-of-normal (l .axes))))
 
 pub range-claims : RangeClaims
 range-claims = record { view-ranges = view-ranges; normal-ranges = normal-ranges }

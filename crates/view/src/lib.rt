@@ -1,7 +1,7 @@
 // The layout half of view.rs: layouts of strided readings, check-in, views, dense strides and indexed offsets.
 pub mod accepted;
 pub mod bounds;
-pub mod check_in;
 pub mod broadcast;
+pub mod check_in;
 pub mod layout;
 pub mod permute;
