@@ -1,7 +1,11 @@
 pub mod ModelLaws
 pub mod SomeLaws
+pub mod BoundedLaws
 pub mod ReachLaws
 pub mod BoundsLaws
 pub mod AnswerLaws
 pub mod HandedLaws
 pub mod CheckInLaws
+pub mod CountLaws
+pub mod DenseLaws
+pub mod IndexedLaws

@@ -1,3 +1,7 @@
 pub mod Answers
 pub mod Model
+pub mod Bounded
 pub mod Reach
+pub mod Count
+pub mod Dense
+pub mod Indexed
