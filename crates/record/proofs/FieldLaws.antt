@@ -9,7 +9,7 @@ use lib.ListN.{length, take, drop, length-append, length-drop, take-append-drop}
 use lib.Seq.{take-at, drop-at, drop-drop, length-take-le}
 use Rattle.specification.specs.Axis.{Axis}
 use Rattle.specification.specs.Record.{bigEndian, twos, axisBytes}
-use Rattle.specification.proofs.BytesLaws.{length-big, length-axes}
+use Rattle.specification.proofs.RecordFields.{length-bigEndian, length-axisBytes}
 use Rattle.record.specs.Fields.{headBytes, axisField}
 
 -- zs written right behind a front of n entries, over k of the rest
@@ -28,10 +28,10 @@ two-numbers xs es ss n h e =
     rw g (behind-front (take n xs ++ es) (drop (n + 8) xs) ss (n + 8) 8 m ∙ rw (drop-drop 8 (n + 8) xs, q) (simp append-assoc))
 
 pub length-head : (rank verdict : ℕ) (offset : ℤ) → length (headBytes rank verdict offset) ≡ 13
-length-head rank verdict offset = simp (length-append, length-big) (omega arith)
+length-head rank verdict offset = simp (length-append, length-bigEndian) (omega arith)
 
 pub length-axisField : (extent : ℕ) (stride : ℤ) → length (axisField extent stride) ≡ 16
-length-axisField extent stride = simp (length-append, length-big) (omega arith)
+length-axisField extent stride = simp (length-append, length-bigEndian) (omega arith)
 
 -- the bytes of axes and one more
 pub axisBytes-snoc : (axes : List Axis) (a : Axis) → axisBytes (axes ++ (a ∷ [])) ≡ axisBytes axes ++ axisField (a .extent) (a .stride)
@@ -59,7 +59,7 @@ pub record Written (start : List ℕ) (axes : List Axis) (n : ℕ) (out : List �
   pub holds : out ≡ (take 13 start ++ axisBytes axes) ++ drop (13 + 16 * n) start
 
 front-length : {start out : List ℕ} {axes : List Axis} {n : ℕ} → Written start axes n out → length (take 13 start ++ axisBytes axes) ≡ 13 + 16 * n
-front-length {start} {axes = axes} {n} w = simp length-append (omega (arith, length-take-le 13 start (omega (arith, w .room)), length-axes axes, w .as-many))
+front-length {start} {axes = axes} {n} w = simp length-append (omega (arith, length-take-le 13 start (omega (arith, w .room)), length-axisBytes axes, w .as-many))
 
 -- the output keeps its length
 pub written-length : {start out : List ℕ} {axes : List Axis} {n : ℕ} → Written start axes n out → length out ≡ length start

@@ -27,7 +27,7 @@ unfolding bigEndian
 length-bigEndian zero x = refl
 length-bigEndian (suc n) x = ap suc (length-bigEndian n x)
 
-length-axisBytes : (axes : List Axis) → length (axisBytes axes) ≡ 16 * length axes
+pub length-axisBytes : (axes : List Axis) → length (axisBytes axes) ≡ 16 * length axes
 unfolding axisBytes
 length-axisBytes [] = refl
 length-axisBytes (a ∷ rest) = simp (length-append, length-bigEndian) (omega (arith, length-axisBytes rest))

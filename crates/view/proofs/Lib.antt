@@ -3,9 +3,13 @@ pub mod MaskLaws
 pub mod OrderLaws
 pub mod TargetLaws
 pub mod SomeLaws
+pub mod BoundedLaws
 pub mod ReachLaws
 pub mod BoundsLaws
 pub mod AnswerLaws
 pub mod HandedLaws
 pub mod CheckInLaws
 pub mod ListedLaws
+pub mod CountLaws
+pub mod DenseLaws
+pub mod IndexedLaws

@@ -13,43 +13,18 @@ use Rattle.integer.proofs.MultipleLaws.{posPart-·, negPart-·}
 use Rattle.specification.specs.Axis.{Axis, axesOf, span, upward, downward}
 use Rattle.view.specs.Model.{axisOf}
 use lib.Dec.{ltb, leb}
-use borrow.Author.Tests.{le-leb, lt-leb, leb-true, leb-false, lt-ltb, le-ltb}
+use borrow.Author.Tests.{le-leb, lt-leb, leb-true, lt-ltb, le-ltb}
 use Rattle.integer.specs.Range.{mostSigned}
 use Rattle.specification.specs.Tests.{if_then_else_}
-use Rattle.view.specs.Reach.{spansUpTo, sumUpTo, tooWideExtent}
+use Rattle.view.specs.Reach.{spansUpTo, tooWideExtent}
 use Rattle.view.specs.declared.bounds.Spans.{Spans}
 use Rattle.view.specs.declared.bounds.Spans.the-variants as spans
-use Rattle.view.specs.declared.bounds.Sum.{Sum}
-use Rattle.view.specs.declared.bounds.Sum.the-variants.{Is, Over}
 
 and-false : (b : Bool) → (b && false) ≡ false
 and-false true = refl
 and-false false = refl
 
--- ---- a sum with a limit
-
-pub sum-is : (limit sum : ℕ) → sum ≤ limit → sumUpTo limit sum ≡ Is sum
-sum-is limit sum h = rw (le-leb sum limit h)
-
-pub sum-over : (limit sum : ℕ) → limit < sum → sumUpTo limit sum ≡ Over
-sum-over limit sum h = rw (lt-leb sum limit h)
-
--- what an answer says of the sum
-pub is-sum : {r : Sum} (limit sum x : ℕ) → r ≡ sumUpTo limit sum → r ≡ Is x → (x ≡ sum) × (sum ≤ limit)
-is-sum limit sum x e k = by (leb sum limit) refl (sym k ∙ e)
-  where
-    by : (t : Bool) → leb sum limit ≡ t → Is x ≡ (if t then Is sum else Over) → (x ≡ sum) × (sum ≤ limit)
-    by true t q = (cc, leb-true sum limit t)
-    by false t q = let z : _≡_ {A = ℕ} 0 1 = cc in absurd (omega arith)
-
-pub over-sum : {r : Sum} (limit sum : ℕ) → r ≡ sumUpTo limit sum → r ≡ Over → limit < sum
-over-sum limit sum e k = by (leb sum limit) refl (sym k ∙ e)
-  where
-    by : (t : Bool) → leb sum limit ≡ t → Over ≡ (if t then Is sum else Over) → limit < sum
-    by true t q = let z : _≡_ {A = ℕ} 0 1 = cc in omega arith
-    by false t q = leb-false sum limit t
-
--- the same of both sums
+-- ---- both sums, each with its limit
 pub spans-are : (above below : ℕ) (axes : List Axis) → upward axes ≤ above → downward axes ≤ below
     → spansUpTo above below axes ≡ spans.Of (upward axes) (downward axes)
 spans-are above below axes h k = rw (le-leb (upward axes) above h, le-leb (downward axes) below k)

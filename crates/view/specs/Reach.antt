@@ -12,8 +12,6 @@ use Rattle.view.specs.declared.bounds.Reach.{Reach}
 use Rattle.view.specs.declared.bounds.Reach.the-variants.{Empty, Between, Outside}
 use Rattle.view.specs.declared.bounds.Spans.{Spans}
 use Rattle.view.specs.declared.bounds.Spans.the-variants as spans
-use Rattle.view.specs.declared.bounds.Sum.{Sum}
-use Rattle.view.specs.declared.bounds.Sum.the-variants.{Is, Over}
 
 -- empty; or all offsets accepted, with the lowest and the highest; or one that is not
 unfoldable pub reachOf : LayoutM → Reach
@@ -26,10 +24,6 @@ reachOf l =
 abbrev pub spansUpTo : ℕ → ℕ → List Axis → Spans
 spansUpTo above below axes =
     if leb (upward axes) above && leb (downward axes) below then spans.Of (upward axes) (downward axes) else spans.Over
-
--- a sum, if it is at most the limit
-abbrev pub sumUpTo : ℕ → ℕ → Sum
-sumUpTo limit sum = if leb sum limit then Is sum else Over
 
 -- an active extent minus 1 above 2^63 - 1: `tooWide` of an axis with this extent
 abbrev pub tooWideExtent : ℕ → Bool

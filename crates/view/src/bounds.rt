@@ -11,7 +11,9 @@ ghost use Rattle.specification.specs.CheckIn.{bounds, checkIn};
 ghost use Rattle.specification.specs.Beside.{zeroAmong};
 ghost use Rattle.view.specs.Answers.{outcomeOf, answerOf};
 ghost use Rattle.view.specs.Model.{modelOf, modelFrom};
-ghost use Rattle.view.specs.Reach.{reachOf, spansUpTo, sumUpTo, tooWideExtent};
+ghost use Rattle.view.specs.Reach.{reachOf, spansUpTo, tooWideExtent};
+use crate::bounded::Bounded;
+use crate::bounded::bounded_product;
 use crate::layout::Answer;
 use crate::layout::Layout;
 use crate::layout::ReadingOffset;
@@ -23,12 +25,6 @@ pub enum Reach {
     Empty,
     Between(u64, u64),
     Outside,
-}
-
-// A sum that is at most a limit, or none.
-pub enum Sum {
-    Is(u64),
-    Over,
 }
 
 // Two sums, each at most a limit of its own, or none.
@@ -85,20 +81,6 @@ fn last_index(extent: u64) -> u64
     if extent == 0 { 0 } else { extent - 1 }
 }
 
-// sum + times * step, where that is at most the limit.
-fn add_product(sum: u64, times: u64, step: u64, limit: u64) -> Sum
-    requires { ⌜ sum ≤ limit ⌝ }
-    ensures { λ r. ⌜ r ≡ sumUpTo limit (sum + times * step) ⌝ }
-{
-    if step == 0 {
-        return Sum::Is(sum);
-    }
-    if (limit - sum) / step < times {
-        return Sum::Over;
-    }
-    Sum::Is(sum + times * step)
-}
-
 // The sums of the positive and of the negative spans, where each is at most its limit.
 pub fn sum_spans(extents: &[u64], strides: &[i64], above: u64, below: u64) -> Spans
     requires { ⌜ length (now extents) ≡ length (now strides) ⌝ }
@@ -110,14 +92,15 @@ pub fn sum_spans(extents: &[u64], strides: &[i64], above: u64, below: u64) -> Sp
     while i < extents.len() {
         let last = last_index(extents[i]);
         let stride = strides[i];
-        let Sum::Is(more_up) = add_product(up, last, positive_part(stride), above) else {
+        let Bounded::Is(more_up) = bounded_product(last, positive_part(stride), above - up) else {
             return Spans::Over;
         };
-        let Sum::Is(more_down) = add_product(down, last, negative_part(stride), below) else {
+        let Bounded::Is(more_down) = bounded_product(last, negative_part(stride), below - down)
+        else {
             return Spans::Over;
         };
-        up = more_up;
-        down = more_down;
+        up += more_up;
+        down += more_down;
         i += 1;
     }
     Spans::Of(up, down)

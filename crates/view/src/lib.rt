@@ -1,7 +1,11 @@
 // The layout half of view.rs: layouts of strided readings, check-in, views, dense strides and indexed offsets.
 pub mod accepted;
+pub mod bounded;
 pub mod bounds;
 pub mod broadcast;
 pub mod check_in;
+pub mod count;
+pub mod dense;
 pub mod layout;
+pub mod offset;
 pub mod permute;

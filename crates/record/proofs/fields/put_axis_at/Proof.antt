@@ -4,7 +4,7 @@ use native.Mathlib.Omega.{arith}
 use mir.Syntax.{w64}
 use mir.ValLaws.{toZ-ofZ}
 use Rattle.specification.specs.Record.{bigEndian, twos}
-use Rattle.specification.proofs.BytesLaws.{length-big}
+use Rattle.specification.proofs.RecordFields.{length-bigEndian}
 use Rattle.record.proofs.FieldLaws.{two-numbers}
 use borrow.Author.Needs.{needs}
 use Rattle.record.proofs.fields.put_axis_at.Statement.{statement}
@@ -30,7 +30,7 @@ returns c =
     let s = c .before .before .before .before .before .before .before .before .before .before in
     c .before .before .put-u64-at2 .ensures
     ∙ rw (c .before .before .before .before .twos-complement .ensures, toZ-ofZ w64 (s .args .stride) (s .fits .stride), c .before .before .before .before .before .before .before .put-u64-at .ensures)
-    (two-numbers (s .args .out .now) (bigEndian 8 (s .args .extent)) (bigEndian 8 (twos (s .args .stride))) (s .args .at) (omega arith) (length-big 8 (s .args .extent)))
+    (two-numbers (s .args .out .now) (bigEndian 8 (s .args .extent)) (bigEndian 8 (twos (s .args .stride))) (s .args .at) (omega arith) (length-bigEndian 8 (s .args .extent)))
 
 pub put-axis-at-spec : {M : Type 1} → statement M
 put-axis-at-spec =

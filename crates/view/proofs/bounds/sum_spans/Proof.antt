@@ -9,7 +9,8 @@ use mir.Syntax.{w64}
 use mir.ValLaws.{toZ-ofZ}
 use Rattle.integer.specs.Parts.{posPart, negPart}
 use Rattle.specification.specs.Axis.{axesOf, upward, downward}
-use Rattle.view.proofs.ReachLaws.{is-sum, over-sum, spans-are, spans-above, spans-below, upward-turn, downward-turn, upward-end, downward-end}
+use Rattle.view.proofs.BoundedLaws.{is-bounded, over-bounded}
+use Rattle.view.proofs.ReachLaws.{spans-are, spans-above, spans-below, upward-turn, downward-turn, upward-end, downward-end}
 use borrow.Author.Needs.{needs}
 use Rattle.view.proofs.bounds.sum_spans.Statement.{statement}
 use Rattle.view.proofs.bounds.sum_spans.Tie as tie
@@ -46,119 +47,144 @@ module _ (a : tie.After-stride Inv-loop μ-loop) where
   stride-is : toZ w64 (ofZ w64 (getD ss i (pos 0))) ≡ getD ss i (pos 0)
   stride-is = toZ-ofZ w64 _ (record { sfits = a .stride .given })
 
-abbrev turn : tie.After-add-product Inv-loop μ-loop → tie.After-stride Inv-loop μ-loop
+abbrev turn : tie.After-bounded-product Inv-loop μ-loop → tie.After-stride Inv-loop μ-loop
 turn t = t .before .before
 
-abbrev turn-down : tie.After-add-product2 Inv-loop μ-loop → tie.After-stride Inv-loop μ-loop
+abbrev turn-down : tie.After-bounded-product2 Inv-loop μ-loop → tie.After-stride Inv-loop μ-loop
 turn-down t = turn (t .before .before .before .before .before)
 
--- both sums with the span of axis i
-abbrev next-up : tie.After-add-product Inv-loop μ-loop → ℕ
-next-up t = atLoop (turn t) .loop .up + turn t .before .last-index .result * t .before .positive-part .result
+-- the span of axis i, above 0 and below
+abbrev span-up : tie.After-bounded-product Inv-loop μ-loop → ℕ
+span-up t = turn t .before .last-index .result * t .before .positive-part .result
 
-abbrev next-down : tie.After-add-product2 Inv-loop μ-loop → ℕ
-next-down t = atLoop (turn-down t) .loop .down + turn-down t .before .last-index .result * t .before .negative-part .result
+abbrev span-down : tie.After-bounded-product2 Inv-loop μ-loop → ℕ
+span-down t = turn-down t .before .last-index .result * t .before .negative-part .result
 
-up-turn : (t : tie.After-add-product Inv-loop μ-loop) → let a = turn t in
-    next-up t + upward (axesOf (drop (i a + 1) (es a)) (drop (i a + 1) (ss a))) ≡ upward (axesOf (es a) (ss a))
+up-turn : (t : tie.After-bounded-product Inv-loop μ-loop) → let a = turn t in
+    (atLoop a .loop .up + span-up t) + upward (axesOf (drop (i a + 1) (es a)) (drop (i a + 1) (ss a))) ≡ upward (axesOf (es a) (ss a))
 up-turn t = let a = turn t in
     upward-turn (es a) (ss a) (i a) (atLoop a .loop .up) _ (a .before .last-index .result) (t .before .positive-part .result)
     (omega arith) (omega arith) (a .before .last-index .ensures) (t .before .positive-part .ensures ∙ ap posPart (stride-is a)) (atLoop a .loop .inv .3)
 
-down-turn : (t : tie.After-add-product2 Inv-loop μ-loop) → let a = turn-down t in
-    next-down t + downward (axesOf (drop (i a + 1) (es a)) (drop (i a + 1) (ss a))) ≡ downward (axesOf (es a) (ss a))
+down-turn : (t : tie.After-bounded-product2 Inv-loop μ-loop) → let a = turn-down t in
+    (atLoop a .loop .down + span-down t) + downward (axesOf (drop (i a + 1) (es a)) (drop (i a + 1) (ss a))) ≡ downward (axesOf (es a) (ss a))
 down-turn t = let a = turn-down t in
     downward-turn (es a) (ss a) (i a) (atLoop a .loop .down) _ (a .before .last-index .result) (t .before .negative-part .result)
     (omega arith) (omega arith) (a .before .last-index .ensures) (t .before .negative-part .ensures ∙ ap negPart (stride-is a)) (atLoop a .loop .inv .4)
 
--- src/bounds.rt:109:5
+-- the two products where both were made
+module _ (c : tie.After-known-told2 Inv-loop μ-loop) where
+  abbrev down-place : tie.After-bounded-product2 Inv-loop μ-loop
+  down-place = c .before .before .before
+
+  abbrev up-place : tie.After-bounded-product Inv-loop μ-loop
+  up-place = down-place .before .before .before .before .before
+
+  more-up-is : (down-place .before .before .before .more-up .given .0 .0 ≡ span-up up-place) × (span-up up-place ≤ above (turn up-place) - atLoop (turn up-place) .loop .up)
+  more-up-is = is-bounded _ (span-up up-place) _ (up-place .bounded-product .ensures) (down-place .before .before .before .more-up .given .1)
+
+  more-down-is : (c .before .more-down .given .0 .0 ≡ span-down down-place) × (span-down down-place ≤ below (turn up-place) - atLoop (turn up-place) .loop .down)
+  more-down-is = is-bounded _ (span-down down-place) _ (down-place .bounded-product2 .ensures) (c .before .more-down .given .1)
+
+-- src/bounds.rt:92:5
 loop-holds : tie.Need-loop-holds Inv-loop μ-loop
 loop-holds c = search needs
 
--- src/bounds.rt:110:31
+-- src/bounds.rt:93:31
 mul-last-index : tie.Need-mul-last-index Inv-loop μ-loop
 mul-last-index c = search needs
 
--- src/bounds.rt:110:31
+-- src/bounds.rt:93:31
 shared-slice-read-last-index : tie.Need-shared-slice-read-last-index Inv-loop μ-loop
 shared-slice-read-last-index c = search needs
 
--- src/bounds.rt:110:13
+-- src/bounds.rt:93:13
 last-index-requires : tie.Need-last-index-requires Inv-loop μ-loop
 last-index-requires c κs = search needs
 
--- src/bounds.rt:111:22
+-- src/bounds.rt:94:22
 mul-stride : tie.Need-mul-stride Inv-loop μ-loop
 mul-stride c = search needs
 
--- src/bounds.rt:111:22
+-- src/bounds.rt:94:22
 shared-slice-copy-out-stride : tie.Need-shared-slice-copy-out-stride Inv-loop μ-loop
 shared-slice-copy-out-stride c = search needs
 
--- src/bounds.rt:112:54
+-- src/bounds.rt:95:58
 positive-part-requires : tie.Need-positive-part-requires Inv-loop μ-loop
 positive-part-requires c κs = search needs
 
--- src/bounds.rt:112:32
-add-product-requires : tie.Need-add-product-requires Inv-loop μ-loop
-add-product-requires c κs = search needs
+-- src/bounds.rt:95:81
+sub-bounded-product : tie.Need-sub-bounded-product Inv-loop μ-loop
+sub-bounded-product c = search needs
 
--- src/bounds.rt:112:21
+-- src/bounds.rt:95:36
+bounded-product-requires : tie.Need-bounded-product-requires Inv-loop μ-loop
+bounded-product-requires c κs = search needs
+
+-- src/bounds.rt:95:25
 enum-known-more-up : tie.Need-enum-known-more-up Inv-loop μ-loop
 enum-known-more-up c = search needs
 
--- src/bounds.rt:113:13
+-- src/bounds.rt:96:13
 enum-told : tie.Need-enum-told Inv-loop μ-loop
 enum-told c = search needs
 
--- src/bounds.rt:113:13
+-- src/bounds.rt:96:13
 returns : tie.Need-returns Inv-loop μ-loop
 returns c =
     let t = c .before .before in
     sym (spans-above (above (turn t)) (below (turn t)) (axesOf (es (turn t)) (ss (turn t)))
-    (omega (arith, up-turn t, over-sum (above (turn t)) (next-up t) (t .add-product .ensures) (c .enum-told .given .1))))
+    (omega (arith, up-turn t, over-bounded (above (turn t) - atLoop (turn t) .loop .up) (span-up t) (t .bounded-product .ensures) (c .enum-told .given .1))))
 
--- src/bounds.rt:115:58
+-- src/bounds.rt:98:60
 negative-part-requires : tie.Need-negative-part-requires Inv-loop μ-loop
 negative-part-requires c κs = search needs
 
--- src/bounds.rt:115:34
-add-product-requires-2 : tie.Need-add-product-requires-2 Inv-loop μ-loop
-add-product-requires-2 c κs = search needs
+-- src/bounds.rt:98:83
+sub-bounded-product-2 : tie.Need-sub-bounded-product-2 Inv-loop μ-loop
+sub-bounded-product-2 c = search needs
 
--- src/bounds.rt:115:21
+-- src/bounds.rt:98:38
+bounded-product-requires-2 : tie.Need-bounded-product-requires-2 Inv-loop μ-loop
+bounded-product-requires-2 c κs = search needs
+
+-- src/bounds.rt:98:25
 enum-known-more-down : tie.Need-enum-known-more-down Inv-loop μ-loop
 enum-known-more-down c = search needs
 
--- src/bounds.rt:116:13
+-- src/bounds.rt:99:13
 enum-told-2 : tie.Need-enum-told-2 Inv-loop μ-loop
 enum-told-2 c = search needs
 
--- src/bounds.rt:116:13
+-- src/bounds.rt:99:13
 returns-2 : tie.Need-returns-2 Inv-loop μ-loop
 returns-2 c =
     let t = c .before .before in
     sym (spans-below (above (turn-down t)) (below (turn-down t)) (axesOf (es (turn-down t)) (ss (turn-down t)))
-    (omega (arith, down-turn t, over-sum (below (turn-down t)) (next-down t) (t .add-product2 .ensures) (c .enum-told2 .given .1))))
+    (omega (arith, down-turn t, over-bounded (below (turn-down t) - atLoop (turn-down t) .loop .down) (span-down t) (t .bounded-product2 .ensures) (c .enum-told2 .given .1))))
 
--- src/bounds.rt:120:9
+-- src/bounds.rt:101:9
+add-up : tie.Need-add-up Inv-loop μ-loop
+add-up c = let f = atLoop (turn (up-place c)) .before .before .fits in record { fits = omega (arith, more-up-is c, f) }
+
+-- src/bounds.rt:102:9
+add-down : tie.Need-add-down Inv-loop μ-loop
+add-down c = let f = atLoop (turn (up-place c)) .before .before .fits in record { fits = omega (arith, more-down-is c, f) }
+
+-- src/bounds.rt:103:9
 add-i : tie.Need-add-i Inv-loop μ-loop
 add-i c = search needs
 
--- src/bounds.rt:109:5
+-- src/bounds.rt:92:5
 loop-less : tie.Need-loop-less Inv-loop μ-loop
 loop-less c = search needs
 
--- src/bounds.rt:109:5
+-- src/bounds.rt:92:5
 loop-again : tie.Need-loop-again Inv-loop μ-loop
-loop-again c =
-    let t = c .before .before .before in
-    let u = t .before .before .before .before .before in
-    let x = is-sum (above (turn u)) (next-up u) (t .before .before .before .more-up .given .0 .0) (u .add-product .ensures) (t .before .before .before .more-up .given .1) in
-    let y = is-sum (below (turn u)) (next-down t) (c .before .more-down .given .0 .0) (t .add-product2 .ensures) (c .before .more-down .given .1) in
-    omega (arith, up-turn u, down-turn t)
+loop-again c = let x = more-up-is c in let y = more-down-is c in omega (arith, up-turn (up-place c), down-turn (down-place c))
 
--- src/bounds.rt:102:1
+-- src/bounds.rt:85:1
 returns-3 : tie.Need-returns-3 Inv-loop μ-loop
 returns-3 c =
     let s = c .before .before .before .args in
@@ -180,15 +206,19 @@ sum-spans-spec =
     mul-stride
     shared-slice-copy-out-stride
     positive-part-requires
-    add-product-requires
+    sub-bounded-product
+    bounded-product-requires
     enum-known-more-up
     enum-told
     returns
     negative-part-requires
-    add-product-requires-2
+    sub-bounded-product-2
+    bounded-product-requires-2
     enum-known-more-down
     enum-told-2
     returns-2
+    add-up
+    add-down
     add-i
     loop-less
     loop-again
