@@ -7,9 +7,10 @@ use native.Mathlib.Decide.{ℕ-discrete}
 use native.Mathlib.Nat.{div-add-mod', div-lt-iff-lt-mul, div-mul-cancel, dvd-mul-left, le-of-mul-le-mul-right, mod-eq-zero-of-dvd, mod-le, mod-lt, mul-div-cancel, mul-le-mul-right, zero-mod}
 use native.Mathlib.Omega.{arith}
 use lib.Dec.{T, T-not, eqb, eqb-refl, eqb→eq, leb, leb→le, le→leb}
-use Rattle.integer.proofs.Congruence.{Congruent, coefficient, congruent-by-inverse, congruent-mul, congruent-sym, congruent-trans, inverse, mod-of-congruent, root, root-is}
+use Rattle.integer.proofs.Congruence.{coefficient, congruent-by-inverse, congruent-mul, congruent-sym, congruent-trans, inverse, mod-of-congruent, root, root-is}
 use Rattle.integer.proofs.Decide.{byTest, find}
 use Rattle.integer.proofs.GcdLaws.{gcd-divides-left, gcd-divides-right, gcd-pos}
+use Rattle.integer.specs.Congruence.{Congruent}
 use Rattle.integer.specs.Gcd.{gcd}
 
 -- the first number from lo on that is u₀ modulo b

@@ -2,15 +2,11 @@
 use mathlib.Core.Option.{none}
 use mathlib.Core.Path.{_∙_, _≡_, ap, sym}
 use Prim.Native.Nat.{_%_, _*_, _+_, _-_, _/_, _<_, suc, zero, ℕ}
-use native.Mathlib.Nat.{add-mul-mod-self-right, div-add-mod', div-mul-cancel, eq-of-mul-eq-mul-right, mod-lt}
+use native.Mathlib.Nat.{add-mul-mod-self-right, div-add-mod', div-mul-cancel, eq-of-mul-eq-mul-right, mod-eq-of-lt, mod-lt}
 use native.Mathlib.Omega.{arith}
 use Rattle.integer.proofs.GcdLaws.{gcd-divides-left, gcd-divides-right, gcd-pos}
+use Rattle.integer.specs.Congruence.{Congruent}
 use Rattle.integer.specs.Gcd.{gcd, gcdWithin}
-
-pub record Congruent (b x y : ℕ) : Type 0 where
-  pub p : ℕ
-  pub q : ℕ
-  pub eq : x + p * b ≡ y + q * b
 
 pub congruent-of-mod : (b x y : ℕ) → x % b ≡ y % b → Congruent b x y
 congruent-of-mod b x y e = record { p = y / b; q = x / b; eq = omega (arith, div-add-mod' x b, div-add-mod' y b) }
@@ -20,6 +16,13 @@ mod-of-congruent b x y c = sym (add-mul-mod-self-right x (c .p) b) ∙ ap (λ (z
 
 pub mod-congruent : (b x : ℕ) → Congruent b (x % b) x
 mod-congruent b x = record { p = x / b; q = 0; eq = omega (arith, div-add-mod' x b) }
+
+-- A remainder is congruent to what it is the remainder of, and of the numbers below b it is the only one.
+pub congruent-of-equal : (b r x : ℕ) → r ≡ x % b → Congruent b r x
+congruent-of-equal b r x e = rw e (mod-congruent b x)
+
+pub equal-of-congruent : (b r x : ℕ) → r < b → Congruent b r x → r ≡ x % b
+equal-of-congruent b r x h c = sym (mod-eq-of-lt h) ∙ mod-of-congruent b r x c
 
 pub congruent-sym : {b x y : ℕ} → Congruent b x y → Congruent b y x
 congruent-sym c = record { p = c .q; q = c .p; eq = sym (c .eq) }

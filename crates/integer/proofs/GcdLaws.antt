@@ -2,11 +2,11 @@
 use mathlib.Core.Path.{_≡_, ap, refl, sym}
 use Prim.Native.Nat.{_%_, _*_, _+_, _-_, _/_, _<_, _∣_, _≤_, suc, zero, ℕ}
 use native.Mathlib.Decide.{decLt}
-use native.Mathlib.Nat.{div-add-mod, div-mul-cancel, dvd-add-iff-right, dvd-mod-iff, dvd-mul-left, dvd-mul-right-of-dvd, dvd-of-mul-dvd-mul-right, dvd-refl, dvd-zero, eq-of-mul-eq-mul-right, le-of-dvd, le-of-mul-le-mul-right, mod-lt, mul-lt-mul-of-pos-right, mul-pos, pos-of-dvd-of-pos}
+use native.Mathlib.Nat.{div-add-mod, div-mul-cancel, dvd-add-iff-right, dvd-mod-iff, dvd-mul-left, dvd-mul-right-of-dvd, dvd-of-mul-dvd-mul-right, dvd-refl, dvd-zero, eq-of-mul-eq-mul-right, le-of-dvd, le-of-mul-le-mul-right, mod-lt, mul-lt-mul-of-pos-right, mul-pos, one-mul, pos-of-dvd-of-pos}
 use native.Mathlib.Omega.{arith}
 use lib.Arith.{le-zero}
 use lib.IntN.{pos}
-use Rattle.integer.specs.Gcd.{gcd, gcdWithin}
+use Rattle.integer.specs.Gcd.{GcdClaims, IsGcd, gcd, gcdWithin}
 
 fuel : (f g a b : ℕ) → b ≤ f → b ≤ g → gcdWithin f a b ≡ gcdWithin g a b
 unfolding gcdWithin
@@ -58,6 +58,17 @@ gcd-divides-right a b = gcdWithin-divides b a b (omega arith) .1
 pub divides-gcd : (c x a b : ℕ) → c ∣ x * a → c ∣ x * b → c ∣ x * gcd a b
 unfolding gcd
 divides-gcd c x a b p q = divides-gcdWithin b c x a b (omega arith) p q
+
+-- the definition has the meaning that its name says
+pub gcd-is : (a b : ℕ) → IsGcd a b (gcd a b)
+gcd-is a b = record {
+  divides-left = gcd-divides-left a b;
+  divides-right = gcd-divides-right a b;
+  greatest = λ d p q. rw one-mul at (divides-gcd d 1 a b (rw one-mul p) (rw one-mul q));
+}
+
+pub gcd-claims : GcdClaims
+gcd-claims = record { is-gcd = gcd-is }
 
 pub gcd-pos : (a b : ℕ) → 0 < a → 0 < gcd a b
 gcd-pos a b h = pos-of-dvd-of-pos (gcd-divides-left a b) h

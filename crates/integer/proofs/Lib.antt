@@ -5,3 +5,6 @@ pub mod Congruence
 pub mod BoundedEquation
 pub mod Decide
 pub mod SignedEquation
+pub mod ModularLaws
+pub mod MachineInteger
+pub mod CheckedLaws

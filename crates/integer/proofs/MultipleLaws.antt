@@ -6,7 +6,7 @@ use Prim.Native.Nat.{_*_, _+_, suc, zero, ℕ}
 use native.Mathlib.Nat.{mul-zero}
 use native.Mathlib.Omega.{arith}
 use lib.Dec.{T, T-not, eqb-refl, eqb→eq}
-use lib.IntN.{_+ℤ_, negsuc, negℤ, pos, ℤ}
+use lib.IntN.{_+ℤ_, natAbs, negsuc, negℤ, pos, ℤ}
 use Rattle.integer.proofs.PartLaws.{parts-add, parts-ext}
 use Rattle.integer.specs.Multiple.{_·_, eqZ}
 use Rattle.integer.specs.Parts.{negPart, posPart}
@@ -43,6 +43,22 @@ pub ·-add : (a b : ℕ) (s : ℤ) → (a + b) · s ≡ a · s +ℤ b · s
 
 pub ·-dist : (k : ℕ) (x y : ℤ) → k · (x +ℤ y) ≡ k · x +ℤ k · y
 ·-dist k x y = parts-ext (let e = parts-add (k · x) (k · y) in omega (arith, simp (posPart-·, negPart-·) at e, ap (λ (z : ℕ). k * z) (parts-add x y), posPart-· k (x +ℤ y), negPart-· k (x +ℤ y)))
+
+-- A multiple, by the sign and the magnitude of the integer.
+pub ·-of-zero : (k : ℕ) (s : ℤ) → natAbs s ≡ 0 → k · s ≡ pos 0
+unfolding _·_
+·-of-zero k (pos n) e = ap (λ (z : ℕ). pos (k * z)) e ∙ ap pos (mul-zero k)
+·-of-zero k (negsuc n) e = absurd (omega arith)
+
+pub ·-of-negative : (k : ℕ) (s : ℤ) → posPart s ≡ 0 → k · s ≡ negℤ (pos (k * natAbs s))
+unfolding _·_
+·-of-negative k (pos n) e = rw (e, mul-zero k)
+·-of-negative k (negsuc n) e = refl
+
+pub ·-of-nonnegative : (k : ℕ) (s : ℤ) → negPart s ≡ 0 → k · s ≡ pos (k * natAbs s)
+unfolding _·_
+·-of-nonnegative k (pos n) e = refl
+·-of-nonnegative k (negsuc n) e = absurd (omega arith)
 
 pub eqZ-yes : (x y : ℤ) → T (eqZ x y) → x ≡ y
 unfolding eqZ

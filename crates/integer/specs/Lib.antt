@@ -2,3 +2,4 @@ pub mod Range
 pub mod Parts
 pub mod Multiple
 pub mod Gcd
+pub mod Congruence
