@@ -5,7 +5,8 @@ use Prim.Native.Nat.{ℕ, zero, suc, _+_, _*_, _-_, _/_, _%_, _<_, _≤_}
 use native.Mathlib.Omega.{arith}
 use native.Mathlib.Decide.{decLe}
 use native.Mathlib.Nat.{div-add-mod', mod-eq-of-lt, mul-le-mul-right, le-of-mul-le-mul-right, eq-of-mul-eq-mul-right, zero-mod}
-use Rattle.integer.proofs.Congruence.{Congruent, mod-of-congruent, congruent-mul}
+use Rattle.integer.specs.Congruence.{Congruent}
+use Rattle.integer.proofs.Congruence.{mod-of-congruent, congruent-mul}
 use Rattle.walk.specs.Equation.{Coupled, Combination, Near, Far}
 
 -- one number of a class below b
@@ -176,3 +177,10 @@ module _ (A X B Y g a inverse w t k : ℕ) (C : Coupled A X B g a inverse w) whe
           omega (arith, mul-le-mul-right g (n .0), j-times, C .w-is),
           omega (arith, mul-le-mul-right g (n .1), ja-times, t-times, Y-times),
         )
+
+    pub neither : ¬ (Near w a (Y * B) t k) → ¬ (Far w a (Y * B) t (B - k)) → ¬ (Combination A X B Y t)
+    neither f g c = go (combination-near-or-far c)
+      where
+        go : Near w a (Y * B) t k ⊎ Far w a (Y * B) t (B - k) → ⊥
+        go (inl n) = f n
+        go (inr n) = g n

@@ -3,5 +3,5 @@ pub mod Combinations
 pub mod PartSums
 pub mod Turning
 pub mod Questions
-pub mod Residues
+pub mod ResidueLaws
 pub mod Walking

@@ -10,7 +10,7 @@ use lib.Seq.{drop-cons}
 use Rattle.specification.proofs.Positions.{IndexVector, empty, _and_}
 use Rattle.odometer.specs.Odometer.{dot}
 use Rattle.walk.specs.Walk.{widthsOf, middleOf, Parts}
-use Rattle.walk.proofs.AxisLaws.{digits-length}
+use Rattle.walk.proofs.AxisLaws.{digits-length, digit-below}
 
 -- ---- one sum, where `part i m` is how far digit i is from the middle m, on one side
 
@@ -66,6 +66,7 @@ parts-are es ss x e b = record { so = parts-so es ss b e; up-most = partSum-most
 
 pub record Summing (es ss x : List ℕ) (up down j : ℕ) : Type 0 where
   pub one-length : length ss ≡ length es
+  pub within : IndexVector (widthsOf es) x
   pub x-length : length x ≡ length es
   pub le : j ≤ length es
   pub ups : up + partSum above (drop j es) (drop j ss) (drop j x) ≡ partSum above es ss x
@@ -76,6 +77,7 @@ pub record Summing (es ss x : List ℕ) (up down j : ℕ) : Type 0 where
 pub summing-start : (es ss x : List ℕ) → length ss ≡ length es → IndexVector (widthsOf es) x → dot ss (middleOf es) < 2 ^ 64 → Summing es ss x 0 0 0
 summing-start es ss x e b h = record {
   one-length = e;
+  within = b;
   x-length = digits-length es b;
   le = omega arith;
   ups = omega arith;
@@ -85,6 +87,9 @@ summing-start es ss x e b h = record {
 }
 
 module _ (es ss x : List ℕ) (up down j : ℕ) (s : Summing es ss x up down j) (h : j < length es) where
+  pub digit-at : getD x j 0 < 2 * getD es j 0 - 1
+  digit-at = digit-below es x (s .within) j h
+
   pub up-at : up + ((getD x j 0 - (getD es j 0 - 1)) * getD ss j 0 + partSum above (drop (j + 1) es) (drop (j + 1) ss) (drop (j + 1) x)) ≡ partSum above es ss x
   up-at = omega (arith, s .ups, partSum-at above es ss x j h (omega (arith, s .one-length)) (omega (arith, s .x-length)))
 
@@ -96,6 +101,7 @@ module _ (es ss x : List ℕ) (up down j : ℕ) (s : Summing es ss x up down j) 
       let z : getD es j 0 - 1 - getD x j 0 ≡ 0 = omega arith in
       record {
         one-length = s .one-length;
+        within = s .within;
         x-length = s .x-length;
         le = omega arith;
         ups = omega (arith, up-at);
@@ -109,6 +115,7 @@ module _ (es ss x : List ℕ) (up down j : ℕ) (s : Summing es ss x up down j) 
       let z : getD x j 0 - (getD es j 0 - 1) ≡ 0 = omega arith in
       record {
         one-length = s .one-length;
+        within = s .within;
         x-length = s .x-length;
         le = omega arith;
         ups = omega (arith, up-at, ap (λ (y : ℕ). y * getD ss j 0) z);
@@ -117,9 +124,9 @@ module _ (es ss x : List ℕ) (up down j : ℕ) (s : Summing es ss x up down j) 
         down-fits = s .down-fits;
       }
 
-pub summing-end : (es ss x : List ℕ) (up down j : ℕ) → IndexVector (widthsOf es) x → Summing es ss x up down j → length es ≤ j → Parts es ss x up down
-summing-end es ss x up down j b s h =
+pub summing-end : (es ss x : List ℕ) (up down j : ℕ) → Summing es ss x up down j → length es ≤ j → Parts es ss x up down
+summing-end es ss x up down j s h =
     let u : up ≡ partSum above es ss x = omega (arith, s .ups, partSum-end above es (drop j ss) (drop j x) j h) in
     let d : down ≡ partSum below es ss x = omega (arith, s .downs, partSum-end below es (drop j ss) (drop j x) j h) in
-    let p = parts-are es ss x (s .one-length) b in
+    let p = parts-are es ss x (s .one-length) (s .within) in
     record { so = omega (arith, p .so); up-most = omega (arith, p .up-most); down-most = omega (arith, p .down-most) }

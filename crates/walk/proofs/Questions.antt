@@ -5,13 +5,11 @@ use mathlib.Core.List.{List}
 use Prim.Native.Nat.{ℕ, suc, _+_, _*_, _-_, _<_, _≤_}
 use native.Mathlib.Omega.{arith}
 use lib.IntN.{ℤ, pos, _-ℤ_}
-use lib.ListN.{length}
 use Rattle.integer.specs.Parts.{posPart, negPart}
 use Rattle.integer.proofs.SignedEquation.{small, below, above, shifted, to-parts, from-parts}
 use Rattle.specification.specs.Search.{Completes, differenceSum, fromDigits}
-use Rattle.specification.proofs.Positions.{IndexVector}
 use Rattle.walk.specs.Equation.{Tells, Combination}
-use Rattle.walk.specs.Walk.{axisWith, axesWith, widthsOf, Parts, Question}
+use Rattle.walk.specs.Walk.{axisWith, axesWith, Room, Stands, Parts, Question}
 use Rattle.walk.specs.declared.TwoAxes.{TwoAxes}
 use Rattle.walk.proofs.AxisLaws.{difference-sum}
 
@@ -59,18 +57,18 @@ completes-shifted A X B Y z w =
 
 -- ---- the size of the sum is a combination exactly if the sum is completed
 
-module _ (t : TwoAxes) (es ss x : List ℕ) (up down : ℕ) (e : length ss ≡ length es) (v : IndexVector (widthsOf es) x) (p : Parts es ss x up down) where
-  S-parts : posPart (differenceSum (axesWith es ss) (fromDigits (axesWith es ss) x)) + down ≡ up + negPart (differenceSum (axesWith es ss) (fromDigits (axesWith es ss) x))
-  S-parts = omega (arith, difference-sum es ss e v, p .so)
+module _ (t : TwoAxes) (es ss x : List ℕ) (z q up down : ℕ) (room : Room t es ss) (s : Stands t es ss x z q) (p : Parts es ss x up down) where
+  sum-parts : posPart (differenceSum (axesWith es ss) (fromDigits (axesWith es ss) x)) + down ≡ up + negPart (differenceSum (axesWith es ss) (fromDigits (axesWith es ss) x))
+  sum-parts = omega (arith, difference-sum es ss (room .one-length) (s .within), p .so)
 
   pub high-completes : down ≤ up → Combination (t .a) (t .x) (t .b) (t .y) (up - down) → Question t es ss x
   high-completes l c = shifted-completes (t .a) (t .x) (t .b) (t .y) _
-      (record { u = c .u; v = c .v; u-most = c .u-most; v-most = c .v-most; sum = omega (arith, c .sum, S-parts) })
+      (record { u = c .u; v = c .v; u-most = c .u-most; v-most = c .v-most; sum = omega (arith, c .sum, sum-parts) })
 
   pub completes-high : down ≤ up → Question t es ss x → Combination (t .a) (t .x) (t .b) (t .y) (up - down)
   completes-high l w =
-      let s = completes-shifted (t .a) (t .x) (t .b) (t .y) _ w in
-      record { u = s .u; v = s .v; u-most = s .u-most; v-most = s .v-most; sum = omega (arith, s .sum, S-parts) }
+      let d = completes-shifted (t .a) (t .x) (t .b) (t .y) _ w in
+      record { u = d .u; v = d .v; u-most = d .u-most; v-most = d .v-most; sum = omega (arith, d .sum, sum-parts) }
 
   -- the opposite difference
   opposite : (X u A : ℕ) → u ≤ 2 * X → (2 * X - u) * A + u * A ≡ 2 * (X * A)
@@ -82,16 +80,16 @@ module _ (t : TwoAxes) (es ss x : List ℕ) (up down : ℕ) (e : length ss ≡ l
     v = 2 * t .y - c .v;
     u-most = omega arith;
     v-most = omega arith;
-    sum = omega (arith, c .sum, S-parts, opposite (t .x) (c .u) (t .a) (c .u-most), opposite (t .y) (c .v) (t .b) (c .v-most));
+    sum = omega (arith, c .sum, sum-parts, opposite (t .x) (c .u) (t .a) (c .u-most), opposite (t .y) (c .v) (t .b) (c .v-most));
   })
 
   pub completes-low : up < down → Question t es ss x → Combination (t .a) (t .x) (t .b) (t .y) (down - up)
   completes-low l w =
-      let s = completes-shifted (t .a) (t .x) (t .b) (t .y) _ w in
+      let d = completes-shifted (t .a) (t .x) (t .b) (t .y) _ w in
       record {
-        u = 2 * t .x - s .u;
-        v = 2 * t .y - s .v;
+        u = 2 * t .x - d .u;
+        v = 2 * t .y - d .v;
         u-most = omega arith;
         v-most = omega arith;
-        sum = omega (arith, s .sum, S-parts, opposite (t .x) (s .u) (t .a) (s .u-most), opposite (t .y) (s .v) (t .b) (s .v-most));
+        sum = omega (arith, d .sum, sum-parts, opposite (t .x) (d .u) (t .a) (d .u-most), opposite (t .y) (d .v) (t .b) (d .v-most));
       }

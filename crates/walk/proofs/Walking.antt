@@ -6,7 +6,8 @@ use mathlib.Core.List.{List, [], _∷_}
 use Prim.Native.Nat.{ℕ, suc, _+_, _*_, _-_, _<_, _≤_}
 use native.Mathlib.Omega.{arith}
 use lib.ListN.{length, getD}
-use Rattle.integer.proofs.Congruence.{Congruent, congruent-mul}
+use Rattle.integer.specs.Congruence.{Congruent}
+use Rattle.integer.proofs.Congruence.{congruent-mul}
 use Rattle.specification.specs.Tests.{if_then_else_, isYes}
 use Rattle.specification.specs.Axis.{indexAt}
 use Rattle.specification.specs.Search.{widths, firstOf, differenceSum, fromDigits}
@@ -20,7 +21,7 @@ use Rattle.walk.specs.Equation.{Tells}
 use Rattle.walk.specs.Walk.{first, second, axesWith, halfOf, hits, widthsOf, middleOf, Ready, Room, Steps, Moves, Stands, Question, hitAfter, Reached, foundOf}
 use Rattle.walk.specs.declared.TwoAxes.{TwoAxes}
 use Rattle.walk.proofs.AxisLaws.{widths-with, widths-positive, digits-length, half-place, middle-within}
-use Rattle.walk.proofs.Residues.{window-below}
+use Rattle.walk.proofs.ResidueLaws.{window-below}
 
 -- ---- the residues go along
 
@@ -64,6 +65,9 @@ stands-more t es ss zs zb qs qb x x′ z q z′ q′ r hz hq s v mz mq =
       q-is = residue-one (t .g) (dot ss (middleOf es)) (dot ss x) (dot ss x′) q q′ (dot qs x) (dot qs x′) (s .q-is) (mq .so)
           (dot-scaled (t .g) 1 ss qs x (omega arith) (omega arith) iq) (dot-scaled (t .g) 1 ss qs x′ (omega arith) (omega arith) iq);
     }
+
+pub stands-length : {t : TwoAxes} {es ss x : List ℕ} {z q : ℕ} → Stands t es ss x z q → length x ≡ length es
+stands-length {t} {es} s = digits-length es (s .within)
 
 -- ---- the first place
 

@@ -2,7 +2,7 @@
 use mathlib.Core.Path.{_≡_}
 use mathlib.Core.Bool.{Bool, true, false}
 use Prim.Native.Nat.{ℕ, _+_, _*_, _<_, _≤_}
-use Rattle.integer.proofs.Congruence.{Congruent}
+use Rattle.integer.specs.Congruence.{Congruent}
 
 -- a bool that answers whether P
 pub record Tells (r : Bool) (P : Type 0) : Type 0 where

@@ -5,7 +5,7 @@ use mathlib.Core.Option.{Option, some, none}
 use mathlib.Core.List.{List, [], _∷_}
 use Prim.Native.Nat.{ℕ, suc, _+_, _*_, _-_, _^_, _<_, _≤_}
 use lib.ListN.{length, getD}
-use Rattle.integer.proofs.Congruence.{Congruent}
+use Rattle.integer.specs.Congruence.{Congruent}
 use Rattle.specification.specs.Axis.{indexAt}
 use Rattle.specification.specs.Search.{ActiveAxis, Completes, differenceSum, fromDigits, half, firstOf}
 use Rattle.specification.specs.Verdict.{hit}
@@ -53,10 +53,15 @@ pub record Ready (t : TwoAxes) : Type 0 where
   pub b-low : t .b < 2 ^ 63
   pub inverse-low : t .inverse < t .b
 
--- the others have as many strides as extents, no extent 0, and all spans together pass no word
+-- no extent has more differences than a word counts
+abbrev pub Small : List ℕ → Type 0
+Small es = (j : ℕ) → j < length es → getD es j 0 ≤ 2 ^ 63
+
+-- the others have as many strides as extents, no extent 0 or too large, and all spans together pass no word
 pub record Room (t : TwoAxes) (es ss : List ℕ) : Type 0 where
   pub one-length : length ss ≡ length es
   pub positive : PositiveExtents es
+  pub small : Small es
   pub fits : t .x * t .a + (t .y * t .b + dot ss (middleOf es)) < 2 ^ 64
 
 -- how a residue modulo b changes with a digit: `up` for one step, `back` from the last digit to 0

@@ -6,7 +6,8 @@ use Prim.Native.Nat.{ℕ, zero, suc, _+_, _*_, _-_, _/_, _%_, _<_, _≤_}
 use native.Mathlib.Omega.{arith}
 use native.Mathlib.Decide.{decLe}
 use native.Mathlib.Nat.{div-add-mod', mod-lt, mod-le, mul-pos, mod-eq-of-lt, mul-lt-mul-of-pos-right, zero-mod}
-use Rattle.integer.proofs.Congruence.{Congruent, congruent-of-mod, mod-of-congruent, mod-congruent}
+use Rattle.integer.specs.Congruence.{Congruent}
+use Rattle.integer.proofs.Congruence.{congruent-of-mod, mod-of-congruent, mod-congruent}
 use Rattle.walk.specs.Equation.{Near, Far}
 use Rattle.walk.specs.Walk.{Ready, Room, Stands, Parts, Question}
 use Rattle.walk.specs.declared.TwoAxes.{TwoAxes}
@@ -122,7 +123,7 @@ completes-residues t es ss x z q r room s Q = go (decLe down up)
 
     go : Dec (down ≤ up) → (z ≤ 2 * t .window) × (q ≡ 0)
     go (yes l) =
-        let m = completes-high t es ss x up down (room .one-length) (s .within) p l Q in
+        let m = completes-high t es ss x z q up down room s p l Q in
         let d : (up - down) % t .g ≡ 0 = combination-divides (t .a) (t .x) (t .b) (t .y) (t .g) (t .part) (t .inverse) (t .window) (up - down) k (r .coupled) m in
         let i = s .q-is in
         let o = congruent-of-mod (t .g) (up - down) 0 (d ∙ sym (zero-mod (t .g))) in
@@ -130,7 +131,7 @@ completes-residues t es ss x z q r room s Q = go (decLe down up)
         (z-small (as-k (up - down) (combination-near-or-far (t .a) (t .x) (t .b) (t .y) (t .g) (t .part) (t .inverse) (t .window) (up - down) k (r .coupled) (is-k .1) (high-residue t es ss x z q up down k s p (is-k .0) l) d m)), q-none c)
     go (no n) =
         let l : up < down = omega arith in
-        let m = completes-low t es ss x up down (room .one-length) (s .within) p l Q in
+        let m = completes-low t es ss x z q up down room s p l Q in
         let d : (down - up) % t .g ≡ 0 = combination-divides (t .a) (t .x) (t .b) (t .y) (t .g) (t .part) (t .inverse) (t .window) (down - up) k (r .coupled) m in
         let i = s .q-is in
         let o = congruent-of-mod (t .g) (down - up) 0 (d ∙ sym (zero-mod (t .g))) in
