@@ -1,0 +1,4 @@
+pub mod SortedAxes
+pub mod Orders
+pub mod SetApart
+pub mod Renumbered
