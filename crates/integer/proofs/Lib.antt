@@ -1,6 +1,9 @@
 pub mod PartLaws
+pub mod Polynomial
+pub mod RingLaws
 pub mod MultipleLaws
 pub mod GcdLaws
+pub mod Meeting
 pub mod Congruence
 pub mod BoundedEquation
 pub mod Decide

@@ -11,13 +11,13 @@ use lib.Dec.{T, leb, leb→le, nleb→lt}
 use lib.IntN.{ℤ, pos, natAbs, _-ℤ_, _*ℤ_}
 use Rattle.integer.specs.Gcd.{gcd}
 use Rattle.integer.specs.Parts.{posPart, negPart}
-use Rattle.integer.proofs.GcdLaws.{Meet, meet, meet-only}
+use Rattle.integer.proofs.Meeting.{Meet, meet-if, meet-only-if}
 use Rattle.integer.proofs.PartLaws.{parts-add, posPart-scale, negPart-scale}
 use Rattle.specification.specs.Tests.{if_then_else_, isYes}
 use Rattle.specification.specs.Axis.{product, indexAt}
 use Rattle.specification.specs.Search.{ActiveAxis, lengths, reach, spanSum, total, twoDistinct, widths, half, fromDigits, differenceAt, differenceSum, Completes, CompletesAt, firstOf, SameSum}
 use Rattle.specification.specs.Decided.{completes?}
-use Rattle.integer.proofs.SignedEquation.{small, below, above, shifted, to-parts, from-parts}
+use Rattle.integer.proofs.SignedEquation.{natAbs-of-shifted, negPart-of-natAbs, posPart-of-natAbs, shifted, parts-of-equation, equation-of-parts}
 use Rattle.specification.specs.Verdict.{Distinct, Repeated, Undecided, Plan, answered, enumerated, hit, placed, searched}
 use Rattle.specification.proofs.Positions.{IndexVector, empty, _and_, place}
 use Rattle.specification.proofs.AbsoluteStrides.{SumsApart}
@@ -47,8 +47,8 @@ unfolding reach
 meet-pair a b m = record {
   x = m .i₁ ∷ m .i₂ ∷ [];
   y = m .j₁ ∷ m .j₂ ∷ [];
-  bx = _and_ (m .lt₁) (_and_ (m .lt₂) empty);
-  by = _and_ (m .mt₁) (_and_ (m .mt₂) empty);
+  bx = _and_ (m .i₁-below) (_and_ (m .i₂-below) empty);
+  by = _and_ (m .j₁-below) (_and_ (m .j₂-below) empty);
   other = λ e. m .other (cc, cc);
   same = omega (arith, m .same);
 }
@@ -64,10 +64,10 @@ pair-meet a b p = go (p .x) (p .y) (p .bx) (p .by) (p .other) (p .same)
           i₂ = i₂;
           j₁ = j₁;
           j₂ = j₂;
-          lt₁ = h₁;
-          lt₂ = h₂;
-          mt₁ = k₁;
-          mt₂ = k₂;
+          i₁-below = h₁;
+          i₂-below = h₂;
+          j₁-below = k₁;
+          j₂-below = k₂;
           other = λ w. ne (λ i. w .0 i ∷ w .1 i ∷ []);
           same = omega arith;
         }
@@ -76,7 +76,7 @@ module _ (a b : ActiveAxis) (ha : 0 < a .stride) (hb : 0 < b .stride) where
   pub two-apart : twoDistinct a b ≡ true → ¬ (EqualSums (a ∷ b ∷ []))
   unfolding twoDistinct
   two-apart e p =
-      let w = meet-only (a .stride) (a .extent) (b .stride) (b .extent) ha hb (pair-meet a b p) in
+      let w = meet-only-if (a .stride) (a .extent) (b .stride) (b .extent) ha hb (pair-meet a b p) in
       go (leb (a .extent) (b .stride / gcd (a .stride) (b .stride))) (leb (b .extent) (a .stride / gcd (a .stride) (b .stride)))
       (λ t. omega (arith, leb→le (a .extent) (b .stride / gcd (a .stride) (b .stride)) t, w .0)) (λ t. omega (arith, leb→le (b .extent) (a .stride / gcd (a .stride) (b .stride)) t, w .1)) e
     where
@@ -93,7 +93,7 @@ module _ (a b : ActiveAxis) (ha : 0 < a .stride) (hb : 0 < b .stride) where
       go : (x y : Bool) → (T (not x) → b .stride / gcd (a .stride) (b .stride) < a .extent) → (T (not y) → a .stride / gcd (a .stride) (b .stride) < b .extent) → (x || y) ≡ false → EqualSums (a ∷ b ∷ [])
       go true y f g e = absurd (subst T e tt)
       go false true f g e = absurd (subst T e tt)
-      go false false f g e = meet-pair a b (meet (a .stride) (a .extent) (b .stride) (b .extent) ha hb (f tt) (g tt))
+      go false false f g e = meet-pair a b (meet-if (a .stride) (a .extent) (b .stride) (b .extent) ha hb (f tt) (g tt))
 
 -- ---- completing
 
@@ -117,25 +117,25 @@ module _ (a b : ActiveAxis) (z : ℤ) (t s : ℕ) (e : posPart z + s ≡ t + neg
   completes-solves w =
       let hx : natAbs (w .x) < suc (a .extent - 1) = omega (arith, w .x-below) in
       let hy : natAbs (w .y) < suc (b .extent - 1) = omega (arith, w .y-below) in
-      let bx : negPart (w .x) ≤ a .extent - 1 = below (w .x) (a .extent - 1) hx in
-      let by : negPart (w .y) ≤ b .extent - 1 = below (w .y) (b .extent - 1) hy in
+      let bx : negPart (w .x) ≤ a .extent - 1 = negPart-of-natAbs (w .x) (a .extent - 1) hx in
+      let by : negPart (w .y) ≤ b .extent - 1 = negPart-of-natAbs (w .y) (b .extent - 1) hy in
       let ex : posPart (w .x) + (a .extent - 1) - negPart (w .x) + negPart (w .x) ≡ posPart (w .x) + (a .extent - 1) = omega arith in
       let ey : posPart (w .y) + (b .extent - 1) - negPart (w .y) + negPart (w .y) ≡ posPart (w .y) + (b .extent - 1) = omega arith in
       record {
         u = posPart (w .x) + (a .extent - 1) - negPart (w .x);
         v = posPart (w .y) + (b .extent - 1) - negPart (w .y);
-        uu = omega (arith, above (w .x) (a .extent - 1) hx);
-        vv = omega (arith, above (w .y) (b .extent - 1) hy);
-        sum = omega (arith, to-parts (w .x) (w .y) z (a .stride) (b .stride) (w .to-zero), ap (λ (k : ℕ). k * a .stride) ex, ap (λ (k : ℕ). k * b .stride) ey);
+        uu = omega (arith, posPart-of-natAbs (w .x) (a .extent - 1) hx);
+        vv = omega (arith, posPart-of-natAbs (w .y) (b .extent - 1) hy);
+        sum = omega (arith, parts-of-equation (w .x) (w .y) z (a .stride) (b .stride) (w .to-zero), ap (λ (k : ℕ). k * a .stride) ex, ap (λ (k : ℕ). k * b .stride) ey);
       }
 
   solves-completes : Solves a b t ((a .extent - 1) * a .stride + ((b .extent - 1) * b .stride + s)) → Completes a b z
   solves-completes w = record {
     x = pos (w .u) -ℤ pos (a .extent - 1);
     y = pos (w .v) -ℤ pos (b .extent - 1);
-    x-below = omega (arith, small (pos (w .u) -ℤ pos (a .extent - 1)) (w .u) (a .extent - 1) (shifted (w .u) (a .extent - 1)) (omega (arith, w .uu)));
-    y-below = omega (arith, small (pos (w .v) -ℤ pos (b .extent - 1)) (w .v) (b .extent - 1) (shifted (w .v) (b .extent - 1)) (omega (arith, w .vv)));
-    to-zero = from-parts (pos (w .u) -ℤ pos (a .extent - 1)) (pos (w .v) -ℤ pos (b .extent - 1)) z (a .stride) (b .stride)
+    x-below = omega (arith, natAbs-of-shifted (pos (w .u) -ℤ pos (a .extent - 1)) (w .u) (a .extent - 1) (shifted (w .u) (a .extent - 1)) (omega (arith, w .uu)));
+    y-below = omega (arith, natAbs-of-shifted (pos (w .v) -ℤ pos (b .extent - 1)) (w .v) (b .extent - 1) (shifted (w .v) (b .extent - 1)) (omega (arith, w .vv)));
+    to-zero = equation-of-parts (pos (w .u) -ℤ pos (a .extent - 1)) (pos (w .v) -ℤ pos (b .extent - 1)) z (a .stride) (b .stride)
         (omega (arith, w .sum, e, ap (λ (k : ℕ). k * a .stride) (shifted (w .u) (a .extent - 1)), ap (λ (k : ℕ). k * b .stride) (shifted (w .v) (b .extent - 1))));
   }
 
