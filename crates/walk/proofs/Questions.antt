@@ -6,7 +6,8 @@ use Prim.Native.Nat.{ℕ, suc, _+_, _*_, _-_, _<_, _≤_}
 use native.Mathlib.Omega.{arith}
 use lib.IntN.{ℤ, pos, _-ℤ_}
 use Rattle.integer.specs.Parts.{posPart, negPart}
-use Rattle.integer.proofs.SignedEquation.{small, below, above, shifted, to-parts, from-parts}
+use Rattle.integer.proofs.Polynomial.{_⊕_, _⊖_, _⊗_, int, nat, prove-eq}
+use Rattle.integer.proofs.SignedEquation.{natAbs-of-shifted, negPart-of-natAbs, posPart-of-natAbs, shifted, parts-of-equation}
 use Rattle.specification.specs.Search.{Completes, differenceSum, fromDigits}
 use Rattle.walk.specs.Equation.{Tells, Combination}
 use Rattle.walk.specs.Walk.{axisWith, axesWith, Room, Stands, Parts, Question}
@@ -35,24 +36,23 @@ shifted-completes : (A X B Y : ℕ) (z : ℤ) → Shifted A X B Y z → Complete
 shifted-completes A X B Y z s = record {
   x = pos (s .u) -ℤ pos X;
   y = pos (s .v) -ℤ pos Y;
-  x-below = small (pos (s .u) -ℤ pos X) (s .u) X (shifted (s .u) X) (s .u-most);
-  y-below = small (pos (s .v) -ℤ pos Y) (s .v) Y (shifted (s .v) Y) (s .v-most);
-  to-zero = from-parts (pos (s .u) -ℤ pos X) (pos (s .v) -ℤ pos Y) z A B
-      (omega (arith, s .sum, ap (λ (k : ℕ). k * A) (shifted (s .u) X), ap (λ (k : ℕ). k * B) (shifted (s .v) Y)));
+  x-below = natAbs-of-shifted (pos (s .u) -ℤ pos X) (s .u) X (shifted (s .u) X) (s .u-most);
+  y-below = natAbs-of-shifted (pos (s .v) -ℤ pos Y) (s .v) Y (shifted (s .v) Y) (s .v-most);
+  to-zero = prove-eq (((nat (s .u) ⊖ nat X) ⊗ nat A ⊕ (nat (s .v) ⊖ nat Y) ⊗ nat B) ⊕ int z) (nat 0) (omega (arith, s .sum));
 }
 
 completes-shifted : (A X B Y : ℕ) (z : ℤ) → Completes (axisWith (suc X) A) (axisWith (suc Y) B) z → Shifted A X B Y z
 completes-shifted A X B Y z w =
-    let bx : negPart (w .x) ≤ X = below (w .x) X (w .x-below) in
-    let by : negPart (w .y) ≤ Y = below (w .y) Y (w .y-below) in
+    let bx : negPart (w .x) ≤ X = negPart-of-natAbs (w .x) X (w .x-below) in
+    let by : negPart (w .y) ≤ Y = negPart-of-natAbs (w .y) Y (w .y-below) in
     let ex : posPart (w .x) + X - negPart (w .x) + negPart (w .x) ≡ posPart (w .x) + X = omega arith in
     let ey : posPart (w .y) + Y - negPart (w .y) + negPart (w .y) ≡ posPart (w .y) + Y = omega arith in
     record {
       u = posPart (w .x) + X - negPart (w .x);
       v = posPart (w .y) + Y - negPart (w .y);
-      u-most = omega (arith, above (w .x) X (w .x-below));
-      v-most = omega (arith, above (w .y) Y (w .y-below));
-      sum = omega (arith, to-parts (w .x) (w .y) z A B (w .to-zero), ap (λ (k : ℕ). k * A) ex, ap (λ (k : ℕ). k * B) ey);
+      u-most = omega (arith, posPart-of-natAbs (w .x) X (w .x-below));
+      v-most = omega (arith, posPart-of-natAbs (w .y) Y (w .y-below));
+      sum = omega (arith, parts-of-equation (w .x) (w .y) z A B (w .to-zero), ap (λ (k : ℕ). k * A) ex, ap (λ (k : ℕ). k * B) ey);
     }
 
 -- ---- the size of the sum is a combination exactly if the sum is completed
