@@ -43,6 +43,11 @@ unfolding placed
 placed-with l m e none = ap (answered Distinct) e
 placed-with l m e (some c) = refl
 
+-- step 4
+pub two-with : (a b : ActiveAxis) → twoDistinct (axisWith (a .extent) (a .stride)) (axisWith (b .extent) (b .stride)) ≡ twoDistinct a b
+unfolding twoDistinct
+two-with a b = refl
+
 module _ (a b : ActiveAxis) (l : List ActiveAxis) where
   hit-with : (c : ℕ) → hit (axisWith (a .extent) (a .stride)) (axisWith (b .extent) (b .stride)) (axesWith (lengths l) (strides l)) c ≡ hit a b l c
   unfolding hit
@@ -58,8 +63,8 @@ module _ (a b : ActiveAxis) (l : List ActiveAxis) where
           ∙ ap₂ (λ (w : List ℕ) (h : ℕ). differenceSum l (fromDigits l (indexAt w (h + c)))) (widths-with l) (half-with l)
 
   searched-with : searched (axisWith (a .extent) (a .stride)) (axisWith (b .extent) (b .stride)) (axesWith (lengths l) (strides l)) ≡ searched a b l
-  unfolding searched twoDistinct
-  searched-with = ap (λ (z : Plan). if twoDistinct a b then z else answered Repeated 0)
+  unfolding searched
+  searched-with = ap₂ (λ (t : Bool) (z : Plan). if t then z else answered Repeated 0) (two-with a b)
       (placed-with (axesWith (lengths l) (strides l)) l (half-with l) (firstOf (hit (axisWith (a .extent) (a .stride)) (axisWith (b .extent) (b .stride)) (axesWith (lengths l) (strides l))) (half (axesWith (lengths l) (strides l))) 1)
       ∙ ap₂ (λ (t : ℕ → Bool) (n : ℕ). placed l (firstOf t n 1)) (λ i c. hit-with c i) (half-with l))
 
