@@ -28,7 +28,7 @@ use Rattle.search.specs.declared.Half.the-variants.{Within, Past}
 use Rattle.search.proofs.SortedAxes.{Sorted}
 use Rattle.search.proofs.Orders.{ascending-sorted}
 use Rattle.search.proofs.SetApart.{axisAt, extent-at, stride-at, lengths-remove, strides-remove, many-is}
-use Rattle.search.proofs.Renumbered.{hit-turned, search-with}
+use Rattle.search.proofs.Renumbered.{hit-turned, search-unnumbered}
 
 -- ---- the others, as the walk asks for them
 
@@ -141,7 +141,7 @@ module _ (block axes : List ActiveAxis) (p q : ℕ) (r : Searched) (perm : Perm 
       let so : removeAt q (removeAt p (strides axes)) ≡ strides (removeAt q (removeAt p axes)) = ap (λ (z : List ℕ). removeAt q z) (sym sl) ∙ sym (strides-remove q (removeAt p axes)) in
       w past
       ∙ (λ i. searchedOr past (axisWith (ea i) (sa i)) (axisWith (eb i) (sb i)) (axesWith (eo i) (so i)))
-      ∙ search-with (axisAt axes p) (axisAt (removeAt p axes) q) (removeAt q (removeAt p axes)) past
+      ∙ search-unnumbered (axisAt axes p) (axisAt (removeAt p axes) q) (removeAt q (removeAt p axes)) past
 
   answers-block : (es ss : List ℕ) → lengths axes ≡ es → strides axes ≡ ss → FirstLongest es p → FirstLongest (removeAt p es) q
       → Answers r (axisWith (getD es p 0) (getD ss p 0)) (axisWith (getD (removeAt p es) q 0) (getD (removeAt p ss) q 0)) (axesWith (removeAt q (removeAt p es)) (removeAt q (removeAt p ss)))

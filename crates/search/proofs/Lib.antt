@@ -7,3 +7,4 @@ pub mod Boxing
 pub mod Coupling
 pub mod Removal
 pub mod Answered
+pub mod ForCallers

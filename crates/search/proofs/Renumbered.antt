@@ -24,52 +24,59 @@ decided-same (no p) (no q) f g = refl
 
 -- ---- the numbers
 
-widths-with : (l : List ActiveAxis) → widths (axesWith (lengths l) (strides l)) ≡ widths l
-widths-with [] = refl
-widths-with (a ∷ rest) = ap (λ (z : List ℕ). (2 * a .extent - 1) ∷ z) (widths-with rest)
+-- axes as the search takes them, by extent and stride
+abbrev pub unnumbered : ActiveAxis → ActiveAxis
+unnumbered a = axisWith (a .extent) (a .stride)
 
-half-with : (l : List ActiveAxis) → half (axesWith (lengths l) (strides l)) ≡ half l
+abbrev pub allUnnumbered : List ActiveAxis → List ActiveAxis
+allUnnumbered l = axesWith (lengths l) (strides l)
+
+widths-unnumbered : (l : List ActiveAxis) → widths (allUnnumbered l) ≡ widths l
+widths-unnumbered [] = refl
+widths-unnumbered (a ∷ rest) = ap (λ (z : List ℕ). (2 * a .extent - 1) ∷ z) (widths-unnumbered rest)
+
+half-unnumbered : (l : List ActiveAxis) → half (allUnnumbered l) ≡ half l
 unfolding half
-half-with l = ap (λ (z : List ℕ). (product z - 1) / 2) (widths-with l)
+half-unnumbered l = ap (λ (z : List ℕ). (product z - 1) / 2) (widths-unnumbered l)
 
-sum-with : (l : List ActiveAxis) (d : List ℕ) → differenceSum (axesWith (lengths l) (strides l)) (fromDigits (axesWith (lengths l) (strides l)) d) ≡ differenceSum l (fromDigits l d)
+sum-unnumbered : (l : List ActiveAxis) (d : List ℕ) → differenceSum (allUnnumbered l) (fromDigits (allUnnumbered l) d) ≡ differenceSum l (fromDigits l d)
 unfolding differenceSum fromDigits
-sum-with [] d = refl
-sum-with (a ∷ rest) [] = refl
-sum-with (a ∷ rest) (i ∷ d) = ap (λ (z : ℤ). (pos i -ℤ pos (a .extent - 1)) *ℤ pos (a .stride) +ℤ z) (sum-with rest d)
+sum-unnumbered [] d = refl
+sum-unnumbered (a ∷ rest) [] = refl
+sum-unnumbered (a ∷ rest) (i ∷ d) = ap (λ (z : ℤ). (pos i -ℤ pos (a .extent - 1)) *ℤ pos (a .stride) +ℤ z) (sum-unnumbered rest d)
 
-placed-with : (l m : List ActiveAxis) → half l ≡ half m → (o : Option ℕ) → placed l o ≡ placed m o
+placed-by-half : (l m : List ActiveAxis) → half l ≡ half m → (o : Option ℕ) → placed l o ≡ placed m o
 unfolding placed
-placed-with l m e none = ap (answered Distinct) e
-placed-with l m e (some c) = refl
+placed-by-half l m e none = ap (answered Distinct) e
+placed-by-half l m e (some c) = refl
 
 -- step 4
-pub two-with : (a b : ActiveAxis) → twoDistinct (axisWith (a .extent) (a .stride)) (axisWith (b .extent) (b .stride)) ≡ twoDistinct a b
+pub two-unnumbered : (a b : ActiveAxis) → twoDistinct (unnumbered a) (unnumbered b) ≡ twoDistinct a b
 unfolding twoDistinct
-two-with a b = refl
+two-unnumbered a b = refl
 
 module _ (a b : ActiveAxis) (l : List ActiveAxis) where
-  hit-with : (c : ℕ) → hit (axisWith (a .extent) (a .stride)) (axisWith (b .extent) (b .stride)) (axesWith (lengths l) (strides l)) c ≡ hit a b l c
+  hit-unnumbered : (c : ℕ) → hit (unnumbered a) (unnumbered b) (allUnnumbered l) c ≡ hit a b l c
   unfolding hit
-  hit-with c = decided-same
-      (completes? (axisWith (a .extent) (a .stride)) (axisWith (b .extent) (b .stride)) (differenceSum (axesWith (lengths l) (strides l)) (differenceAt (axesWith (lengths l) (strides l)) (half (axesWith (lengths l) (strides l)) + c))))
+  hit-unnumbered c = decided-same
+      (completes? (unnumbered a) (unnumbered b) (differenceSum (allUnnumbered l) (differenceAt (allUnnumbered l) (half (allUnnumbered l) + c))))
       (completes? a b (differenceSum l (differenceAt l (half l + c))))
       (λ w. subst (Completes a b) same (record { x = w .x; y = w .y; x-below = w .x-below; y-below = w .y-below; to-zero = w .to-zero }))
-      (λ w. subst⁻¹ (Completes (axisWith (a .extent) (a .stride)) (axisWith (b .extent) (b .stride))) same (record { x = w .x; y = w .y; x-below = w .x-below; y-below = w .y-below; to-zero = w .to-zero }))
+      (λ w. subst⁻¹ (Completes (unnumbered a) (unnumbered b)) same (record { x = w .x; y = w .y; x-below = w .x-below; y-below = w .y-below; to-zero = w .to-zero }))
     where
-      same : differenceSum (axesWith (lengths l) (strides l)) (differenceAt (axesWith (lengths l) (strides l)) (half (axesWith (lengths l) (strides l)) + c)) ≡ differenceSum l (differenceAt l (half l + c))
+      same : differenceSum (allUnnumbered l) (differenceAt (allUnnumbered l) (half (allUnnumbered l) + c)) ≡ differenceSum l (differenceAt l (half l + c))
       same =
-          sum-with l (indexAt (widths (axesWith (lengths l) (strides l))) (half (axesWith (lengths l) (strides l)) + c))
-          ∙ ap₂ (λ (w : List ℕ) (h : ℕ). differenceSum l (fromDigits l (indexAt w (h + c)))) (widths-with l) (half-with l)
+          sum-unnumbered l (indexAt (widths (allUnnumbered l)) (half (allUnnumbered l) + c))
+          ∙ ap₂ (λ (w : List ℕ) (h : ℕ). differenceSum l (fromDigits l (indexAt w (h + c)))) (widths-unnumbered l) (half-unnumbered l)
 
-  searched-with : searched (axisWith (a .extent) (a .stride)) (axisWith (b .extent) (b .stride)) (axesWith (lengths l) (strides l)) ≡ searched a b l
+  searched-unnumbered : searched (unnumbered a) (unnumbered b) (allUnnumbered l) ≡ searched a b l
   unfolding searched
-  searched-with = ap₂ (λ (t : Bool) (z : Plan). if t then z else answered Repeated 0) (two-with a b)
-      (placed-with (axesWith (lengths l) (strides l)) l (half-with l) (firstOf (hit (axisWith (a .extent) (a .stride)) (axisWith (b .extent) (b .stride)) (axesWith (lengths l) (strides l))) (half (axesWith (lengths l) (strides l))) 1)
-      ∙ ap₂ (λ (t : ℕ → Bool) (n : ℕ). placed l (firstOf t n 1)) (λ i c. hit-with c i) (half-with l))
+  searched-unnumbered = ap₂ (λ (t : Bool) (z : Plan). if t then z else answered Repeated 0) (two-unnumbered a b)
+      (placed-by-half (allUnnumbered l) l (half-unnumbered l) (firstOf (hit (unnumbered a) (unnumbered b) (allUnnumbered l)) (half (allUnnumbered l)) 1)
+      ∙ ap₂ (λ (t : ℕ → Bool) (n : ℕ). placed l (firstOf t n 1)) (λ i c. hit-unnumbered c i) (half-unnumbered l))
 
-  pub search-with : (past : Plan) → searchedOr past (axisWith (a .extent) (a .stride)) (axisWith (b .extent) (b .stride)) (axesWith (lengths l) (strides l)) ≡ searchedOr past a b l
-  search-with past = ap₂ (λ (h : ℕ) (p : Plan). if leb h 4194304 then p else past) (half-with l) searched-with
+  pub search-unnumbered : (past : Plan) → searchedOr past (unnumbered a) (unnumbered b) (allUnnumbered l) ≡ searchedOr past a b l
+  search-unnumbered past = ap₂ (λ (h : ℕ) (p : Plan). if leb h 4194304 then p else past) (half-unnumbered l) searched-unnumbered
 
 -- ---- the two set apart
 

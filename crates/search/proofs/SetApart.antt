@@ -25,6 +25,10 @@ use Rattle.search.proofs.Orders.{lower-sort-is, sorted-numbered, is-lon
 abbrev pub axisAt : List ActiveAxis → ℕ → ActiveAxis
 axisAt l p = getD l p (axisWith 0 0)
 
+pub lengths-length : (l : List ActiveAxis) → length (lengths l) ≡ length l
+lengths-length [] = refl
+lengths-length (a ∷ rest) = ap suc (lengths-length rest)
+
 pub extent-at : (l : List ActiveAxis) (p : ℕ) → axisAt l p .extent ≡ getD (lengths l) p 0
 extent-at [] p = refl
 extent-at (a ∷ rest) zero = refl
@@ -92,10 +96,6 @@ first-apart l p s f = longer-sort-is l (axisAt l p ∷ sortBy longer (removeAt p
     (trans (remove-perm p l (omega (arith, f .is-in, lengths-length l))) (skip (sort-perm longer (removeAt p l))))
     (sorted-numbered l s)
     (λ x i. longest-first l p s f x (perm-in (perm-sym (sort-perm longer (removeAt p l))) x i), longer-sorted (removeAt p l) (sorted-numbered (removeAt p l) (remove-sorted lower p l s)))
-  where
-    lengths-length : (l : List ActiveAxis) → length (lengths l) ≡ length l
-    lengths-length [] = refl
-    lengths-length (a ∷ rest) = ap suc (lengths-length rest)
 
 -- ---- and so of a block, which is these axes in another order
 

@@ -1,7 +1,7 @@
 -- `set_up_and_walk` meets its contract: the two lists of steps, the digits of no difference, and the whole walk.
 use borrow.Author.Needs.{needs}
-use Rattle.search.proofs.set_up_and_walk.Statement.{statement}
-use Rattle.search.proofs.set_up_and_walk.Tie as tie
+use Rattle.search.proofs.set_up.set_up_and_walk.Statement.{statement}
+use Rattle.search.proofs.set_up.set_up_and_walk.Tie as tie
 use native.Mathlib.Nat.{mod-lt}
 use Rattle.search.proofs.Filling.{steps-of-one}
 

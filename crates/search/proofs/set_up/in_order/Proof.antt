@@ -1,7 +1,7 @@
 -- `in_order` meets its contract: the inverse of gcd_and_inverse, divided by g, is that of s1 / g modulo s2 / g.
 use borrow.Author.Needs.{needs}
-use Rattle.search.proofs.in_order.Statement.{statement}
-use Rattle.search.proofs.in_order.Tie as tie
+use Rattle.search.proofs.set_up.in_order.Statement.{statement}
+use Rattle.search.proofs.set_up.in_order.Tie as tie
 use native.Mathlib.Omega.{arith}
 use Rattle.search.proofs.Coupling.{divisor-above, window-most, coupled, axis-back}
 

@@ -1,7 +1,7 @@
 -- `walk_others` meets its contract: it lends the front of each array, as long as the extents.
 use borrow.Author.Needs.{needs}
-use Rattle.search.proofs.walk_others.Statement.{statement}
-use Rattle.search.proofs.walk_others.Tie as tie
+use Rattle.search.proofs.set_up.walk_others.Statement.{statement}
+use Rattle.search.proofs.set_up.walk_others.Tie as tie
 use mathlib.Core.Path.{sym}
 use Prim.Native.Nat.{_≤_}
 use native.Mathlib.Omega.{arith}

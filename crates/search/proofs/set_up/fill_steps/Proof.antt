@@ -1,7 +1,7 @@
 -- `fill_steps` meets its contract: the steps back are made of the steps up.
 use borrow.Author.Needs.{needs}
-use Rattle.search.proofs.fill_steps.Statement.{statement}
-use Rattle.search.proofs.fill_steps.Tie as tie
+use Rattle.search.proofs.set_up.fill_steps.Statement.{statement}
+use Rattle.search.proofs.set_up.fill_steps.Tie as tie
 use mathlib.Core.Path.{sym, _∙_}
 use native.Mathlib.Omega.{arith}
 use Rattle.search.proofs.Filling.{scaled-below, steps-of}

@@ -1,7 +1,7 @@
 -- `fill_middle` meets its contract, place by place.
 use borrow.Author.Needs.{needs}
-use Rattle.search.proofs.fill_middle.Statement.{statement}
-use Rattle.search.proofs.fill_middle.Tie as tie
+use Rattle.search.proofs.set_up.fill_middle.Statement.{statement}
+use Rattle.search.proofs.set_up.fill_middle.Tie as tie
 use Prim.Native.Nat.{_-_}
 use mathlib.Core.Path.{_≡_, refl, sym, _∙_}
 use native.Mathlib.Omega.{arith}

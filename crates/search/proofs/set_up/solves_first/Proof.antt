@@ -1,7 +1,7 @@
 -- `solves_first` meets its contract: it answers for an axis only where that one's differences are few enough.
 use borrow.Author.Needs.{needs}
-use Rattle.search.proofs.solves_first.Statement.{statement}
-use Rattle.search.proofs.solves_first.Tie as tie
+use Rattle.search.proofs.set_up.solves_first.Statement.{statement}
+use Rattle.search.proofs.set_up.solves_first.Tie as tie
 use mathlib.Core.Path.{_≡_}
 use mathlib.Core.Logic.{_⊎_, inl, inr}
 use Prim.Native.Nat.{ℕ, _<_, _≤_}
