@@ -8,3 +8,12 @@ pub mod BoundsLaws
 pub mod AnswerLaws
 pub mod HandedLaws
 pub mod ListedLaws
+pub mod ChainLaws
+pub mod RangeLaws
+pub mod RootLaws
+pub mod PairLaws
+pub mod TieLaws
+pub mod ClassLaws
+pub mod StrideSumLaws
+pub mod FusedLaws
+pub mod DiagonalLaws

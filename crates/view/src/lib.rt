@@ -2,5 +2,6 @@
 pub mod accepted;
 pub mod bounds;
 pub mod broadcast;
+pub mod diagonal;
 pub mod layout;
 pub mod permute;
