@@ -1,5 +1,5 @@
 -- What the tests of the normal form tell: the number of positions, and what the call answers then.
-use mathlib.Core.Path.{_≡_, refl, sym, _∙_}
+use mathlib.Core.Path.{_≡_, refl, _∙_}
 use mathlib.Core.Bool.{Bool, true, false}
 use mathlib.Core.List.{List, [], _∷_, _++_}
 use Prim.Native.Nat.{ℕ, zero, suc, _≤_}
@@ -14,13 +14,12 @@ use Rattle.specification.specs.Tests.{if_then_else_}
 use Rattle.specification.specs.Outcome.{refused, pass, refuseIf, _>>_}
 use Rattle.specification.specs.Axis.{Axis, extents, positions, isEmpty}
 use Rattle.specification.specs.Layout.{LayoutM, handed}
-use Rattle.specification.specs.Views.{withAxes}
-use Rattle.specification.specs.Normal.{normalAxes, overfull, normalForm}
-use Rattle.specification.proofs.NormalLaws.{full-pos, positions-pos, empty-none, normal-of-empty, normal-of-full}
+use Rattle.specification.specs.Normal.{normalOf, overfull, normalForm}
+use Rattle.specification.proofs.NormalLaws.{full-pos, positions-pos, empty-none}
 use Rattle.view.specs.Count.{countOf}
 use Rattle.view.specs.Model.{axesIn}
 use Rattle.view.specs.declared.count.Count.the-variants.{Of, TooMany}
-use Rattle.record.specs.Normal.{normalView, counted, emptyOf}
+use Rattle.record.specs.Normal.{normalView, counted}
 
 -- ---- the extents of the axes in two arrays
 
@@ -85,10 +84,6 @@ module _ (l : LayoutM) where
   unfolding refuseIf _>>_
   counted-over e = rw (too-many (l .axes) e)
 
-  pub counted-empty : countOf (l .axes) ≡ Of 0 → counted l ≡ record { answer = pass; layout = emptyOf l }
+  pub counted-done : {n : ℕ} → countOf (l .axes) ≡ Of n → counted l ≡ record { answer = pass; layout = normalOf l }
   unfolding refuseIf _>>_
-  counted-empty e = let k = counted-is (l .axes) 0 e in rw (k .0, normal-of-empty l (none-empty (l .axes) (k .1)))
-
-  pub counted-full : (n : ℕ) → countOf (l .axes) ≡ Of n → ¬ (n ≡ 0) → counted l ≡ record { answer = pass; layout = withAxes l (normalAxes (l .axes)) }
-  unfolding refuseIf _>>_
-  counted-full n e h = let k = counted-is (l .axes) n e in rw (k .0, normal-of-full l (some-full (l .axes) (λ z. h (sym (k .1) ∙ z))))
+  counted-done {n} e = rw (counted-is (l .axes) n e .0)

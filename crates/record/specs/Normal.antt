@@ -1,6 +1,6 @@
 -- The normal form, as the call answers it.
 use mathlib.Core.Bool.{Bool, false}
-use mathlib.Core.List.{List, [], _∷_}
+use mathlib.Core.List.{List, []}
 use Prim.Native.Nat.{ℕ, zero, suc}
 use lib.IntN.{ℤ, pos}
 use lib.ListN.{getD}
@@ -22,10 +22,6 @@ normalView l = orOld l (normalForm l)
 -- what is left of it once refusals 1 and 3 are tested
 abbrev pub counted : LayoutM → After
 counted l = orOld l (refuseIf (overfull (l .axes)) 8 [] >> done (normalOf l))
-
--- the normal form of an empty layout: one axis, extent 0, stride 0, offset 0; the buffer length stays
-abbrev pub emptyOf : LayoutM → LayoutM
-emptyOf l = record { buffer = l .buffer; offset = pos 0; axes = record { extent = 0; stride = pos 0 } ∷ [] }
 
 -- an axis of this stride continues the last of so many axes of two arrays
 abbrev pub continuesLast : List ℕ → List ℤ → ℕ → ℤ → Bool

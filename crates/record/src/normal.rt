@@ -1,15 +1,13 @@
 // The normal form of a layout: axes of extent 1 dropped, neighbours merged.
-ghost use mathlib.Core.Bool.{false};
-ghost use mathlib.Core.List.{[]};
+ghost use mathlib.Core.Bool.{true, false};
 ghost use mathlib.Core.Path.{_≡_};
 ghost use Prim.Native.Nat.{_≤_};
 ghost use Rattle.integer.specs.Multiple.{_·_, eqZ};
 ghost use Rattle.specification.specs.Axis.{isEmpty};
-ghost use Rattle.specification.specs.Normal.{normalAxes, normalOf, overfull};
-ghost use Rattle.specification.specs.Views.{withAxes};
+ghost use Rattle.specification.specs.Normal.{normalOf, overfull};
 ghost use Rattle.view.specs.Count.{countOf};
 ghost use Rattle.view.specs.Model.{modelOf, viewedOf};
-ghost use Rattle.record.specs.Normal.{continuesLast, emptyOf, counted, normalView};
+ghost use Rattle.record.specs.Normal.{continuesLast, counted, normalView};
 use integer::signed::Checked;
 use integer::signed::checked_mul;
 use view::accepted::handed_refusal;
@@ -49,7 +47,7 @@ fn continues_last(layout: Layout, stored: usize, stride: i64) -> bool
 // One pass from the left. The last axis stored is in hand: an axis that continues it is merged into it, another is stored behind it.
 fn merged(layout: Layout) -> Layout
     requires { ⌜ (layout .rank ≤ 16) × (isEmpty (modelOf layout .axes) ≡ false) × (overfull (modelOf layout .axes) ≡ false) ⌝ }
-    ensures { λ r. ⌜ modelOf r ≡ withAxes (modelOf layout) (normalAxes (modelOf layout .axes)) ⌝ }
+    ensures { λ r. ⌜ modelOf r ≡ normalOf (modelOf layout) ⌝ }
 {
     let rank = layout.rank;
     let mut next = layout;
@@ -76,9 +74,10 @@ fn merged(layout: Layout) -> Layout
     next
 }
 
-// The normal form of an empty layout; the buffer length stays.
+// One axis, extent 0, stride 0, offset 0; the buffer length stays.
 fn empty_form(layout: Layout) -> Layout
-    ensures { λ r. ⌜ modelOf r ≡ emptyOf (modelOf layout) ⌝ }
+    requires { ⌜ isEmpty (modelOf layout .axes) ≡ true ⌝ }
+    ensures { λ r. ⌜ modelOf r ≡ normalOf (modelOf layout) ⌝ }
 {
     Layout {
         len: layout.len,

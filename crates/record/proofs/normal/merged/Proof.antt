@@ -10,7 +10,7 @@ use mir.ValLaws.{toZ-ofZ}
 use Rattle.specification.specs.Axis.{Axis}
 use Rattle.specification.specs.Normal.{normalAxes}
 use Rattle.specification.proofs.NormalScan.{start, scan-is-normal}
-use Rattle.specification.proofs.NormalLaws.{full-pos}
+use Rattle.specification.proofs.NormalLaws.{full-pos, normal-of-full}
 use Rattle.lists.proofs.TableLaws.{drop-table-end}
 use Rattle.view.specs.declared.layout.Layout.{Layout}
 use Rattle.view.specs.Model.{modelOf, axisOf, axesIn}
@@ -181,7 +181,7 @@ returns c =
     let e : axesIn (l .next .extents) (l .next .strides) (l .stored) ≡ normalAxes axes =
     sym (resume-end (l .next .extents) (l .next .strides) (l .stored)) ∙ ap (resume (l .next .extents) (l .next .strides) (l .stored)) (sym none)
     ∙ l .inv .6 ∙ scan-is-normal axes (full-pos axes (c .before .before .pre .1)) in
-    rw (l .inv .2, l .inv .3, e)
+    rw (l .inv .2, l .inv .3, e) (sym (normal-of-full (modelOf w) (c .before .before .pre .1)))
 
 pub merged-spec : {M : Type 1} → statement M
 merged-spec =
