@@ -1,5 +1,6 @@
 pub mod TwosLaws
 pub mod NumberLaws
 pub mod FieldLaws
-pub mod FormLaws
+pub mod NormalAnswers
 pub mod MergeLaws
+pub mod WriterLaws

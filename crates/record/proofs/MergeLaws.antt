@@ -27,7 +27,7 @@ use Rattle.specification.proofs.NormalLaws.{full-pos, positions-pos}
 use Rattle.view.specs.Model.{axisOf, axesIn}
 use Rattle.view.proofs.ModelLaws.{axesIn-suc}
 use Rattle.record.specs.Normal.{continuesLast}
-use Rattle.record.proofs.FormLaws.{few-positions}
+use Rattle.record.proofs.NormalAnswers.{few-positions}
 
 -- an integer of 64 bits differs from one that they do not hold
 pub over-differs : (x z : ℤ) → SFits w64 x → fits z ≡ false → eqZ x z ≡ false

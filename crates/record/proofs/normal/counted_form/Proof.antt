@@ -6,7 +6,7 @@ use Rattle.specification.specs.Axis.{positions}
 use Rattle.specification.specs.Normal.{overfull}
 use Rattle.view.specs.Model.{modelOf}
 use Rattle.view.specs.declared.count.Count.the-variants.{Of}
-use Rattle.record.proofs.FormLaws.{counted-is, none-empty, some-full, counted-over, counted-done}
+use Rattle.record.proofs.NormalAnswers.{counted-is, none-empty, some-full, counted-over, counted-done}
 use borrow.Author.Needs.{needs}
 use Rattle.record.proofs.normal.counted_form.Statement.{statement}
 use Rattle.record.proofs.normal.counted_form.Tie as tie

@@ -4,7 +4,7 @@ use native.Mathlib.Omega.{arith}
 use lib.ListN.{length}
 use lib.Seq.{length-take-le}
 use Rattle.view.specs.Model.{modelOf}
-use Rattle.record.proofs.FormLaws.{extents-axesIn}
+use Rattle.record.proofs.NormalAnswers.{extents-axesIn}
 use borrow.Author.Needs.{needs}
 use Rattle.record.proofs.normal.layout_count.Statement.{statement}
 use Rattle.record.proofs.normal.layout_count.Tie as tie

@@ -7,7 +7,7 @@ use Rattle.view.specs.Answers.{outcomeOf}
 use Rattle.view.specs.Model.{modelOf}
 use Rattle.view.proofs.HandedLaws.{handed-passed}
 use Rattle.view.proofs.ListedLaws.{rank-modelOf}
-use Rattle.record.proofs.FormLaws.{form-refused, form-passed}
+use Rattle.record.proofs.NormalAnswers.{form-refused, form-passed}
 use borrow.Author.Needs.{needs}
 use Rattle.record.proofs.normal.normal_form.Statement.{statement}
 use Rattle.record.proofs.normal.normal_form.Tie as tie
