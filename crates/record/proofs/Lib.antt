@@ -3,3 +3,4 @@ pub mod NumberLaws
 pub mod FieldLaws
 pub mod FormLaws
 pub mod FormTested
+pub mod FrontLaws

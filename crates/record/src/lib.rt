@@ -2,4 +2,5 @@
 pub mod bytes;
 pub mod fields;
 pub mod form;
+pub mod reader;
 pub mod step;

@@ -23,7 +23,10 @@ abbrev μ-loop : tie.MeasureT-loop
 -- what the call says of the two axes
 continued : (a : tie.After-continues Inv-loop μ-loop) → let p = a .before .before .before .before .before .before in let l = p .before .before .args .t1 in
     a .continues .result ≡ eqZ (getD (l .strides) (p .loop .i + 1) (pos 0)) (getD (l .extents) (p .loop .i) 0 · getD (l .strides) (p .loop .i) (pos 0))
-continued a = a .continues .ensures ∙ rw (toZ-ofZ w64 _ (record { sfits = a .before .before .next .given }), toZ-ofZ w64 _ (record { sfits = a .before .before .before .stride .given }))
+continued a =
+    let p = a .before .before .before .before .before .before in
+    let l = p .before .before .args .t1 in
+    a .continues .ensures ∙ rw (toZ-ofZ w64 (getD (l .strides) (p .loop .i + 1) (pos 0)) (record { sfits = a .before .before .next .given }), toZ-ofZ w64 (getD (l .strides) (p .loop .i) (pos 0)) (record { sfits = a .before .before .before .stride .given }))
 
 returns : tie.Need-returns Inv-loop μ-loop
 returns c = let l = c .before .args .t1 in sym (rw (c .if1 .taken) (merged-none (l .extents) (l .strides)))
