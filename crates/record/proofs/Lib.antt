@@ -4,3 +4,6 @@ pub mod FieldLaws
 pub mod NormalAnswers
 pub mod MergeLaws
 pub mod WriterLaws
+pub mod FormLaws
+pub mod FormTested
+pub mod FrontLaws

@@ -2,3 +2,6 @@
 pub mod bytes;
 pub mod fields;
 pub mod normal;
+pub mod form;
+pub mod reader;
+pub mod step;
