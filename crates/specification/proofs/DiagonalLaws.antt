@@ -123,7 +123,7 @@ some-no f g i (suc n) h = go (g i) refl (some-no f g (suc i) n (λ x a b. h x (o
     go true e ih = both (f i) (some f (those g (upFrom (suc i) n))) (h i (omega arith) (omega arith) e) ih
     go false e ih = ih
 
-some-yes : (f g : ℕ → Bool) (i n x : ℕ) → i ≤ x → x < i + n → g x ≡ true → f x ≡ true → some f (those g (upFrom i n)) ≡ true
+pub some-yes : (f g : ℕ → Bool) (i n x : ℕ) → i ≤ x → x < i + n → g x ≡ true → f x ≡ true → some f (those g (upFrom i n)) ≡ true
 unfolding some those upFrom
 some-yes f g i zero x a b p q = absurd (omega arith)
 some-yes f g i (suc n) x a b p q = go (ℕ-discrete i x) (λ l. some-yes f g (suc i) n x l (omega arith) p q)

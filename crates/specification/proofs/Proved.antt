@@ -1,6 +1,6 @@
 -- Every claim of specs/, with its proof: one record that the check has to build.
 use Rattle.specification.specs.ReachClaims.{ReachClaims}
-use Rattle.specification.specs.ViewClaims.{AnswerClaims, AcceptedClaims, RangeClaims, NewLayoutClaims, ViewClaims}
+use Rattle.specification.specs.ViewClaims.{AnswerClaims, AcceptedClaims, RangeClaims, NewLayoutClaims, ClassClaims, ViewClaims}
 use Rattle.specification.specs.NormalClaims.{NormalClaims}
 use Rattle.specification.specs.BlockClaims.{BlockClaims}
 use Rattle.specification.specs.VerdictClaims.{VerdictClaims, WordsClaims, VerdictCallClaims}
@@ -15,6 +15,7 @@ use Rattle.specification.proofs.AnswerLaws.{answer-claims}
 use Rattle.specification.proofs.ReaderLaws.{accepted-claims}
 use Rattle.specification.proofs.RangeLaws.{range-claims}
 use Rattle.specification.proofs.NewLayoutLaws.{new-layout-claims}
+use Rattle.specification.proofs.ClassLaws.{class-claims}
 use Rattle.specification.proofs.DiagonalLaws.{view-claims}
 use Rattle.specification.proofs.NormalLaws.{normal-claims}
 use Rattle.specification.proofs.BlockEnds.{block-claims}
@@ -43,6 +44,7 @@ pub record Proved : Type 0 where
   pub accepted : AcceptedClaims
   pub ranges : RangeClaims
   pub new-layouts : NewLayoutClaims
+  pub classes : ClassClaims
   pub views : ViewClaims
   pub normal : NormalClaims
   pub block : BlockClaims
@@ -69,6 +71,7 @@ proved = record {
   accepted = accepted-claims;
   ranges = range-claims;
   new-layouts = new-layout-claims;
+  classes = class-claims;
   views = view-claims;
   normal = normal-claims;
   block = block-claims;

@@ -9,7 +9,7 @@ use lib.ListN.{length, getD}
 use Rattle.specification.specs.Tests.{if_then_else_, some, those}
 
 -- a test that holds and does not hold
-true-not-false : {t : Bool} → t ≡ true → t ≡ false → ⊥
+pub true-not-false : {t : Bool} → t ≡ true → t ≡ false → ⊥
 true-not-false p q = subst T (sym p ∙ q) tt
 
 module _ {A : Type 0} where
