@@ -35,6 +35,7 @@ pub mod BlockEnds
 pub mod CountLaws
 pub mod DigitOrder
 pub mod ReachLaws
+pub mod TestsTold
 pub mod AcceptedLaws
 pub mod WriterLaws
 pub mod FieldsFit

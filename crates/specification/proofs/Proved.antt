@@ -1,4 +1,5 @@
 -- Every claim of specs/, with its proof: one record that the check has to build.
+use Rattle.specification.specs.TestClaims.{TestClaims}
 use Rattle.specification.specs.ReachClaims.{ReachClaims}
 use Rattle.specification.specs.ViewClaims.{AnswerClaims, AcceptedClaims, RangeClaims, NewLayoutClaims, ClassClaims, ViewClaims}
 use Rattle.specification.specs.NormalClaims.{NormalClaims}
@@ -10,6 +11,7 @@ use Rattle.specification.specs.BesideClaims.{DenseClaims, OrderClaims, O
 use Rattle.specification.specs.Demand3.{Demand3Claim}
 use Rattle.specification.specs.Starred.{Starred}
 use Rattle.specification.specs.Cases.{Cases}
+use Rattle.specification.proofs.TestsTold.{test-claims}
 use Rattle.specification.proofs.ReachClaimed.{reach-claims}
 use Rattle.specification.proofs.AnswerLaws.{answer-claims}
 use Rattle.specification.proofs.ReaderLaws.{accepted-claims}
@@ -39,6 +41,7 @@ pub demand3 : Demand3Claim
 demand3 = demand3-from answer-claims
 
 pub record Proved : Type 0 where
+  pub tests : TestClaims
   pub reach : ReachClaims
   pub answers : AnswerClaims
   pub accepted : AcceptedClaims
@@ -66,6 +69,7 @@ pub record Proved : Type 0 where
 
 pub proved : Proved
 proved = record {
+  tests = test-claims;
   reach = reach-claims;
   answers = answer-claims;
   accepted = accepted-claims;

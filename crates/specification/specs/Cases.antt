@@ -36,6 +36,10 @@ pub record Cases : Type 0 where
   -- a span of +2^63 is 3, one of -2^63 is not
   pub span-up : (words : ℕ) → verdict (3 ∷ []) (pos (2 ^ 62) ∷ []) words ≡ refused 3 []
   pub span-down : (words : ℕ) → verdict (3 ∷ []) (negsuc (2 ^ 62 - 1) ∷ []) words ≡ judged Distinct 0
+  -- positive spans that sum to +2^63 are 3, negative ones that sum to -2^63 are not, and one reading more is
+  pub sum-up : (words : ℕ) → verdict (2 ∷ 2 ∷ []) (pos (2 ^ 62) ∷ pos (2 ^ 62) ∷ []) words ≡ refused 3 []
+  pub sum-down : (words : ℕ) → verdict (2 ∷ 2 ∷ []) (negsuc (2 ^ 62 - 1) ∷ negsuc (2 ^ 62 - 1) ∷ []) words ≡ judged Repeated 0
+  pub sum-past : (words : ℕ) → verdict (2 ∷ 2 ∷ 2 ∷ []) (negsuc (2 ^ 62 - 1) ∷ negsuc (2 ^ 62 - 1) ∷ negsuc 0 ∷ []) words ≡ refused 3 []
   -- an active extent minus 1 above 2^63 - 1
   pub wide : (words : ℕ) → verdict ((2 ^ 63 + 1) ∷ []) (negsuc 0 ∷ []) words ≡ refused 3 []
   -- of equal extents the two on the lower axes are set apart

@@ -1,5 +1,5 @@
 -- Claims on the views: when each passes, what a refusal says, what the new layout is, and what becomes of the offset of an index vector.
-use mathlib.Core.Bool.{true, false}
+use mathlib.Core.Bool.{false}
 use mathlib.Core.List.{List, [], _∷_, map}
 use mathlib.Core.Logic.{_≢_, _↔_}
 use mathlib.Core.Path.{_≡_}
@@ -10,7 +10,7 @@ use lib.ListN.{length, getD}
 use Rattle.integer.specs.Range.{mostUnsigned}
 use Rattle.specification.specs.Tests.{if_then_else_}
 use Rattle.specification.specs.Axis.{Axis, extents, offsetSum}
-use Rattle.specification.specs.Outcome.{Outcome, done, refused, pass}
+use Rattle.specification.specs.Outcome.{done, refused, pass}
 use Rattle.specification.specs.Layout.{LayoutM, rank, Ranges, Accepted}
 use Rattle.specification.specs.CheckIn.{checkIn}
 use Rattle.specification.specs.Tied.{Tied}
