@@ -27,5 +27,6 @@ cases = record {
   later-place = λ words. refl;
   empty-dense = refl;
   row-dense = refl;
+  order-ties = refl;
   sum-from-offset = refl;
 }

@@ -9,7 +9,7 @@ use Rattle.specification.specs.CheckIn.{checkIn}
 use Rattle.specification.specs.Views.{permute, diagonalView, pairsOf, broadcast}
 use Rattle.specification.specs.Normal.{normalForm}
 use Rattle.specification.specs.Verdict.{Distinct, Repeated, verdict}
-use Rattle.specification.specs.Beside.{colMajor, rowMajor, indexedOffset}
+use Rattle.specification.specs.Beside.{colMajor, rowMajor, indexOrder, indexedOffset}
 use Rattle.specification.specs.CountClaims.{judged}
 use Rattle.specification.specs.Starred.{layout, ax}
 
@@ -51,5 +51,7 @@ pub record Cases : Type 0 where
   -- dense strides of an empty shape: a step that does not fit becomes 2^63 - 1 and goes on
   pub empty-dense : colMajor (0 ∷ 2 ^ 63 ∷ 5 ∷ []) ≡ done (pos 1 ∷ pos 0 ∷ pos mostSigned ∷ [])
   pub row-dense : rowMajor (2 ∷ 3 ∷ 4 ∷ []) ≡ done (pos 12 ∷ pos 4 ∷ pos 1 ∷ [])
+  -- equal absolute strides have one number, each of them counts for larger ones, stride 0 for none
+  pub order-ties : indexOrder (pos 2 ∷ negsuc 0 ∷ pos 1 ∷ pos 0 ∷ []) 4 ≡ done (3 ∷ 1 ∷ 1 ∷ 1 ∷ [])
   -- the running sum starts at the layout's offset, also in an empty layout
   pub sum-from-offset : indexedOffset (layout 0 (pos mostSigned) (ax 2 (pos 1) ∷ ax 0 (pos 0) ∷ [])) (1 ∷ 0 ∷ []) ≡ refused 3 []
