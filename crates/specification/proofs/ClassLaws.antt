@@ -43,7 +43,7 @@ none-below test b k (suc n) h = go (test k) (none-below test b (suc k) n (omega 
     go false e = e
 
 -- one that passes stands at the place that counts those below it
-pub stands-at : (test : ℕ → Bool) (b k n : ℕ) → k ≤ b → b < k + n → test b ≡ true → At (those test (upFrom k n)) (below b (those test (upFrom k n))) b
+stands-at : (test : ℕ → Bool) (b k n : ℕ) → k ≤ b → b < k + n → test b ≡ true → At (those test (upFrom k n)) (below b (those test (upFrom k n))) b
 unfolding those upFrom
 stands-at test b k zero h l e = absurd (omega arith)
 stands-at test b k (suc n) h l e = go (ℕ-discrete k b) (test k) refl (λ g. stands-at test b (suc k) n g (omega arith) e)
@@ -61,7 +61,7 @@ stands-at test b k (suc n) h l e = go (ℕ-discrete k b) (test k) refl (λ g. st
     go (no q) false f ih = ih (omega arith)
 
 -- what stands there is of the range and passes
-pub entry-passes : (test : ℕ → Bool) (k n p : ℕ) → p < length (those test (upFrom k n))
+entry-passes : (test : ℕ → Bool) (k n p : ℕ) → p < length (those test (upFrom k n))
     → (getD (those test (upFrom k n)) p 0 < k + n) × (test (getD (those test (upFrom k n)) p 0) ≡ true)
 unfolding those upFrom
 entry-passes test k zero p h = absurd (omega arith)

@@ -36,6 +36,8 @@ pub mod CountLaws
 pub mod DigitOrder
 pub mod ReachLaws
 pub mod TestsTold
+pub mod Sums
+pub mod OrderSums
 pub mod AcceptedLaws
 pub mod WriterLaws
 pub mod FieldsFit

@@ -1,11 +1,10 @@
 -- Further lines that compute: cases that tell a plausible wrong reading of 01 from the right one.
-use mathlib.Core.List.{List, [], _∷_}
+use mathlib.Core.List.{[], _∷_}
 use mathlib.Core.Path.{_≡_}
 use Prim.Native.Nat.{ℕ, _+_, _-_, _^_}
-use lib.IntN.{ℤ, pos, negsuc}
+use lib.IntN.{pos, negsuc}
 use Rattle.integer.specs.Range.{mostSigned}
 use Rattle.specification.specs.Outcome.{done, refused, pass}
-use Rattle.specification.specs.CheckIn.{checkIn}
 use Rattle.specification.specs.Views.{permute, diagonalView, pairsOf, broadcast}
 use Rattle.specification.specs.Normal.{normalForm}
 use Rattle.specification.specs.Verdict.{Distinct, Repeated, verdict}
