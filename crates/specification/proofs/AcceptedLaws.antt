@@ -23,7 +23,9 @@ use Rattle.specification.proofs.OrderSums.{left, left-shift, whole-sum}
 use Rattle.specification.proofs.OutcomeLaws.{passed, passed-check, done-inj}
 use Rattle.specification.proofs.Sums.{sumOf}
 use Rattle.specification.proofs.TestLaws.{true-not-false, length-those}
+-- two laws of tests that files of other crates cite from here
 pub use borrow.Author.Tests.{not-false}
+pub use Rattle.specification.proofs.TestLaws.{or-true}
 
 -- ---- other axes with the same spans
 

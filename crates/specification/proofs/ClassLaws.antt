@@ -1,4 +1,4 @@
--- Entries of an ascending list by their places: the class of an axis, the place of the axis that a class stands at, the least extent of a class.
+-- Entries of an ascending list by their places: the class of an axis, the place of the axis that a class stands at, the least extent of a class; and the pairs that flat numbers hold.
 use mathlib.Core.Bool.{Bool, true, false, not}
 use mathlib.Core.List.{List, [], _∷_, map}
 use mathlib.Core.Logic.{_↔_}

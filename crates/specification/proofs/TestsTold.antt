@@ -29,26 +29,26 @@ use Rattle.specification.proofs.TestLaws.{true-not-false}
 
 -- ---- tests on tests
 
-either : (s t : Bool) {P Q : Type 0} → ((s ≡ true) ↔ P) → ((t ≡ true) ↔ Q) → ((s || t) ≡ true) ↔ (P ⊎ Q)
-either true t h k = (λ e. inl (h .0 refl), λ w. refl)
-either false t {P} {Q} h k = (λ e. inr (k .0 e), λ w. second w)
+or-holds : (s t : Bool) {P Q : Type 0} → ((s ≡ true) ↔ P) → ((t ≡ true) ↔ Q) → ((s || t) ≡ true) ↔ (P ⊎ Q)
+or-holds true t h k = (λ e. inl (h .0 refl), λ w. refl)
+or-holds false t {P} {Q} h k = (λ e. inr (k .0 e), λ w. second w)
   where
     second : P ⊎ Q → t ≡ true
     second (inl p) = absurd (true-not-false (h .1 p) refl)
     second (inr q) = k .1 q
 
-both : {P Q : Type 0} (s t : Bool) → ((s ≡ true) ↔ P) → ((t ≡ true) ↔ Q) → ((s && t) ≡ true) ↔ (P × Q)
-both s t h k = (λ e. let w = and-true s t e in (h .0 (w .0), k .0 (w .1)), λ w. rw (h .1 (w .0), k .1 (w .1)))
+and-holds : {P Q : Type 0} (s t : Bool) → ((s ≡ true) ↔ P) → ((t ≡ true) ↔ Q) → ((s && t) ≡ true) ↔ (P × Q)
+and-holds s t h k = (λ e. let w = and-true s t e in (h .0 (w .0), k .0 (w .1)), λ w. rw (h .1 (w .0), k .1 (w .1)))
 
-unless : {P : Type 0} (t : Bool) → ((t ≡ true) ↔ P) → (not t ≡ true) ↔ (¬ P)
-unless true h = (λ e p. true-not-false e refl, λ f. absurd (f (h .0 refl)))
-unless false h = (λ e p. true-not-false (h .1 p) refl, λ f. refl)
+not-holds : {P : Type 0} (t : Bool) → ((t ≡ true) ↔ P) → (not t ≡ true) ↔ (¬ P)
+not-holds true h = (λ e p. true-not-false e refl, λ f. absurd (f (h .0 refl)))
+not-holds false h = (λ e p. true-not-false (h .1 p) refl, λ f. refl)
 
-less : (a b : ℕ) → (ltb a b ≡ true) ↔ (a < b)
-less a b = (ltb-true a b, lt-ltb a b)
+ltb-holds : (a b : ℕ) → (ltb a b ≡ true) ↔ (a < b)
+ltb-holds a b = (ltb-true a b, lt-ltb a b)
 
-equal : (x y : ℤ) → (eqZ x y ≡ true) ↔ (x ≡ y)
-equal x y = (λ e. eqZ-yes x y (subst T (sym e) tt), λ e. by (eqZ x y) (eqZ-no x y) e)
+eqZ-holds : (x y : ℤ) → (eqZ x y ≡ true) ↔ (x ≡ y)
+eqZ-holds x y = (λ e. eqZ-yes x y (subst T (sym e) tt), λ e. by (eqZ x y) (eqZ-no x y) e)
   where
     by : (t : Bool) → (T (not t) → ¬ (x ≡ y)) → x ≡ y → t ≡ true
     by true f e = refl
@@ -63,7 +63,7 @@ some-axis : (test : Axis → Bool) {So : Axis → Type 0} → ((a : Axis) → (t
 unfolding some
 some-axis test h [] = (λ e. absurd (true-not-false e refl), λ w. absurd (omega (arith, w .in-rank)))
 some-axis test {So} h (a ∷ rest) =
-    let w = either (test a) (some test rest) (h a) (some-axis test h rest) in
+    let w = or-holds (test a) (some test rest) (h a) (some-axis test h rest) in
     (λ e. found (w .0 e), λ s. w .1 (split (s .axis) (s .in-rank) (s .is-so)))
   where
     found : So a ⊎ SomeAxis rest So → SomeAxis (a ∷ rest) So
@@ -79,11 +79,11 @@ unfolding isEmpty
 empty = some-axis (λ a. eqb (a .extent) 0) (λ a. (eqb-true (a .extent) 0, eq-eqb (a .extent) 0))
 
 too-wide : (axes : List Axis) → (some tooWide axes ≡ true) ↔ SomeAxis axes (λ a. (1 < a .extent) × (mostSigned < a .extent - 1))
-too-wide = some-axis tooWide (λ a. both (active a) (ltb mostSigned (a .extent - 1)) (less 1 (a .extent)) (less mostSigned (a .extent - 1)))
+too-wide = some-axis tooWide (λ a. and-holds (active a) (ltb mostSigned (a .extent - 1)) (ltb-holds 1 (a .extent)) (ltb-holds mostSigned (a .extent - 1)))
 
 -- an active axis of stride s
 active-stride : (s : ℤ) (axes : List Axis) → (some (λ a. active a && eqZ (a .stride) s) axes ≡ true) ↔ SomeAxis axes (λ a. (1 < a .extent) × (a .stride ≡ s))
-active-stride s = some-axis (λ a. active a && eqZ (a .stride) s) (λ a. both (active a) (eqZ (a .stride) s) (less 1 (a .extent)) (equal (a .stride) s))
+active-stride s = some-axis (λ a. active a && eqZ (a .stride) s) (λ a. and-holds (active a) (eqZ (a .stride) s) (ltb-holds 1 (a .extent)) (eqZ-holds (a .stride) s))
 
 over : (axes : List Axis) → (overfull axes ≡ true) ↔ (¬ (SomeAxis axes (λ a. a .extent ≡ 0))) × (mostUnsigned < positions axes)
 unfolding overfull
@@ -95,21 +95,21 @@ over axes = go (isEmpty axes) (empty axes)
 
 -- ---- step 2
 
-above : (n : ℕ) → (not (fits (pos n)) ≡ true) ↔ (mostSigned < n)
-above n = (λ e. go (decLt mostSigned n) (w .0 e), λ h. w .1 (λ f. omega (arith, posPart-below f)))
+above-most : (n : ℕ) → (not (fits (pos n)) ≡ true) ↔ (mostSigned < n)
+above-most n = (λ e. go (decLt mostSigned n) (w .0 e), λ h. w .1 (λ f. omega (arith, posPart-below f)))
   where
     w : (not (fits (pos n)) ≡ true) ↔ (¬ (SFits w64 (pos n)))
-    w = unless (fits (pos n)) (in-range (pos n))
+    w = not-holds (fits (pos n)) (in-range (pos n))
 
     go : Dec (mostSigned < n) → ¬ (SFits w64 (pos n)) → mostSigned < n
     go (yes h) f = h
     go (no h) f = absurd (f (parts-fit (omega arith) (omega arith)))
 
-below : (n : ℕ) → (not (fits (negℤ (pos n))) ≡ true) ↔ (2 ^ 63 < n)
-below n = (λ e. go (decLt (2 ^ 63) n) (w .0 e), λ h. w .1 (λ f. omega (arith, negPart-below f, negPart-neg (pos n))))
+below-least : (n : ℕ) → (not (fits (negℤ (pos n))) ≡ true) ↔ (2 ^ 63 < n)
+below-least n = (λ e. go (decLt (2 ^ 63) n) (w .0 e), λ h. w .1 (λ f. omega (arith, negPart-below f, negPart-neg (pos n))))
   where
     w : (not (fits (negℤ (pos n))) ≡ true) ↔ (¬ (SFits w64 (negℤ (pos n))))
-    w = unless (fits (negℤ (pos n))) (in-range (negℤ (pos n)))
+    w = not-holds (fits (negℤ (pos n))) (in-range (negℤ (pos n)))
 
     go : Dec (2 ^ 63 < n) → ¬ (SFits w64 (negℤ (pos n))) → 2 ^ 63 < n
     go (yes h) f = h
@@ -125,12 +125,12 @@ module _ (axes : List Axis) where
   abbrev LeastStride : Type 0
   LeastStride = SomeAxis axes (λ a. (1 < a .extent) × (a .stride ≡ negsuc mostSigned))
 
-  five : (outOfRange axes ≡ true) ↔ ((((Wide ⊎ SpanOut) ⊎ (mostSigned < upward axes)) ⊎ (2 ^ 63 < downward axes)) ⊎ LeastStride)
+  five-causes : (outOfRange axes ≡ true) ↔ ((((Wide ⊎ SpanOut) ⊎ (mostSigned < upward axes)) ⊎ (2 ^ 63 < downward axes)) ⊎ LeastStride)
   unfolding outOfRange
-  five = either _ _ (either _ _ (either _ _ (either _ _ (too-wide axes) (some-axis (λ a. not (fits (span a))) (λ a. unless (fits (span a)) (in-range (span a))) axes)) (above (upward axes))) (below (downward axes))) (active-stride (negsuc mostSigned) axes)
+  five-causes = or-holds _ _ (or-holds _ _ (or-holds _ _ (or-holds _ _ (too-wide axes) (some-axis (λ a. not (fits (span a))) (λ a. not-holds (fits (span a)) (in-range (span a))) axes)) (above-most (upward axes))) (below-least (downward axes))) (active-stride (negsuc mostSigned) axes)
 
   out-of-range : (outOfRange axes ≡ true) ↔ OutOfRange axes
-  out-of-range = (λ e. cause (five .0 e), λ o. five .1 (of-cause o))
+  out-of-range = (λ e. cause (five-causes .0 e), λ o. five-causes .1 (of-cause o))
     where
       cause : (((Wide ⊎ SpanOut) ⊎ (mostSigned < upward axes)) ⊎ (2 ^ 63 < downward axes)) ⊎ LeastStride → OutOfRange axes
       cause (inl (inl (inl (inl s)))) = wide s
