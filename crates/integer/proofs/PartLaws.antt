@@ -141,6 +141,20 @@ ltZ-false (pos a) (negsuc b) e = omega arith
 ltZ-false (negsuc a) (pos b) e = absurd (subst T e tt)
 ltZ-false (negsuc a) (negsuc b) e = omega (arith, ltb-false b a e)
 
+pub lt-ltZ : (x y : ℤ) → posPart x + negPart y < posPart y + negPart x → ltZ x y ≡ true
+lt-ltZ x y h = go (ltZ x y) (ltZ-false x y)
+  where
+    go : (t : Bool) → (t ≡ false → posPart y + negPart x ≤ posPart x + negPart y) → t ≡ true
+    go true f = refl
+    go false f = absurd (omega (arith, f refl))
+
+pub le-ltZ : (x y : ℤ) → posPart y + negPart x ≤ posPart x + negPart y → ltZ x y ≡ false
+le-ltZ x y h = go (ltZ x y) (ltZ-true x y)
+  where
+    go : (t : Bool) → (t ≡ true → posPart x + negPart y < posPart y + negPart x) → t ≡ false
+    go true f = absurd (omega (arith, f refl))
+    go false f = refl
+
 -- The order.
 true-of-T : (b : Bool) → T b → b ≡ true
 true-of-T true t = refl
@@ -157,14 +171,7 @@ pub lt-parts : {x y : ℤ} → x <ℤ y → posPart x + negPart y < posPart y + 
 lt-parts {x} {y} h = ltZ-true x y (true-of-T (ltZ x y) (h .lt))
 
 pub parts-lt : {x y : ℤ} → posPart x + negPart y < posPart y + negPart x → x <ℤ y
-parts-lt {x} {y} h = by (ltZ x y) refl
-  where
-    by : (t : Bool) → ltZ x y ≡ t → x <ℤ y
-    by true e = record { lt = subst T (sym e) tt }
-    by false e = absurd (no (ltZ-false x y e))
-      where
-        no : posPart y + negPart x ≤ posPart x + negPart y → ⊥
-        no k = omega arith
+parts-lt {x} {y} h = record { lt = subst T (sym (lt-ltZ x y h)) tt }
 
 -- What an i64 holds: -2^63 ≤ z < 2^63. To show it, nothing need be said of which part is 0.
 pub posPart-below : {z : ℤ} → SFits w64 z → posPart z < 2 ^ 63

@@ -7,7 +7,7 @@ use Prim.Native.Nat.{ℕ, zero, suc, _<_}
 use native.Mathlib.Omega.{arith}
 use lib.Dec.{T, eqb}
 use borrow.Author.Tests.{eqb-true, eq-eqb, not-false}
-use Rattle.specification.specs.Outcome.{Check, done, refused, pass, refuseIf, _>>_}
+use Rattle.specification.specs.Outcome.{Outcome, Check, done, refused, pass, refuseIf, _>>_}
 use Rattle.specification.specs.Layout.{LayoutM}
 use Rattle.specification.specs.Views.{unlessRefused}
 use Rattle.specification.proofs.OutcomeLaws.{clash, refused-inj}
@@ -116,10 +116,16 @@ then-answers (refused m ws) d {P} {Q} {R} {S} a b = record {
     at {n} {vs} (sooner r) = a .refuses n vs .1 r
     at {n} {vs} (later p s) = absurd (clash (sym (a .passes .1 p)))
 
-pub then-assoc : (c d e : Check) → (c >> d) >> e ≡ c >> d >> e
+pub then-assoc : {B : Type 0} (c d : Check) (o : Outcome B) → (c >> d) >> o ≡ c >> d >> o
 unfolding _>>_
-then-assoc (done u) d e = refl
-then-assoc (refused n vs) d e = refl
+then-assoc (done u) d o = refl
+then-assoc (refused n vs) d o = refl
+
+-- what is done where a check passes is refused as the check is
+pub done-after : {B : Type 0} (c : Check) (x : B) (n : ℕ) (vs : List ℕ) → (c >> done x ≡ refused n vs) ↔ (c ≡ refused n vs)
+unfolding _>>_
+done-after (done u) x n vs = (λ e. absurd (clash e), λ e. absurd (clash e))
+done-after (refused m ws) x n vs = (λ e. let w = refused-inj e in rw (w .0, w .1), λ e. let w = refused-inj e in rw (w .0, w .1))
 
 -- two checks with the same refusal have that refusal
 pub then-only : (c d : Check) {P Q : Type 0} (number : ℕ) (values : List ℕ) → Answers c P (Only number values P) → (P → Answers d Q (Only number values Q))

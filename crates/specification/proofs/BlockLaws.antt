@@ -24,7 +24,7 @@ use Rattle.specification.proofs.Sorting.{Each, EachTwo, perm-refl, perm
 use Rattle.specification.proofs.Collisions.{pair-carry, single, single-back, still as still-pair}
 
 -- a pair of the rest is one of the whole
-pub pair-cons : (a : ActiveAxis) (r : List ActiveAxis) → 0 < a .extent → EqualSums r → EqualSums (a ∷ r)
+pair-cons : (a : ActiveAxis) (r : List ActiveAxis) → 0 < a .extent → EqualSums r → EqualSums (a ∷ r)
 unfolding reach
 pair-cons a r h p = record {
   x = 0 ∷ p .x;
@@ -59,7 +59,7 @@ perm-lives = perm-each Live
 
 -- ---- up to the last axis that is not separated
 
-pub last-each : (P : ActiveAxis → Type 0) (before : ℕ) (l : List ActiveAxis) → Each P l → Each P (upToLast before l)
+last-each : (P : ActiveAxis → Type 0) (before : ℕ) (l : List ActiveAxis) → Each P l → Each P (upToLast before l)
 unfolding upToLast
 last-each P before [] e = e
 last-each P before (a ∷ r) e = go (upToLast (before + (a .extent - 1) * a .stride) r) (leb (a .stride) before) (last-each P (before + (a .extent - 1) * a .stride) r (e .1))

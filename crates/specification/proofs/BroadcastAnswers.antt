@@ -14,7 +14,7 @@ use Rattle.specification.specs.Outcome.{Check, refuseIf, _>>_}
 use Rattle.specification.specs.Layout.{LayoutM, rank, Accepted}
 use Rattle.specification.specs.Views.{withAxes, axisAt, targetFault, spread, broadcast}
 use Rattle.specification.specs.ViewRules.{GoodExtent, Broadcasts, BroadcastRefused}
-use Rattle.specification.proofs.AcceptedLaws.{or-true}
+use Rattle.specification.proofs.TestLaws.{or-true}
 use Rattle.specification.proofs.ReachClaimed.{HandedRefused, handed-answers}
 use Rattle.specification.proofs.AnswerRules.{Answers, Only, only, InOrder, sooner, later, FirstFault, first, restated, equal-tested, test-answers, of-answer, then-answers, inTurn, in-turn-ext, turn-answers}
 

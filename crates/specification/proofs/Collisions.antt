@@ -1,7 +1,7 @@
 -- Two index vectors of one sum, and what they come to: found on the block they are two positions of one offset, and where none are there all positions are distinct.
 -- Beside it step 5 both ways, and the axes that no search needs: of extent 1, and of stride 0.
 use mathlib.Core.Path.{_≡_, sym, ap, ap₂, _∙_}
-use mathlib.Core.Logic.{_≢_, _⊎_, inl, inr}
+use mathlib.Core.Logic.{_⊎_, inl, inr}
 use Prim.Native.Nat.{ℕ, _*_, _<_}
 use mathlib.Core.List.{List, [], _∷_}
 use native.Mathlib.Omega.{arith}
@@ -14,7 +14,7 @@ use Rattle.specification.proofs.Differences.{EqualSums, ZeroDifference,
 use Rattle.specification.proofs.AxisOrder.{Carry}
 use Rattle.specification.proofs.DifferenceWalk.{Found, found-zero, zero-split}
 use Rattle.integer.proofs.PartLaws.{parts-ext}
-use Rattle.specification.specs.Axis.{Axis, extents, offsetSum, positions, sumAt}
+use Rattle.specification.specs.Axis.{Axis, Shared, extents, offsetSum}
 use Rattle.specification.specs.Search.{ActiveAxis, lengths, reach}
 
 -- no two vectors of one sum: sums tell vectors apart
@@ -36,18 +36,9 @@ pair-carry c p = record {
   same = c .same (p .x) (p .bx) ∙ p .same ∙ sym (c .same (p .y) (p .by));
 }
 
--- two positions of one offset
-pub record Twice (l : List Axis) : Type 0 where
-  pub i : ℕ
-  pub j : ℕ
-  pub bi : i < positions l
-  pub bj : j < positions l
-  pub other : i ≢ j
-  pub same : sumAt l i ≡ sumAt l j
-
 -- vectors of one sum over absolute strides, turned, are positions of one offset
-pub pair-twice : (l : List Axis) → EqualSums (absolute 0 l) → Twice l
-pair-twice l p =
+pub pair-shared : (l : List Axis) → EqualSums (absolute 0 l) → Shared l
+pair-shared l p =
     let wx : IndexVector (extents l) (p .x) = rw (lengths-absolute 0 l) at (p .bx) in
     let wy : IndexVector (extents l) (p .y) = rw (lengths-absolute 0 l) at (p .by) in
     let px = turned-within l wx in
@@ -55,11 +46,11 @@ pair-twice l p =
     let tx = turned-turned l wx in
     let ty = turned-turned l wy in
     record {
-      i = place (extents l) (turned l (p .x));
-      j = place (extents l) (turned l (p .y));
-      bi = place-lt l px;
-      bj = place-lt l py;
-      other = λ e. p .other (sym tx ∙ ap (λ (z : List ℕ). turned l z) (place-inj px py e) ∙ ty);
+      one = place (extents l) (turned l (p .x));
+      other = place (extents l) (turned l (p .y));
+      one-is = place-lt l px;
+      other-is = place-lt l py;
+      different = λ e. p .other (sym tx ∙ ap (λ (z : List ℕ). turned l z) (place-inj px py e) ∙ ty);
       same = sum-at-place l px ∙ parts-ext {x = offsetSum l (turned l (p .x))} {y = offsetSum l (turned l (p .y))} (omega (arith, offset-reach 0 l px, offset-reach 0 l py, ap (λ (z : List ℕ). reach (absolute 0 l) z) tx, ap (λ (z : List ℕ). reach (absolute 0 l) z) ty, p .same)) ∙ sym (sum-at-place l py);
     }
 

@@ -18,11 +18,15 @@ cases = record {
   empty-first = refl;
   span-up = λ words. refl;
   span-down = λ words. refl;
+  sum-up = λ words. refl;
+  sum-down = λ words. refl;
+  sum-past = λ words. refl;
   wide = λ words. refl;
   ties-to-lower = λ words. refl;
   lowest-digit = λ words. refl;
   later-place = λ words. refl;
   empty-dense = refl;
   row-dense = refl;
+  order-ties = refl;
   sum-from-offset = refl;
 }

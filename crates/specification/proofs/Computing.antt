@@ -16,7 +16,7 @@ use Rattle.specification.specs.Search.{reach, spanSum, twoDistinct, half
 use Rattle.specification.specs.Decided.{completes?}
 use Rattle.specification.specs.Verdict.{activeFrom, upToLast, blockOf, byTwo, othersOf, hit, placed, searched, pastSearch, byMany, bySize, byBlock, outOfRange, planOf, carryOut, judge, verdict}
 use Rattle.specification.specs.Record.{bigEndian, axisBytes, recordBytes, written}
-use Rattle.specification.specs.Beside.{nextStep, running, colMajor, rowMajor, sumIndexed, indexedOffset}
+use Rattle.specification.specs.Beside.{nextStep, running, colMajor, rowMajor, orderAmong, indexOrder, sumIndexed, indexedOffset}
 
 -- a name for the list
 unfoldable pub computing : Unit {0}
@@ -37,5 +37,5 @@ unfolding gcd gcdWithin
     completes?
     activeFrom upToLast blockOf byTwo othersOf hit placed searched pastSearch byMany bySize byBlock outOfRange planOf carryOut judge verdict
     bigEndian axisBytes recordBytes written
-    nextStep running colMajor rowMajor sumIndexed indexedOffset
+    nextStep running colMajor rowMajor orderAmong indexOrder sumIndexed indexedOffset
 computing = tt

@@ -26,7 +26,7 @@ use Rattle.specification.proofs.OutcomeLaws.{clash}
 -- ---- the lists
 
 -- a call passes or is turned away as the rules say, and a refusal hands on the old layout
-pub run-of : AnswerClaims → (start : LayoutM) (calls : List Call) → Run start calls (answersOf start calls) (endOf start calls)
+run-of : AnswerClaims → (start : LayoutM) (calls : List Call) → Run start calls (answersOf start calls) (endOf start calls)
 unfolding answersOf endOf
 run-of claims l [] = ended
 run-of claims l (c ∷ calls) = go (afterCall l c .answer) refl (run-of claims (afterCall l c .layout) calls)

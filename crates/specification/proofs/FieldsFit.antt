@@ -21,8 +21,8 @@ use Rattle.specification.specs.Views.{withAxes}
 use Rattle.specification.specs.Normal.{normalAxes, normalOf, overfull}
 use Rattle.specification.proofs.NormalAxes.{AllPositive, Normal, none, more, normal-positive}
 use Rattle.specification.proofs.NormalLaws.{positions-pos, normalAxes-normal, normal-of-empty, normal-of-full, normal-same}
-use Rattle.specification.proofs.ReachLaws.{accepted-within}
-use Rattle.specification.proofs.WriterLaws.{normal-accepted, spans-fit}
+use Rattle.specification.proofs.ReachLaws.{accepted-within, spans-fit}
+use Rattle.specification.proofs.WriterLaws.{normal-accepted}
 
 -- the offset fits 64 bits signed, each extent 64 bits, each stride 64 bits signed
 pub record FieldsFit (n : LayoutM) : Type 0 where

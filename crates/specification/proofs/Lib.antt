@@ -35,6 +35,9 @@ pub mod BlockEnds
 pub mod CountLaws
 pub mod DigitOrder
 pub mod ReachLaws
+pub mod TestsTold
+pub mod Sums
+pub mod OrderSums
 pub mod AcceptedLaws
 pub mod WriterLaws
 pub mod FieldsFit

@@ -24,7 +24,7 @@ use Rattle.specification.specs.RecordClaims.{NormalRecord}
 use Rattle.specification.proofs.NormalAxes.{Normal, none, more, normal-positive}
 use Rattle.specification.proofs.NormalLaws.{emptyAxes, empty-none, normalAxes-normal, normalAxes-own, normal-of-empty, normal-of-full}
 use Rattle.specification.proofs.ReachLaws.{reach-of, and-true}
-use Rattle.specification.proofs.AcceptedLaws.{or-true}
+use Rattle.specification.proofs.TestLaws.{or-true}
 use Rattle.specification.proofs.FieldsFit.{not-empty}
 use Rattle.specification.proofs.OutcomeLaws.{false-unless}
 

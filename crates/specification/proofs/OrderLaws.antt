@@ -1,21 +1,23 @@
 -- Index order: a number counts the nonzero strides of smaller absolute value, and counting respects inclusion.
-use mathlib.Core.Path.{_≡_, refl}
+use mathlib.Core.Path.{_≡_, refl, sym, _∙_}
 use mathlib.Core.Bool.{Bool, true, false, not, _&&_}
 use mathlib.Core.List.{List, [], _∷_, map}
 use mathlib.Core.Logic.{_≢_, _↔_}
 use Prim.Native.Nat.{ℕ, zero, suc, _+_, _<_, _≤_}
 use native.Mathlib.Decide.{decLt}
 use native.Mathlib.Omega.{arith}
-use borrow.Author.Tests.{ltb-true, lt-ltb, le-ltb, eq-eqb}
-use lib.Dec.{T, ltb}
+use borrow.Author.Tests.{ltb-true, ltb-false, lt-ltb, le-ltb, eq-eqb}
+use lib.Dec.{T, eqb, ltb}
 use lib.IntN.{ℤ, pos, natAbs}
-use lib.ListN.{length, getD}
+use lib.ListN.{length, getD, length-map}
 use Rattle.integer.specs.Multiple.{eqZ}
 use Rattle.integer.proofs.MultipleLaws.{eqZ-yes, eqZ-no}
 use Rattle.specification.specs.Tests.{if_then_else_, those}
-use Rattle.specification.specs.Outcome.{refuseIf, _>>_}
+use Rattle.specification.specs.Outcome.{Check, done, refused, refuseIf, _>>_}
+use Rattle.specification.specs.Layout.{tooLong}
 use Rattle.specification.specs.Beside.{orderAmong, indexOrder, orderAfter}
-use Rattle.specification.specs.BesideClaims.{OrderClaims}
+use Rattle.specification.specs.BesideClaims.{OrderRefused, too-many, wrong-length, OrderClaims}
+use Rattle.specification.proofs.AnswerRules.{Answers, Only, only, InOrder, sooner, later, restated, test-answers, equal-tested, then-answers, then-assoc, done-after}
 use Rattle.specification.proofs.ReachLaws.{and-true}
 use Rattle.specification.proofs.TestLaws.{those-no-more, those-fewer, those-all, those-none}
 
@@ -115,6 +117,45 @@ zero-is-one : (strides : List ℤ) → orderAmong strides (pos 0) ≡ 1
 unfolding orderAmong eqZ
 zero-is-one strides = refl
 
+-- ---- refusals
+
+-- refused 1 for too many strides, then 2 for an output of another length
+order-answers : (strides : List ℤ) (room : ℕ) → Answers (refuseIf (tooLong strides) 1 [] >> refuseIf (not (eqb (length strides) room)) 2 []) ((length strides ≤ 16) × (length strides ≡ room)) (OrderRefused strides room)
+order-answers strides room = restated
+    (then-answers _ _ (test-answers (tooLong strides) 1 [] (ltb-false 16 (length strides), le-ltb 16 (length strides))) (λ h. test-answers (not (eqb (length strides) room)) 2 [] (equal-tested (length strides) room)))
+    (λ w. w) (λ w. w) (λ n vs o. to o) (λ n vs o. from o)
+  where
+    to : {n : ℕ} {vs : List ℕ} → InOrder (length strides ≤ 16) (Only 1 [] (length strides ≤ 16)) (Only 2 [] (length strides ≡ room)) n vs → OrderRefused strides room n vs
+    to (sooner (only f)) = too-many (omega arith)
+    to (later h (only f)) = wrong-length h f
+
+    from : {n : ℕ} {vs : List ℕ} → OrderRefused strides room n vs → InOrder (length strides ≤ 16) (Only 1 [] (length strides ≤ 16)) (Only 2 [] (length strides ≡ room)) n vs
+    from (too-many h) = sooner (only (λ k. omega arith))
+    from (wrong-length h f) = later h (only f)
+
+-- the call is these checks, then the numbers
+order-checked : (strides : List ℤ) (room : ℕ) → indexOrder strides room ≡ (refuseIf (tooLong strides) 1 [] >> refuseIf (not (eqb (length strides) room)) 2 []) >> done (map (orderAmong strides) strides)
+unfolding indexOrder
+order-checked strides room = sym (then-assoc _ _ _)
+
+refuses : (strides : List ℤ) (room number : ℕ) (values : List ℕ) → (indexOrder strides room ≡ refused number values) ↔ OrderRefused strides room number values
+refuses strides room number values =
+    let d = done-after (refuseIf (tooLong strides) 1 [] >> refuseIf (not (eqb (length strides) room)) 2 []) (map (orderAmong strides) strides) number values in
+    let a = order-answers strides room .refuses number values in
+    (λ e. a .0 (d .0 (sym (order-checked strides room) ∙ e)), λ r. order-checked strides room ∙ d .1 (a .1 r))
+
+left : (strides : List ℤ) (before : List ℕ) (number : ℕ) (values : List ℕ) → indexOrder strides (length before) ≡ refused number values → orderAfter (indexOrder strides (length before)) before ≡ before
+left strides before number values e = rw e
+
+-- the output stays as long as it was
+as-long : (strides : List ℤ) (before : List ℕ) → length (orderAfter (indexOrder strides (length before)) before) ≡ length before
+unfolding _>>_
+as-long strides before = rw (order-checked strides (length before)) (go (refuseIf (tooLong strides) 1 [] >> refuseIf (not (eqb (length strides) (length before))) 2 []) (order-answers strides (length before)))
+  where
+    go : (c : Check) → Answers c ((length strides ≤ 16) × (length strides ≡ length before)) (OrderRefused strides (length before)) → length (orderAfter (c >> done (map (orderAmong strides) strides)) before) ≡ length before
+    go (done u) a = length-map strides (orderAmong strides) ∙ a .passes .0 refl .1
+    go (refused n vs) a = refl
+
 -- all that is claimed of the index order
 pub order-claims : OrderClaims
-order-claims = record { zero-is-one = zero-is-one; rises = rises; from-one = from-one; least-is-one = least-is-one; output = output }
+order-claims = record { zero-is-one = zero-is-one; rises = rises; from-one = from-one; least-is-one = least-is-one; output = output; as-long = as-long; refuses = refuses; left = left }

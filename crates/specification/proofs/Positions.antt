@@ -1,5 +1,5 @@
 -- Positions and index vectors of axes: the facts of Digits, said of the extents of axes; and offsets tell positions apart exactly if they tell index vectors apart.
-use mathlib.Core.Path.{_≡_, refl, sym, ap, _∙_}
+use mathlib.Core.Path.{_≡_, sym, ap, _∙_}
 use mathlib.Core.List.{List}
 use Prim.Native.Nat.{ℕ, _<_}
 use Rattle.specification.specs.Axis.{Axis, indexAt, extents, offsetSum, positions, sumAt}
@@ -11,10 +11,6 @@ unfoldable pub use Rattle.specification.proofs.Digits.{place}
 -- the index vector at position k
 abbrev pub indices : List Axis → ℕ → List ℕ
 indices l k = indexAt (extents l) k
-
--- the sum at a position is that of its index vector, by definition; for files that still cite it
-pub digitSum-is : (l : List Axis) (k : ℕ) → sumAt l k ≡ offsetSum l (indices l k)
-digitSum-is l k = refl
 
 -- the indices of a position are an index vector
 pub indices-within : {l : List Axis} → AllPositive l → (k : ℕ) → k < positions l → IndexVector (extents l) (indices l k)

@@ -1,6 +1,7 @@
 -- Every claim of specs/, with its proof: one record that the check has to build.
+use Rattle.specification.specs.TestClaims.{TestClaims}
 use Rattle.specification.specs.ReachClaims.{ReachClaims}
-use Rattle.specification.specs.ViewClaims.{AnswerClaims, AcceptedClaims, RangeClaims, NewLayoutClaims, ViewClaims}
+use Rattle.specification.specs.ViewClaims.{AnswerClaims, AcceptedClaims, RangeClaims, NewLayoutClaims, ClassClaims, ViewClaims}
 use Rattle.specification.specs.NormalClaims.{NormalClaims}
 use Rattle.specification.specs.BlockClaims.{BlockClaims}
 use Rattle.specification.specs.VerdictClaims.{VerdictClaims, WordsClaims, VerdictCallClaims}
@@ -10,11 +11,13 @@ use Rattle.specification.specs.BesideClaims.{DenseClaims, OrderClaims, O
 use Rattle.specification.specs.Demand3.{Demand3Claim}
 use Rattle.specification.specs.Starred.{Starred}
 use Rattle.specification.specs.Cases.{Cases}
+use Rattle.specification.proofs.TestsTold.{test-claims}
 use Rattle.specification.proofs.ReachClaimed.{reach-claims}
 use Rattle.specification.proofs.AnswerLaws.{answer-claims}
 use Rattle.specification.proofs.ReaderLaws.{accepted-claims}
 use Rattle.specification.proofs.RangeLaws.{range-claims}
 use Rattle.specification.proofs.NewLayoutLaws.{new-layout-claims}
+use Rattle.specification.proofs.ClassLaws.{class-claims}
 use Rattle.specification.proofs.DiagonalLaws.{view-claims}
 use Rattle.specification.proofs.NormalLaws.{normal-claims}
 use Rattle.specification.proofs.BlockEnds.{block-claims}
@@ -38,11 +41,13 @@ pub demand3 : Demand3Claim
 demand3 = demand3-from answer-claims
 
 pub record Proved : Type 0 where
+  pub tests : TestClaims
   pub reach : ReachClaims
   pub answers : AnswerClaims
   pub accepted : AcceptedClaims
   pub ranges : RangeClaims
   pub new-layouts : NewLayoutClaims
+  pub classes : ClassClaims
   pub views : ViewClaims
   pub normal : NormalClaims
   pub block : BlockClaims
@@ -64,11 +69,13 @@ pub record Proved : Type 0 where
 
 pub proved : Proved
 proved = record {
+  tests = test-claims;
   reach = reach-claims;
   answers = answer-claims;
   accepted = accepted-claims;
   ranges = range-claims;
   new-layouts = new-layout-claims;
+  classes = class-claims;
   views = view-claims;
   normal = normal-claims;
   block = block-claims;

@@ -6,13 +6,12 @@ use mathlib.Core.Path.{_≡_, refl}
 use Prim.Native.Nat.{ℕ, _+_, _<_, _≤_}
 use native.Mathlib.Decide.{decLt}
 use native.Mathlib.Omega.{arith}
-use lib.IntN.{ℤ, pos}
+use lib.IntN.{pos}
 use lib.ListN.{length}
 use lib.Signed.{leZ, ltZ}
 use borrow.Author.Tests.{ltb-false, le-ltb, not-false}
-use Rattle.integer.specs.Parts.{posPart, negPart}
 use Rattle.integer.specs.Range.{fits, mostSigned}
-use Rattle.integer.proofs.PartLaws.{ltZ-true, lt-leZ}
+use Rattle.integer.proofs.PartLaws.{le-ltZ, lt-leZ}
 use Rattle.specification.specs.Tests.{if_then_else_, some}
 use Rattle.specification.specs.Axis.{Axis, positions, isEmpty, span, upward, downward}
 use Rattle.specification.specs.Outcome.{pass, refused, refuseIf}
@@ -20,8 +19,7 @@ use Rattle.specification.specs.Layout.{LayoutM, rank, Accepted, lowest, 
 use Rattle.specification.specs.CheckIn.{tooWide, bounds}
 use Rattle.specification.specs.ReachClaims.{ReachClaims}
 use Rattle.specification.proofs.NormalLaws.{full-pos, positions-pos, empty-none}
-use Rattle.specification.proofs.ReachLaws.{reach-of, accepted-within, tested-yes, tested-no, or-false, Within, bounds-within, bounds-reach}
-use Rattle.specification.proofs.WriterLaws.{spans-fit, fits-small}
+use Rattle.specification.proofs.ReachLaws.{reach-of, accepted-within, tested-yes, tested-no, or-false, Within, bounds-within, bounds-reach, spans-fit, fits-small}
 use Rattle.specification.proofs.OutcomeLaws.{clash, refused-inj}
 use Rattle.specification.proofs.AnswerRules.{Answers, Only, only, InOrder, sooner, later, restated, test-answers, then-answers}
 
@@ -81,14 +79,6 @@ module _ (l : LayoutM) (list : List ℕ) where
       from (not-accepted h k f) = later (h, k) (only f)
 
 -- ---- check-in
-
--- an order the other way round refutes the test
-le-ltZ : (x y : ℤ) → posPart y + negPart x ≤ posPart x + negPart y → ltZ x y ≡ false
-le-ltZ x y h = go (ltZ x y) (ltZ-true x y)
-  where
-    go : (t : Bool) → (t ≡ true → posPart x + negPart y < posPart y + negPart x) → t ≡ false
-    go true f = absurd (omega (arith, f refl))
-    go false f = refl
 
 -- where the spans together fit, each fits
 spans-within : (axes : List Axis) → upward axes + downward axes ≤ mostSigned → some (λ a. not (fits (span a))) axes ≡ false

@@ -12,7 +12,7 @@ use lib.Signed.{leZ, ltZ}
 use Rattle.integer.specs.Multiple.{_·_}
 use Rattle.integer.specs.Parts.{posPart, negPart}
 use Rattle.integer.proofs.MultipleLaws.{posPart-·, negPart-·}
-use Rattle.integer.proofs.PartLaws.{parts-add, parts-minus, parts-ext, leZ-true, leZ-false, le-leZ, ltZ-true, ltZ-false, le-parts, parts-le, lt-parts, parts-lt}
+use Rattle.integer.proofs.PartLaws.{parts-add, parts-minus, parts-ext, leZ-true, leZ-false, le-leZ, ltZ-true, ltZ-false, lt-ltZ, le-parts, parts-le, lt-parts, parts-lt}
 use Rattle.integer.specs.Range.{fits, mostSigned}
 use Rattle.specification.specs.Tests.{if_then_else_, some}
 use Rattle.specification.specs.Axis.{Axis, extents, offsetSum, sumAt, isEmpty, span, upward, downward}
@@ -119,6 +119,10 @@ module _ (l : LayoutM) (e : isEmpty (l .axes) ≡ false) where
     );
   }
 
+-- a value whose parts are small fits
+pub fits-small : (z : ℤ) → posPart z ≤ mostSigned → negPart z ≤ mostSigned → fits z ≡ true
+fits-small z p n = rw (le-leZ (negsuc mostSigned) z (omega arith), le-leZ z (pos mostSigned) (omega arith))
+
 -- what the test says of a layout that is not empty
 pub record Within (l : LayoutM) : Type 0 where
   pub w-low : negPart (lowest l) ≤ posPart (lowest l)
@@ -135,13 +139,6 @@ tests l e =
     let v = and-true (leZ (pos 0) (lowest l)) (leZ (highest l) (pos mostSigned)) (w .0) in
     record { w-low = omega (arith, leZ-true (pos 0) (lowest l) (v .0)); w-most = omega (arith, leZ-true (highest l) (pos mostSigned) (v .1)); w-in = omega (arith, ltZ-true (highest l) (pos (l .buffer)) (w .1)) }
 
-lt-ltZ : (x y : ℤ) → posPart x + negPart y < posPart y + negPart x → ltZ x y ≡ true
-lt-ltZ x y h = go (ltZ x y) (ltZ-false x y)
-  where
-    go : (t : Bool) → (t ≡ false → posPart y + negPart x ≤ posPart x + negPart y) → t ≡ true
-    go true f = refl
-    go false f = absurd (omega (arith, f refl))
-
 untests : (l : LayoutM) → Within l → (leZ (pos 0) (lowest l) && leZ (highest l) (pos mostSigned) && ltZ (highest l) (pos (l .buffer))) ≡ true
 untests l w = rw (le-leZ (pos 0) (lowest l) (omega (arith, w .w-low)), le-leZ (highest l) (pos mostSigned) (omega (arith, w .w-most)), lt-ltZ (highest l) (pos (l .buffer)) (omega (arith, w .w-in)))
 
@@ -155,6 +152,12 @@ accepted-within l e a =
       w-most = omega (arith, le-parts (rw (r .high) at (hi .to-most)));
       w-in = omega (arith, lt-parts (rw (r .high) at (hi .in-buffer)));
     }
+
+-- so the spans together fit
+pub spans-fit : (l : LayoutM) → isEmpty (l .axes) ≡ false → Accepted l → upward (l .axes) + downward (l .axes) ≤ mostSigned
+spans-fit l e a =
+    let w = accepted-within l e a in
+    omega (arith, w .w-low, w .w-most, parts-minus (l .offset) (pos (downward (l .axes))), parts-add (l .offset) (pos (upward (l .axes))))
 
 pub within-accepted : (l : LayoutM) → isEmpty (l .axes) ≡ false → rank l ≤ 16 → Within l → Accepted l
 within-accepted l e n w =

@@ -10,7 +10,7 @@ use lib.Seq.{drop-length}
 use borrow.Author.Tests.{lt-ltb, le-ltb}
 use Rattle.specification.specs.Record.{numberFrom, restOf}
 use Rattle.specification.specs.RecordClaims.{SteppingClaims}
-use Rattle.specification.proofs.AcceptedLaws.{or-true}
+use Rattle.specification.proofs.TestLaws.{or-true}
 
 step-over : (bytes : List ℕ) → 2 ≤ length bytes → 13 ≤ numberFrom bytes 0 2 → numberFrom bytes 0 2 ≤ length bytes → restOf bytes ≡ drop (numberFrom bytes 0 2) bytes
 unfolding restOf

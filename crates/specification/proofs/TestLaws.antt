@@ -9,8 +9,17 @@ use lib.ListN.{length, getD}
 use Rattle.specification.specs.Tests.{if_then_else_, some, those}
 
 -- a test that holds and does not hold
-true-not-false : {t : Bool} → t ≡ true → t ≡ false → ⊥
+pub true-not-false : {t : Bool} → t ≡ true → t ≡ false → ⊥
 true-not-false p q = subst T (sym p ∙ q) tt
+
+-- a test joined with one that fails, and with one that holds
+pub or-of-false : (t : Bool) → (t || false) ≡ t
+or-of-false true = refl
+or-of-false false = refl
+
+pub or-true : (t : Bool) → (t || true) ≡ true
+or-true true = refl
+or-true false = refl
 
 module _ {A : Type 0} where
   -- what passes the first test passes the second: the first has no more entries
@@ -47,6 +56,10 @@ module _ {A : Type 0} where
   those-all [] = refl
   those-all (a ∷ r) = omega (arith, those-all r)
 
+  -- so no more pass than there are
+  pub length-those : (p : A → Bool) (l : List A) → length (those p l) ≤ length l
+  length-those p l = omega (arith, those-no-more p (λ a. true) l (λ a e. refl), those-all l)
+
   -- no entry passes
   pub those-none : (p : A → Bool) (d : A) (l : List A) → ((i : ℕ) → i < length l → p (getD l i d) ≡ false) → length (those p l) ≡ 0
   unfolding those
@@ -56,12 +69,8 @@ module _ {A : Type 0} where
   -- a list and its reverse have the same entries
   pub some-reverse : (p : A → Bool) (l : List A) → some p (reverse l) ≡ some p l
   unfolding some
-  some-reverse p l = into l [] ∙ or-false (some p l)
+  some-reverse p l = into l [] ∙ or-of-false (some p l)
     where
-      or-false : (t : Bool) → (t || false) ≡ t
-      or-false true = refl
-      or-false false = refl
-
       either : (t u v : Bool) → (u || (t || v)) ≡ ((t || u) || v)
       either true true v = refl
       either true false v = refl

@@ -13,12 +13,12 @@ use Rattle.specification.specs.Decided.{sameSum?}
 use Rattle.specification.specs.Verdict.{Verdict, Distinct, Repeated, Undecided, Judged, Plan, answered, enumerated, activeFrom, blockOf, longer, lower, othersOf, searched, judge, BothBudgetsPassed}
 use Rattle.specification.specs.VerdictClaims.{Says}
 use Rattle.specification.proofs.NormalAxes.{AllPositive}
-use Rattle.specification.proofs.Positions.{IndexVector, empty, digitSum-is}
+use Rattle.specification.proofs.Positions.{IndexVector, empty}
 use Rattle.specification.proofs.AbsoluteStrides.{absolute, SumsApart}
 use Rattle.specification.proofs.SeparatedAxis.{separated}
 use Rattle.specification.proofs.Differences.{EqualSums, crowded as crowded-pair}
 use Rattle.specification.proofs.AxisOrder.{Perm, skip, trans, perm-sym, apart-of-perm, carry, carry-perm}
-use Rattle.specification.proofs.Collisions.{no-pair, pair-carry, Twice, pair-twice, apart-positions}
+use Rattle.specification.proofs.Collisions.{no-pair, pair-carry, pair-shared, apart-positions}
 use Rattle.specification.proofs.Sorting.{sort-perm}
 use Rattle.specification.proofs.BlockLaws.{Live, Lives, lives-pos, perm-lives, active-carry, still-yes, still-no, block-lives, block-apart, block-pair}
 use Rattle.specification.proofs.TwoAxes.{no-pair-of-two, pair-of-two}
@@ -74,11 +74,8 @@ says-block {axes} t (large n h c) l = says-large (BothBudgetsPassed axes) c l (�
 
 -- ---- the positions
 
-twice-shared : (l : List Axis) → Twice l → Shared l
-twice-shared l t = record { one = t .i; other = t .j; one-is = t .bi; other-is = t .bj; different = t .other; same = sym (digitSum-is l (t .i)) ∙ t .same ∙ digitSum-is l (t .j) }
-
 apart-unshared : (l : List Axis) → AllPositive l → SumsApart (absolute 0 l) → ¬ (Shared l)
-apart-unshared l h f s = s .different (apart-positions l h f (s .one) (s .other) (s .one-is) (s .other-is) (digitSum-is l (s .one) ∙ s .same ∙ sym (digitSum-is l (s .other))))
+apart-unshared l h f s = s .different (apart-positions l h f (s .one) (s .other) (s .one-is) (s .other-is) (s .same))
 
 empty-unshared : (l : List Axis) → isEmpty l ≡ true → ¬ (Shared l)
 empty-unshared l e s = omega (arith, empty-none l e, s .one-is)
@@ -91,7 +88,7 @@ module _ (axes : List Axis) (e : isEmpty axes ≡ false) where
   unshared f = apart-unshared axes (full-pos axes e) (carry (active-carry 0 (full-pos axes e) .0) f)
 
   shared : EqualSums (activeFrom 0 axes) → Shared axes
-  shared p = twice-shared axes (pair-twice axes (pair-carry (active-carry 0 (full-pos axes e) .1) p))
+  shared p = pair-shared axes (pair-carry (active-carry 0 (full-pos axes e) .1) p)
 
   -- what holds of the active axes holds of the positions
   says-positions : (p : Plan) → TruePlan (BothBudgetsPassed axes) (activeFrom 0 axes) p → Says (judgedAs p .answer) axes

@@ -1,24 +1,24 @@
 -- What the writer answers: 1 and 3 as for any layout, and for an accepted one 8, then 10, then 9, else the record of the normal form with its verdict.
 use mathlib.Core.Path.{_≡_, refl, sym, ap, _∙_}
 use mathlib.Core.Bool.{Bool, true, false}
+use mathlib.Core.Logic.{inl}
 use mathlib.Core.List.{List, [], _∷_}
 use Prim.Native.Nat.{ℕ, _<_, _≤_}
 use native.Mathlib.Omega.{arith}
 use lib.Dec.{ltb}
-use lib.ListN.{length}
 use borrow.Author.Tests.{lt-ltb, le-ltb, ltb-false}
 use Rattle.specification.specs.Outcome.{Outcome, done, refused, refuseIf, _>>_, _>>=_}
-use Rattle.specification.specs.Layout.{LayoutM, rank, Accepted, inReach, handed}
+use Rattle.specification.specs.Layout.{LayoutM, rank, Accepted, handed}
 use Rattle.specification.specs.Normal.{normalOf, overfull, normalForm}
 use Rattle.specification.specs.Verdict.{Judged, judge, wordsNeeded}
 use Rattle.specification.specs.Record.{recordLength, recordBytes, Made, written, writeFrees, writeAnswer}
 use Rattle.specification.specs.RecordClaims.{WriterClaims}
 use Rattle.specification.specs.Demand3.{AnsweredExactly}
-use Rattle.specification.proofs.ReachLaws.{tested-no}
+use Rattle.specification.proofs.ReachClaimed.{HandedRefused, handed-answers}
 use Rattle.specification.proofs.RecordFields.{length-recordBytes}
 use Rattle.specification.proofs.WriterLaws.{normal-accepted, form-done, form-eight, normal-few}
 use Rattle.specification.proofs.JudgeLaws.{Judging, is-judged, too-few, judging, freed-is-needed}
-use Rattle.specification.proofs.OutcomeLaws.{clash, false-unless, passed, refuse-yes, refuse-no, bound, bind-done, bind-refused, done-inj}
+use Rattle.specification.proofs.OutcomeLaws.{clash, passed, refuse-yes, refuse-no, bound, bind-done, bind-refused, done-inj}
 
 -- the record of a normal form as it was judged
 abbrev pub recordOf : LayoutM → Judged → Made
@@ -107,19 +107,11 @@ written-handed : (x : LayoutM) (room words number : ℕ) (values : List ℕ) →
 unfolding written normalForm _>>_
 written-handed x room words number values e = bind-refused _ (rw e)
 
-handed-one : (x : LayoutM) → 16 < rank x → handed x [] ≡ refused 1 []
-unfolding handed
-handed-one x h = refuse-yes 1 [] _ (rw (lt-ltb 16 (length (x .axes)) h))
-
-handed-three : (x : LayoutM) → rank x ≤ 16 → ¬ (Accepted x) → handed x [] ≡ refused 3 []
-unfolding handed refuseIf _>>_
-handed-three x h n = rw (le-ltb 16 (length (x .axes)) h, false-unless (inReach x) (tested-no x h) n)
-
 pub writer-claims : WriterClaims
 unfolding writeFrees
 writer-claims = record {
-  too-many-axes = λ l room words h. written-handed l room words 1 [] (handed-one l h);
-  not-accepted = λ l room words h n. written-handed l room words 3 [] (handed-three l h n);
+  too-many-axes = λ l room words h. written-handed l room words 1 [] (handed-answers l [] .refuses 1 [] .1 (HandedRefused.too-many (inl h)));
+  not-accepted = λ l room words h n. written-handed l room words 3 [] (handed-answers l [] .refuses 3 [] .1 (HandedRefused.not-accepted h (omega arith) n));
   frees = λ l room words m a e. ap writeFrees e ∙ writes l room words m a e .frees;
   frees-none = λ l room words number values e. ap writeFrees e;
 }

@@ -12,7 +12,7 @@ use borrow.Author.Tests.{ltb-true, le-ltb}
 use Rattle.integer.specs.Multiple.{eqZ}
 use Rattle.integer.specs.Parts.{posPart, negPart}
 use Rattle.integer.proofs.MultipleLaws.{posPart-·, negPart-·, eqZ-yes}
-use Rattle.integer.proofs.PartLaws.{parts-add, parts-minus, posPart-neg, negPart-neg, le-leZ}
+use Rattle.integer.proofs.PartLaws.{posPart-neg, negPart-neg}
 use Rattle.integer.specs.Range.{fits, mostSigned, mostUnsigned}
 use Rattle.specification.specs.Tests.{if_then_else_, some, those}
 use Rattle.specification.specs.Axis.{Axis, positions, isEmpty, active, span, upward, downward}
@@ -22,8 +22,9 @@ use Rattle.specification.specs.CheckIn.{tooWide}
 use Rattle.specification.specs.Normal.{both, mergeInto, merge, normalAxes, normalOf, overfull, normalForm, continues}
 use Rattle.specification.specs.Verdict.{Plan, answered, Distinct, Repeated, still, outOfRange, planOf, blockOf, byBlock}
 use Rattle.specification.proofs.NormalLaws.{full-pos, positions-pos, empty-none, normal-of-empty, normal-of-full, normal-same, buffer-stays}
-use Rattle.specification.proofs.ReachLaws.{accepted-within, tested-yes, or-false}
-use Rattle.specification.proofs.AcceptedLaws.{length-those}
+use Rattle.specification.proofs.ReachLaws.{or-false, spans-fit, fits-small}
+use Rattle.specification.proofs.ReachClaimed.{handed-answers}
+use Rattle.specification.proofs.TestLaws.{length-those}
 use Rattle.specification.proofs.OutcomeLaws.{false-unless, refuse-no}
 
 -- ---- the normal form is accepted
@@ -78,8 +79,7 @@ normal-few x o = go (isEmpty (normalOf x .axes)) (isEmpty (x .axes)) refl refl o
 -- ---- the call
 
 handed-pass : (l : LayoutM) → Accepted l → handed l [] ≡ pass
-unfolding handed refuseIf _>>_
-handed-pass l a = rw (le-ltb 16 (length (l .axes)) (a .few), tested-yes l a)
+handed-pass l a = handed-answers l [] .passes .1 (a, omega arith)
 
 pub form-done : (l : LayoutM) → Accepted l → overfull (l .axes) ≡ false → normalForm l ≡ done (normalOf l)
 unfolding normalForm refuseIf _>>_
@@ -90,14 +90,6 @@ unfolding normalForm refuseIf _>>_
 form-eight l a o = rw (handed-pass l a, o)
 
 -- ---- an accepted layout is not out of range
-
-pub spans-fit : (l : LayoutM) → isEmpty (l .axes) ≡ false → Accepted l → upward (l .axes) + downward (l .axes) ≤ mostSigned
-spans-fit l e a =
-    let w = accepted-within l e a in
-    omega (arith, w .w-low, w .w-most, parts-minus (l .offset) (pos (downward (l .axes))), parts-add (l .offset) (pos (upward (l .axes))))
-
-pub fits-small : (z : ℤ) → posPart z ≤ mostSigned → negPart z ≤ mostSigned → fits z ≡ true
-fits-small z p n = rw (le-leZ (negsuc mostSigned) z (omega arith), le-leZ z (pos mostSigned) (omega arith))
 
 -- an axis that moves spans at least its extent minus 1
 moves-span : (a : Axis) → eqZ (a .stride) (pos 0) ≡ false → a .extent - 1 ≤ posPart (span a) + negPart (span a)

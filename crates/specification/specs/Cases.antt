@@ -1,15 +1,14 @@
 -- Further lines that compute: cases that tell a plausible wrong reading of 01 from the right one.
-use mathlib.Core.List.{List, [], _∷_}
+use mathlib.Core.List.{[], _∷_}
 use mathlib.Core.Path.{_≡_}
 use Prim.Native.Nat.{ℕ, _+_, _-_, _^_}
-use lib.IntN.{ℤ, pos, negsuc}
+use lib.IntN.{pos, negsuc}
 use Rattle.integer.specs.Range.{mostSigned}
 use Rattle.specification.specs.Outcome.{done, refused, pass}
-use Rattle.specification.specs.CheckIn.{checkIn}
 use Rattle.specification.specs.Views.{permute, diagonalView, pairsOf, broadcast}
 use Rattle.specification.specs.Normal.{normalForm}
 use Rattle.specification.specs.Verdict.{Distinct, Repeated, verdict}
-use Rattle.specification.specs.Beside.{colMajor, rowMajor, indexedOffset}
+use Rattle.specification.specs.Beside.{colMajor, rowMajor, indexOrder, indexedOffset}
 use Rattle.specification.specs.CountClaims.{judged}
 use Rattle.specification.specs.Starred.{layout, ax}
 
@@ -36,6 +35,10 @@ pub record Cases : Type 0 where
   -- a span of +2^63 is 3, one of -2^63 is not
   pub span-up : (words : ℕ) → verdict (3 ∷ []) (pos (2 ^ 62) ∷ []) words ≡ refused 3 []
   pub span-down : (words : ℕ) → verdict (3 ∷ []) (negsuc (2 ^ 62 - 1) ∷ []) words ≡ judged Distinct 0
+  -- positive spans that sum to +2^63 are 3, negative ones that sum to -2^63 are not, and one reading more is
+  pub sum-up : (words : ℕ) → verdict (2 ∷ 2 ∷ []) (pos (2 ^ 62) ∷ pos (2 ^ 62) ∷ []) words ≡ refused 3 []
+  pub sum-down : (words : ℕ) → verdict (2 ∷ 2 ∷ []) (negsuc (2 ^ 62 - 1) ∷ negsuc (2 ^ 62 - 1) ∷ []) words ≡ judged Repeated 0
+  pub sum-past : (words : ℕ) → verdict (2 ∷ 2 ∷ 2 ∷ []) (negsuc (2 ^ 62 - 1) ∷ negsuc (2 ^ 62 - 1) ∷ negsuc 0 ∷ []) words ≡ refused 3 []
   -- an active extent minus 1 above 2^63 - 1
   pub wide : (words : ℕ) → verdict ((2 ^ 63 + 1) ∷ []) (negsuc 0 ∷ []) words ≡ refused 3 []
   -- of equal extents the two on the lower axes are set apart
@@ -47,5 +50,7 @@ pub record Cases : Type 0 where
   -- dense strides of an empty shape: a step that does not fit becomes 2^63 - 1 and goes on
   pub empty-dense : colMajor (0 ∷ 2 ^ 63 ∷ 5 ∷ []) ≡ done (pos 1 ∷ pos 0 ∷ pos mostSigned ∷ [])
   pub row-dense : rowMajor (2 ∷ 3 ∷ 4 ∷ []) ≡ done (pos 12 ∷ pos 4 ∷ pos 1 ∷ [])
+  -- equal absolute strides have one number, each of them counts for larger ones, stride 0 for none
+  pub order-ties : indexOrder (pos 2 ∷ negsuc 0 ∷ pos 1 ∷ pos 0 ∷ []) 4 ≡ done (3 ∷ 1 ∷ 1 ∷ 1 ∷ [])
   -- the running sum starts at the layout's offset, also in an empty layout
   pub sum-from-offset : indexedOffset (layout 0 (pos mostSigned) (ax 2 (pos 1) ∷ ax 0 (pos 0) ∷ [])) (1 ∷ 0 ∷ []) ≡ refused 3 []

@@ -14,6 +14,7 @@ pub mod Record
 pub mod Beside
 pub mod Calls
 pub mod ViewRules
+pub mod TestClaims
 pub mod ReachClaims
 pub mod NormalClaims
 pub mod ViewClaims

@@ -1,24 +1,24 @@
 -- Claims on the views: when each passes, what a refusal says, what the new layout is, and what becomes of the offset of an index vector.
-use mathlib.Core.Bool.{true, false}
+use mathlib.Core.Bool.{false}
 use mathlib.Core.List.{List, [], _∷_, map}
 use mathlib.Core.Logic.{_≢_, _↔_}
 use mathlib.Core.Path.{_≡_}
-use Prim.Native.Nat.{ℕ, _<_, _≤_}
+use Prim.Native.Nat.{ℕ, suc, _+_, _*_, _/_, _<_, _≤_}
 use lib.Dec.{eqb}
 use lib.IntN.{ℤ, pos}
 use lib.ListN.{length, getD}
 use Rattle.integer.specs.Range.{mostUnsigned}
 use Rattle.specification.specs.Tests.{if_then_else_}
 use Rattle.specification.specs.Axis.{Axis, extents, offsetSum}
-use Rattle.specification.specs.Outcome.{Outcome, done, refused, pass}
+use Rattle.specification.specs.Outcome.{done, refused, pass}
 use Rattle.specification.specs.Layout.{LayoutM, rank, Ranges, Accepted}
 use Rattle.specification.specs.CheckIn.{checkIn}
 use Rattle.specification.specs.Tied.{Tied}
-use Rattle.specification.specs.Views.{axisAt, permute, kept, placeOf, strideSum, members, diagonalView, broadcast}
+use Rattle.specification.specs.Views.{axisAt, permute, pairsOf, classOf, kept, placeOf, strideSum, members, diagonalView, broadcast}
 use Rattle.specification.specs.Normal.{normalOf, overfull}
 use Rattle.specification.specs.Record.{WasRead, readOf}
 use Rattle.specification.specs.Calls.{Call, permuting, diagonal, broadcasting, afterCall, endOf}
-use Rattle.specification.specs.ViewRules.{Permutes, Fuses, Broadcasts, Passes, Refuses}
+use Rattle.specification.specs.ViewRules.{Permutes, pairAt, Fuses, Broadcasts, Passes, Refuses}
 
 -- ---- answers
 
@@ -87,6 +87,30 @@ pub record NewLayoutClaims : Type 0 where
   pub permuted : (l : LayoutM) (order : List ℕ) → Permutes l order → Permuted l order (permute l order .layout)
   pub diagonal-is : (l : LayoutM) (pairs : List (ℕ × ℕ)) → Fuses l pairs → Diagonal l pairs (diagonalView l pairs .layout)
   pub stretched : (l : LayoutM) (targets : List ℕ) → Broadcasts l targets → Stretched l targets (broadcast l targets .layout)
+
+-- ---- classes and pairs
+
+-- each entry is below the next
+abbrev pub Ascending : List ℕ → Type 0
+Ascending list = (i : ℕ) → suc i < length list → getD list i 0 < getD list (suc i) 0
+
+-- a is an entry of the list
+pub record Entry (list : List ℕ) (a : ℕ) : Type 0 where
+  pub place : ℕ
+  pub in-list : place < length list
+  pub there : getD list place 0 ≡ a
+
+-- the lists that diagonal_view goes by: the class of an axis, the axes that classes stand at, and the pairs in flat numbers
+pub record ClassClaims : Type 0 where
+  -- the class of a, ascending: exactly the axes below the rank that are tied to it
+  pub class-ascends : (pairs : List (ℕ × ℕ)) (rank a : ℕ) → Ascending (classOf pairs rank a)
+  pub class-is : (pairs : List (ℕ × ℕ)) (rank a b : ℕ) → Entry (classOf pairs rank a) b ↔ (b < rank) × Tied pairs a b
+  -- the kept axes, ascending: exactly those below the rank with no lower axis tied to them
+  pub kept-ascends : (pairs : List (ℕ × ℕ)) (rank : ℕ) → Ascending (kept pairs rank)
+  pub kept-is : (pairs : List (ℕ × ℕ)) (rank a : ℕ) → Entry (kept pairs rank) a ↔ (a < rank) × ((b : ℕ) → b < a → ¬ (Tied pairs a b))
+  -- pair i is (number 2i, number 2i + 1), and there is one for each two numbers
+  pub pair-is : (numbers : List ℕ) (i : ℕ) → i < length (pairsOf numbers) → pairAt (pairsOf numbers) i ≡ (getD numbers (2 * i) 0, getD numbers (2 * i + 1) 0)
+  pub pairs-are : (numbers : List ℕ) → length (pairsOf numbers) ≡ length numbers / 2
 
 -- ---- offsets
 

@@ -1,14 +1,14 @@
 -- When a view passes and when it is refused, as 01 says it in words: the first fault in 01's order, with its number and values.
 -- The claims hold the definitions of permute, diagonalView and broadcast to these rules.
-use mathlib.Core.Bool.{true, false}
+use mathlib.Core.Bool.{true}
 use mathlib.Core.List.{List, [], _∷_}
 use mathlib.Core.Logic.{_≢_, _⊎_}
 use mathlib.Core.Path.{_≡_}
 use Prim.Native.Nat.{ℕ, max, _<_, _≤_}
-use lib.IntN.{ℤ, pos}
+use lib.IntN.{pos}
 use lib.ListN.{length, take, getD}
 use Rattle.integer.specs.Range.{fits}
-use Rattle.specification.specs.Outcome.{Check, pass, refused}
+use Rattle.specification.specs.Outcome.{pass, refused}
 use Rattle.specification.specs.Layout.{LayoutM, rank, Accepted}
 use Rattle.specification.specs.CheckIn.{bounds}
 use Rattle.specification.specs.Views.{withAxes, axisAt, kept, members, strideSum, diagonalAxes}
