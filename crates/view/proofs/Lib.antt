@@ -1,9 +1,8 @@
 pub mod ModelLaws
 pub mod SomeLaws
 pub mod BoundedLaws
-pub mod ReachLaws
+pub mod SpanLaws
 pub mod BoundsLaws
-pub mod AnswerLaws
 pub mod HandedLaws
 pub mod CheckInLaws
 pub mod CountLaws
