@@ -1,29 +1,31 @@
--- Congruence said by two multiples, which `omega` adds and cancels; the coefficient that Euclid's remainders leave; an inverse.
-use mathlib.Core.Option.{none}
+-- Laws of congruence, each by two multiples that `omega` adds and cancels; and an inverse, by the coefficient that Euclid's remainders leave.
 use mathlib.Core.Path.{_∙_, _≡_, ap, sym}
 use Prim.Native.Nat.{_%_, _*_, _+_, _-_, _/_, _<_, suc, zero, ℕ}
 use native.Mathlib.Nat.{add-mul-mod-self-right, div-add-mod', div-mul-cancel, eq-of-mul-eq-mul-right, mod-eq-of-lt, mod-lt}
 use native.Mathlib.Omega.{arith}
 use Rattle.integer.proofs.GcdLaws.{gcd-divides-left, gcd-divides-right, gcd-pos}
-use Rattle.integer.specs.Congruence.{Congruent}
+-- passed on, so that a proof has the record and its laws from one place
+pub use Rattle.integer.specs.Congruence.{Congruent}
 use Rattle.integer.specs.Gcd.{gcd, gcdWithin}
 
+-- Two numbers are congruent where their remainders are equal.
 pub congruent-of-mod : (b x y : ℕ) → x % b ≡ y % b → Congruent b x y
 congruent-of-mod b x y e = record { p = y / b; q = x / b; eq = omega (arith, div-add-mod' x b, div-add-mod' y b) }
 
 pub mod-of-congruent : (b x y : ℕ) → Congruent b x y → x % b ≡ y % b
 mod-of-congruent b x y c = sym (add-mul-mod-self-right x (c .p) b) ∙ ap (λ (z : ℕ). z % b) (c .eq) ∙ add-mul-mod-self-right y (c .q) b
 
+-- A remainder is congruent to the number itself, and of those below b it is the only one.
 pub mod-congruent : (b x : ℕ) → Congruent b (x % b) x
 mod-congruent b x = record { p = x / b; q = 0; eq = omega (arith, div-add-mod' x b) }
 
--- A remainder is congruent to what it is the remainder of, and of the numbers below b it is the only one.
 pub congruent-of-equal : (b r x : ℕ) → r ≡ x % b → Congruent b r x
 congruent-of-equal b r x e = rw e (mod-congruent b x)
 
 pub equal-of-congruent : (b r x : ℕ) → r < b → Congruent b r x → r ≡ x % b
 equal-of-congruent b r x h c = sym (mod-eq-of-lt h) ∙ mod-of-congruent b r x c
 
+-- It is an equivalence, and is kept by a product and by taking congruent numbers away.
 pub congruent-sym : {b x y : ℕ} → Congruent b x y → Congruent b y x
 congruent-sym c = record { p = c .q; q = c .p; eq = sym (c .eq) }
 
@@ -36,14 +38,15 @@ congruent-mul {b} {x} {y} k c = record { p = c .p * k; q = c .q * k; eq = omega 
 pub congruent-cancel : (b x y z w : ℕ) → Congruent b (x + z) (y + w) → Congruent b z w → Congruent b x y
 congruent-cancel b x y z w c d = record { p = c .p + d .q; q = c .q + d .p; eq = omega (arith, c .eq, d .eq) }
 
--- the step of Euclid's loop with one coefficient: r is s times a
-pub euclid-step : (b a r₀ r₁ r₂ s₀ s₁ s₂ q : ℕ) → Congruent b r₀ (s₀ * a) → Congruent b r₁ (s₁ * a) → r₂ + q * r₁ ≡ r₀ → Congruent b (s₂ + q * s₁) s₀ → Congruent b r₂ (s₂ * a)
+-- A step of Euclid's with coefficients: where r₀ and r₁ are s₀ and s₁ times a, so is the remainder r₂ = r₀ - q r₁, with s₀ - q s₁.
+euclid-step : (b a r₀ r₁ r₂ s₀ s₁ s₂ q : ℕ) → Congruent b r₀ (s₀ * a) → Congruent b r₁ (s₁ * a) → r₂ + q * r₁ ≡ r₀ → Congruent b (s₂ + q * s₁) s₀
+    → Congruent b r₂ (s₂ * a)
 euclid-step b a r₀ r₁ r₂ s₀ s₁ s₂ q c₀ c₁ e d = congruent-cancel b r₂ (s₂ * a) (r₁ * q) (s₁ * a * q) top (congruent-mul q c₁)
   where
     top : Congruent b (r₂ + r₁ * q) (s₂ * a + s₁ * a * q)
     top = let m = congruent-mul a d in record { p = c₀ .p + m .q; q = c₀ .q + m .p; eq = omega (arith, c₀ .eq, m .eq) }
 
--- x - y modulo b
+-- x - y modulo b.
 unfoldable pub subMod : ℕ → ℕ → ℕ → ℕ
 subMod b x y = (x + (b - y % b)) % b
 
@@ -52,13 +55,15 @@ unfolding subMod
 sub-mod b x y h = let l = mod-lt y h in
     record { p = (x + (b - y % b)) / b; q = y / b + 1; eq = omega (arith, div-add-mod' (x + (b - y % b)) b, div-add-mod' y b) }
 
--- Euclid with the coefficient of a, modulo b
+-- Euclid's remainders, so many steps at most, with the coefficient of a that each has modulo b. The last one's is the answer.
 unfoldable pub coefficientWithin : ℕ → ℕ → ℕ → ℕ → ℕ → ℕ → ℕ
 coefficientWithin b zero r₀ r₁ s₀ s₁ = s₀
 coefficientWithin b (suc f) r₀ zero s₀ s₁ = s₀
 coefficientWithin b (suc f) r₀ (suc r₁) s₀ s₁ = coefficientWithin b f (suc r₁) (r₀ % suc r₁) s₁ (subMod b s₀ (r₀ / suc r₁ * s₁))
 
-coefficientWithin-is : (a b f r₀ r₁ s₀ s₁ : ℕ) → 0 < b → Congruent b r₀ (s₀ * a) → Congruent b r₁ (s₁ * a) → Congruent b (gcdWithin f r₀ r₁) (coefficientWithin b f r₀ r₁ s₀ s₁ * a)
+-- So the answer times a is what `gcdWithin` gives.
+coefficientWithin-is : (a b f r₀ r₁ s₀ s₁ : ℕ) → 0 < b → Congruent b r₀ (s₀ * a) → Congruent b r₁ (s₁ * a)
+    → Congruent b (gcdWithin f r₀ r₁) (coefficientWithin b f r₀ r₁ s₀ s₁ * a)
 unfolding coefficientWithin gcdWithin
 coefficientWithin-is a b zero r₀ r₁ s₀ s₁ h c₀ c₁ = c₀
 coefficientWithin-is a b (suc f) r₀ zero s₀ s₁ h c₀ c₁ = c₀
@@ -67,6 +72,7 @@ coefficientWithin-is a b (suc f) r₀ (suc r₁) s₀ s₁ h c₀ c₁ =
     (euclid-step b a r₀ (suc r₁) (r₀ % suc r₁) s₀ s₁ (subMod b s₀ (r₀ / suc r₁ * s₁)) (r₀ / suc r₁) c₀ c₁
     (omega (arith, div-add-mod' r₀ (suc r₁))) (sub-mod b s₀ (r₀ / suc r₁ * s₁) h))
 
+-- The coefficient of a in the greatest common divisor of a and b, modulo b.
 unfoldable pub coefficient : ℕ → ℕ → ℕ
 coefficient a b = coefficientWithin b b a b (1 % b) 0
 
@@ -80,27 +86,34 @@ coefficient-is a b h = coefficientWithin-is a b b a b (1 % b) 0 h one none
     none : Congruent b b (0 * a)
     none = record { p = 0; q = 1; eq = omega arith }
 
--- divided by g
+-- A congruence divided by g.
 congruent-divided : (g a b s : ℕ) → 0 < g → Congruent (b * g) g (s * (a * g)) → Congruent b 1 (s * a)
 congruent-divided g a b s h c = record { p = c .p; q = c .q; eq = eq-of-mul-eq-mul-right g h (1 + c .p * b) (s * a + c .q * b) (omega (arith, c .eq)) }
 
-pub inverse : (a b : ℕ) → 0 < a → 0 < b → Congruent (b / gcd a b) 1 (coefficient a b * (a / gcd a b))
-inverse a b ha hb =
+-- Where s times a is the greatest common divisor of a and b modulo b, s is an inverse of a / gcd modulo b / gcd.
+pub inverse-divided : (a b s : ℕ) → 0 < a → Congruent b (gcd a b) (s * a) → Congruent (b / gcd a b) 1 (s * (a / gcd a b))
+inverse-divided a b s h c =
     let ea : a / gcd a b * gcd a b ≡ a = div-mul-cancel (gcd a b) {m = a} (gcd-divides-left a b) in
     let eb : b / gcd a b * gcd a b ≡ b = div-mul-cancel (gcd a b) {m = b} (gcd-divides-right a b) in
-    congruent-divided (gcd a b) (a / gcd a b) (b / gcd a b) (coefficient a b) (gcd-pos a b ha) (retype (gcd a b) (coefficient a b) a b (a / gcd a b * gcd a b) (b / gcd a b * gcd a b) (coefficient-is a b hb) ea eb)
+    congruent-divided (gcd a b) (a / gcd a b) (b / gcd a b) s (gcd-pos a b h) (retype (gcd a b) a b (a / gcd a b * gcd a b) (b / gcd a b * gcd a b) c ea eb)
   where
-    retype : (g s a b a′ b′ : ℕ) → Congruent b g (s * a) → a′ ≡ a → b′ ≡ b → Congruent b′ g (s * a′)
-    retype g s a b a′ b′ c e f = rw (e, f) c
+    retype : (g a b x y : ℕ) → Congruent b g (s * a) → x ≡ a → y ≡ b → Congruent y g (s * x)
+    retype g a b x y c e f = rw (e, f) c
 
--- with an inverse, a cancels
+pub coefficient-inverse : (a b : ℕ) → 0 < a → 0 < b → Congruent (b / gcd a b) 1 (coefficient a b * (a / gcd a b))
+coefficient-inverse a b ha hb = inverse-divided a b (coefficient a b) ha (coefficient-is a b hb)
+
+-- With an inverse s of a, the factor a cancels.
 pub congruent-by-inverse : (a b s u w : ℕ) → Congruent b 1 (s * a) → Congruent b (u * a) (w * a) → Congruent b u w
-congruent-by-inverse a b s u w i c = congruent-trans (mine u) (congruent-trans (let m = congruent-mul s c in record { p = m .p; q = m .q; eq = omega (arith, m .eq) }) (congruent-sym (mine w)))
+congruent-by-inverse a b s u w i c = congruent-trans (mine u) (congruent-trans times (congruent-sym (mine w)))
   where
+    times : Congruent b (u * s * a) (w * s * a)
+    times = let m = congruent-mul s c in record { p = m .p; q = m .q; eq = omega (arith, m .eq) }
+
     mine : (x : ℕ) → Congruent b x (x * s * a)
     mine x = let m = congruent-mul x i in record { p = m .p; q = m .q; eq = omega (arith, m .eq) }
 
--- the number below b that is c / a modulo b
+-- With an inverse s of a modulo b, the number u below b such that u a is c modulo b.
 unfoldable pub root : ℕ → ℕ → ℕ → ℕ
 root b s c = c % b * s % b
 

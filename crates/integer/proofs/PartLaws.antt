@@ -1,4 +1,5 @@
--- What lets `omega` reason about ℤ: each equation or order of integers, said of their two parts in ℕ, with negative parts on the other side.
+-- What lets `omega` reason about ℤ: each equation and order of integers, said of their two parts in ℕ, with negative parts moved across.
+-- A lemma `parts-..` goes from the parts to ℤ or says what an operation does to them; the laws of a test end in its value.
 use mathlib.Core.Bool.{Bool, cond, false, true}
 use mathlib.Core.Logic.{_⊎_, inl, inr}
 use mathlib.Core.Path.{_∙_, _≡_, ap, refl, subst, sym}
@@ -13,10 +14,12 @@ use mir.Syntax.{w64}
 use mir.Val.{SFits}
 use Rattle.integer.specs.Parts.{negPart, posPart}
 
+-- A property of both arms is one of the choice.
 cond-case : (c : Bool) (x y : ℤ) (P : ℤ → Type 0) → (c ≡ true → P x) → (c ≡ false → P y) → P (cond c x y)
 cond-case true x y P f g = f refl
 cond-case false x y P f g = g refl
 
+-- A difference of naturals.
 pub parts-sub : (a b : ℕ) → posPart (subℕ a b) + b ≡ a + negPart (subℕ a b)
 parts-sub a b = cond-case (ltb a b) (negsuc (b - suc a)) (pos (a - b)) (λ (z : ℤ). posPart z + b ≡ a + negPart z)
     (λ e. low a b (ltb-true a b e)) (λ e. high a b (ltb-false a b e))
@@ -27,6 +30,7 @@ parts-sub a b = cond-case (ltb a b) (negsuc (b - suc a)) (pos (a - b)) (λ (z : 
     high : (a b : ℕ) → b ≤ a → (a - b) + b ≡ a + 0
     high a b h = omega arith
 
+-- A negation swaps the parts.
 pub posPart-neg : (x : ℤ) → posPart (negℤ x) ≡ negPart x
 posPart-neg (pos zero) = refl
 posPart-neg (pos (suc n)) = refl
@@ -37,6 +41,7 @@ negPart-neg (pos zero) = refl
 negPart-neg (pos (suc n)) = refl
 negPart-neg (negsuc n) = refl
 
+-- A sum, a difference and a product.
 pub parts-add : (x y : ℤ) → posPart (x +ℤ y) + (negPart x + negPart y) ≡ (posPart x + posPart y) + negPart (x +ℤ y)
 parts-add (pos a) (pos b) = omega arith
 parts-add (pos a) (negsuc b) = omega (arith, parts-sub a (suc b))
@@ -52,7 +57,7 @@ parts-mul (pos a) (negsuc b) = omega (arith, posPart-neg (pos (a * suc b)), negP
 parts-mul (negsuc a) (pos b) = omega (arith, posPart-neg (pos (suc a * b)), negPart-neg (pos (suc a * b)))
 parts-mul (negsuc a) (negsuc b) = omega arith
 
--- a product with a natural scales both parts
+-- A product with a natural scales both parts.
 pub posPart-scale : (x : ℤ) (n : ℕ) → posPart (x *ℤ pos n) ≡ posPart x * n
 posPart-scale (pos a) n = refl
 posPart-scale (negsuc a) n = posPart-neg (pos (suc a * n)) ∙ sym (zero-mul n)
@@ -61,6 +66,7 @@ pub negPart-scale : (x : ℤ) (n : ℕ) → negPart (x *ℤ pos n) ≡ negPart x
 negPart-scale (pos a) n = sym (zero-mul n)
 negPart-scale (negsuc a) n = negPart-neg (pos (suc a * n))
 
+-- Equality.
 pub parts-ext : {x y : ℤ} → posPart x + negPart y ≡ posPart y + negPart x → x ≡ y
 parts-ext {x = pos a} {y = pos b} e = ap pos (eq a b e)
   where
@@ -82,15 +88,17 @@ parts-ext {x = negsuc a} {y = negsuc b} e = ap negsuc (eq a b e)
 pub parts-eq : {x y : ℤ} → x ≡ y → posPart x + negPart y ≡ posPart y + negPart x
 parts-eq {x} {y} e = subst (λ (z : ℤ). posPart x + negPart z ≡ posPart z + negPart x) e refl
 
+-- The magnitude.
 pub natAbs-parts : (x : ℤ) → natAbs x ≡ posPart x + negPart x
 natAbs-parts (pos n) = omega arith
 natAbs-parts (negsuc n) = omega arith
 
--- one of the two is 0
+-- One of the two parts is 0.
 pub one-part-zero : (x : ℤ) → (posPart x ≡ 0) ⊎ (negPart x ≡ 0)
 one-part-zero (pos n) = inr refl
 one-part-zero (negsuc n) = inl refl
 
+-- The tests `leZ` and `ltZ`, read by their value, and their value by the parts.
 pub leZ-true : (x y : ℤ) → leZ x y ≡ true → posPart x + negPart y ≤ posPart y + negPart x
 leZ-true (pos a) (pos b) e = omega (arith, leb-true a b e)
 leZ-true (pos a) (negsuc b) e = absurd (subst T (sym e) tt)
@@ -133,34 +141,39 @@ ltZ-false (pos a) (negsuc b) e = omega arith
 ltZ-false (negsuc a) (pos b) e = absurd (subst T e tt)
 ltZ-false (negsuc a) (negsuc b) e = omega (arith, ltb-false b a e)
 
-pub le-parts : {x y : ℤ} → x ≤ℤ y → posPart x + negPart y ≤ posPart y + negPart x
-le-parts {x} {y} h = leZ-true x y (istrue (leZ x y) (h .le))
+pub lt-ltZ : (x y : ℤ) → posPart x + negPart y < posPart y + negPart x → ltZ x y ≡ true
+lt-ltZ x y h = go (ltZ x y) (ltZ-false x y)
   where
-    istrue : (b : Bool) → T b → b ≡ true
-    istrue true t = refl
-    istrue false t = absurd t
+    go : (t : Bool) → (t ≡ false → posPart y + negPart x ≤ posPart x + negPart y) → t ≡ true
+    go true f = refl
+    go false f = absurd (omega (arith, f refl))
+
+pub le-ltZ : (x y : ℤ) → posPart y + negPart x ≤ posPart x + negPart y → ltZ x y ≡ false
+le-ltZ x y h = go (ltZ x y) (ltZ-true x y)
+  where
+    go : (t : Bool) → (t ≡ true → posPart x + negPart y < posPart y + negPart x) → t ≡ false
+    go true f = absurd (omega (arith, f refl))
+    go false f = refl
+
+-- The order.
+true-of-T : (b : Bool) → T b → b ≡ true
+true-of-T true t = refl
+true-of-T false t = absurd t
+
+pub le-parts : {x y : ℤ} → x ≤ℤ y → posPart x + negPart y ≤ posPart y + negPart x
+le-parts {x} {y} h = leZ-true x y (true-of-T (leZ x y) (h .le))
 
 pub parts-le : {x y : ℤ} → posPart x + negPart y ≤ posPart y + negPart x → x ≤ℤ y
 parts-le {x} {y} h = record { le = subst T (sym (le-leZ x y h)) tt }
 
--- the strict order
-lt-true : (b : Bool) → T b → b ≡ true
-lt-true true t = refl
-lt-true false t = absurd t
-
+-- The strict order.
 pub lt-parts : {x y : ℤ} → x <ℤ y → posPart x + negPart y < posPart y + negPart x
-lt-parts {x} {y} h = ltZ-true x y (lt-true (ltZ x y) (h .lt))
+lt-parts {x} {y} h = ltZ-true x y (true-of-T (ltZ x y) (h .lt))
 
 pub parts-lt : {x y : ℤ} → posPart x + negPart y < posPart y + negPart x → x <ℤ y
-parts-lt {x} {y} h = by (ltZ x y) refl
-  where
-    by : (t : Bool) → ltZ x y ≡ t → x <ℤ y
-    by true e = record { lt = subst T (sym e) tt }
-    by false e = absurd (no (ltZ-false x y e))
-      where
-        no : posPart y + negPart x ≤ posPart x + negPart y → ⊥
-        no k = omega arith
+parts-lt {x} {y} h = record { lt = subst T (sym (lt-ltZ x y h)) tt }
 
+-- What an i64 holds: -2^63 ≤ z < 2^63. To show it, nothing need be said of which part is 0.
 pub posPart-below : {z : ℤ} → SFits w64 z → posPart z < 2 ^ 63
 posPart-below {z = pos n} f = f .sfits
 posPart-below {z = negsuc n} f = omega arith
@@ -169,7 +182,6 @@ pub negPart-below : {z : ℤ} → SFits w64 z → negPart z ≤ 2 ^ 63
 negPart-below {z = pos n} f = omega arith
 negPart-below {z = negsuc n} f = f .sfits
 
--- −2^63 ≤ z < 2^63, with nothing said of which part is 0
 pub parts-fit : {z : ℤ} → posPart z < 2 ^ 63 + negPart z → negPart z ≤ 2 ^ 63 + posPart z → SFits w64 z
 parts-fit {z = pos n} p q = record { sfits = omega arith }
 parts-fit {z = negsuc n} p q = record { sfits = omega arith }

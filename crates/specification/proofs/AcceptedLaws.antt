@@ -1,39 +1,41 @@
 -- Check-in and the views yield only accepted layouts.
-use mathlib.Core.Path.{_≡_, refl, sym, ap, ap₂, subst, _∙_}
+use mathlib.Core.Path.{_≡_, refl, sym, ap, subst, _∙_}
 use mathlib.Core.Bool.{Bool, true, false, not, _||_}
-use mathlib.Core.List.{List, [], _∷_, _++_, map, append-nil, append-assoc}
+use mathlib.Core.List.{List, [], _∷_, map}
 use Prim.Native.Nat.{ℕ, zero, suc, _+_, _*_, _-_, _<_, _≤_}
-use native.Mathlib.Decide.{ℕ-discrete}
 use native.Mathlib.Omega.{arith}
-use lib.Dec.{T, eqb, ltb, leb}
+use lib.Dec.{T, eqb, ltb}
 use lib.IntN.{ℤ, pos, _+ℤ_, _-ℤ_}
 use lib.ListN.{length, length-map}
-use borrow.Author.Tests.{ltb-false, leb-false, eqb-true, eq-eqb, ne-eqb}
+use borrow.Author.Tests.{ltb-false, eqb-true, ne-eqb}
 use Rattle.integer.specs.Parts.{posPart, negPart}
 use Rattle.integer.proofs.MultipleLaws.{posPart-·, negPart-·}
-use Rattle.specification.specs.Tests.{if_then_else_, some, those, upFrom}
+use Rattle.specification.specs.Tests.{if_then_else_, some, upFrom}
 use Rattle.specification.specs.Axis.{Axis, axesOf, isEmpty, span, upward, downward}
 use Rattle.specification.specs.Outcome.{Check, done, refused, pass}
 use Rattle.specification.specs.Layout.{LayoutM, rank, Accepted, lowest, highest, tooLong, handed}
 use Rattle.specification.specs.CheckIn.{bounds, checkIn}
-use Rattle.specification.specs.Views.{unlessRefused, withAxes, axisAt, orderFault, permute, pairFault, classOf, kept, fused, diagonalAxes, sumFaults, diagonalView, targetFault, spread, broadcast}
+use Rattle.specification.specs.Views.{unlessRefused, withAxes, axisAt, permute, pairFault, classOf, kept, fused, diagonalAxes, sumFaults, diagonalView, targetFault, spread, broadcast}
 use Rattle.specification.specs.Calls.{Call, permuting, diagonal, broadcasting, afterCall, endOf}
 use Rattle.specification.proofs.ReachLaws.{accepted-within, within-accepted, tested-no, bounds-reach}
 use Rattle.specification.proofs.NormalLaws.{empty-none}
+use Rattle.specification.proofs.OrderSums.{left, left-shift, whole-sum}
 use Rattle.specification.proofs.OutcomeLaws.{passed, passed-check, done-inj}
-
-no-true : {A : Type 0} → false ≡ true → A
-no-true e = absurd (subst T (sym e) tt)
+use Rattle.specification.proofs.Sums.{sumOf}
+use Rattle.specification.proofs.TestLaws.{true-not-false, length-those}
+-- two laws of tests that files of other crates cite from here
+pub use borrow.Author.Tests.{not-false}
+pub use Rattle.specification.proofs.TestLaws.{or-true}
 
 -- ---- other axes with the same spans
 
-pub same-reach : (l : LayoutM) (axes : List Axis) → Accepted l → length axes ≤ 16 → upward axes ≡ upward (l .axes) → downward axes ≡ downward (l .axes)
+same-reach : (l : LayoutM) (axes : List Axis) → Accepted l → length axes ≤ 16 → upward axes ≡ upward (l .axes) → downward axes ≡ downward (l .axes)
     → (isEmpty (l .axes) ≡ true → isEmpty axes ≡ true) → Accepted (withAxes l axes)
 same-reach l axes a n u d z = go (isEmpty axes) (isEmpty (l .axes)) refl refl
   where
     go : (t v : Bool) → isEmpty axes ≡ t → isEmpty (l .axes) ≡ v → Accepted (withAxes l axes)
     go true v e f = record { few = n; offsets = λ k h. absurd (omega (arith, empty-none axes e)) }
-    go false true e f = no-true (sym e ∙ z f)
+    go false true e f = absurd (true-not-false (z f) e)
     go false false e f =
         let w = accepted-within l f a in
         let p : lowest (withAxes l axes) ≡ lowest l = ap (λ (k : ℕ). l .offset -ℤ pos k) d in
@@ -44,116 +46,9 @@ same-reach l axes a n u d z = go (isEmpty axes) (isEmpty (l .axes)) refl refl
           w-in = omega (arith, w .w-in, ap posPart q, ap negPart q);
         })
 
--- ---- sums over an order
-
-unfoldable pub sumOf : (ℕ → ℕ) → List ℕ → ℕ
-sumOf f [] = 0
-sumOf f (a ∷ r) = f a + sumOf f r
-
--- the sum over n numbers from k on that are not among those before
-unfoldable pub left : (ℕ → ℕ) → List ℕ → ℕ → ℕ → ℕ
-left f before k zero = 0
-left f before k (suc n) = (if some (eqb k) before then 0 else f k) + left f before (suc k) n
-
-among-more : (x a : ℕ) (before : List ℕ) → some (eqb x) (before ++ (a ∷ [])) ≡ (some (eqb x) before || eqb x a)
-unfolding some
-among-more x a [] = go (eqb x a)
-  where
-    go : (t : Bool) → (t || false) ≡ t
-    go true = refl
-    go false = refl
-among-more x a (b ∷ r) = go (eqb x b) (among-more x a r)
-  where
-    go : (t : Bool) → some (eqb x) (r ++ (a ∷ [])) ≡ (some (eqb x) r || eqb x a) → (t || some (eqb x) (r ++ (a ∷ []))) ≡ ((t || some (eqb x) r) || eqb x a)
-    go true e = refl
-    go false e = e
-
-or-right : (t : Bool) → (t || false) ≡ t
-or-right true = refl
-or-right false = refl
-
-pub or-true : (t : Bool) → (t || true) ≡ true
-or-true true = refl
-or-true false = refl
-
-among-other : (x a : ℕ) (before : List ℕ) → ¬ (x ≡ a) → some (eqb x) (before ++ (a ∷ [])) ≡ some (eqb x) before
-among-other x a before n = among-more x a before ∙ ap (λ (t : Bool). some (eqb x) before || t) (ne-eqb x a n) ∙ or-right (some (eqb x) before)
-
-among-self : (a : ℕ) (before : List ℕ) → some (eqb a) (before ++ (a ∷ [])) ≡ true
-among-self a before = among-more a a before ∙ ap (λ (t : Bool). some (eqb a) before || t) (eq-eqb a a refl) ∙ or-true (some (eqb a) before)
-
-left-above : (f : ℕ → ℕ) (before : List ℕ) (a k n : ℕ) → a < k → left f (before ++ (a ∷ [])) k n ≡ left f before k n
-unfolding left
-left-above f before a k zero h = refl
-left-above f before a k (suc n) h =
-    ap₂ (λ (t : Bool) (z : ℕ). (if t then 0 else f k) + z) (among-other k a before (λ e. omega arith)) (left-above f before a (suc k) n (omega arith))
-
-left-take : (f : ℕ → ℕ) (before : List ℕ) (a k n : ℕ) → k ≤ a → a < k + n → some (eqb a) before ≡ false → left f before k n ≡ f a + left f (before ++ (a ∷ [])) k n
-unfolding left
-left-take f before a k zero h l m = absurd (omega arith)
-left-take f before a k (suc n) h l m = go (ℕ-discrete k a) (λ p. left-take f before a (suc k) n p (omega arith) m)
-  where
-    go : Dec (k ≡ a) → (suc k ≤ a → left f before (suc k) n ≡ f a + left f (before ++ (a ∷ [])) (suc k) n)
-        → (if some (eqb k) before then 0 else f k) + left f before (suc k) n ≡ f a + ((if some (eqb k) (before ++ (a ∷ [])) then 0 else f k) + left f (before ++ (a ∷ [])) (suc k) n)
-    go (yes e) ih = subst (λ (z : ℕ). (if some (eqb z) before then 0 else f z) + left f before (suc k) n ≡ f a + ((if some (eqb z) (before ++ (a ∷ [])) then 0 else f z) + left f (before ++ (a ∷ [])) (suc k) n)) (sym e)
-        (here (some (eqb a) before) (some (eqb a) (before ++ (a ∷ []))) m (among-self a before) (left-above f before a (suc k) n (omega arith)))
-      where
-        here : (t u : Bool) → t ≡ false → u ≡ true → left f (before ++ (a ∷ [])) (suc k) n ≡ left f before (suc k) n
-            → (if t then 0 else f a) + left f before (suc k) n ≡ f a + ((if u then 0 else f a) + left f (before ++ (a ∷ [])) (suc k) n)
-        here true u p q r = absurd (subst T p tt)
-        here false false p q r = no-true q
-        here false true p q r = omega (arith, r)
-    go (no e) ih =
-        ap₂ (λ (t : Bool) (z : ℕ). (if t then 0 else f k) + z) (sym (among-other k a before e)) (ih (omega arith))
-        ∙ swap-sum (if some (eqb k) (before ++ (a ∷ [])) then 0 else f k) (f a) (left f (before ++ (a ∷ [])) (suc k) n)
-      where
-        swap-sum : (x y z : ℕ) → x + (y + z) ≡ y + (x + z)
-        swap-sum x y z = omega arith
-
-order-sum : (f : ℕ → ℕ) (n : ℕ) (before order : List ℕ) → orderFault n before order ≡ pass → sumOf f order + left f (before ++ order) 0 n ≡ left f before 0 n
-unfolding orderFault sumOf
-order-sum f n before [] e = omega (arith, ap (λ (b : List ℕ). left f b 0 n) (append-nil before))
-order-sum f n before (a ∷ rest) e =
-    let p = passed (leb n a) 5 (a ∷ n ∷ []) e in
-    let q = passed (some (eqb a) before) 5 (a ∷ n ∷ []) (p .1) in
-    let ih = order-sum f n (before ++ (a ∷ [])) rest (q .1) in
-    let s : left f ((before ++ (a ∷ [])) ++ rest) 0 n ≡ left f (before ++ (a ∷ rest)) 0 n = ap (λ (b : List ℕ). left f b 0 n) (append-assoc before (a ∷ []) rest) in
-    let t = left-take f before a 0 n (omega arith) (omega (arith, leb-false n a (p .0))) (q .0) in
-    omega (arith, ih, s, t)
-
-left-none : (f : ℕ → ℕ) (before : List ℕ) (k n : ℕ) → left (λ i. 1) before k n ≡ 0 → left f before k n ≡ 0
-unfolding left
-left-none f before k zero e = refl
-left-none f before k (suc n) e = go (some (eqb k) before) e (left-none f before (suc k) n)
-  where
-    go : (t : Bool) → (if t then 0 else 1) + left (λ i. 1) before (suc k) n ≡ 0 → (left (λ i. 1) before (suc k) n ≡ 0 → left f before (suc k) n ≡ 0) → (if t then 0 else f k) + left f before (suc k) n ≡ 0
-    go true e ih = omega (arith, ih (omega arith))
-    go false e ih = absurd (omega arith)
-
-sum-ones : (order : List ℕ) → sumOf (λ i. 1) order ≡ length order
-unfolding sumOf
-sum-ones [] = refl
-sum-ones (a ∷ r) = omega (arith, sum-ones r)
-
-left-ones : (k n : ℕ) → left (λ i. 1) [] k n ≡ n
-unfolding left some
-left-ones k zero = refl
-left-ones k (suc n) = omega (arith, left-ones (suc k) n)
-
--- an order of all axes without repetition has the sum of all
-pub whole-sum : (f : ℕ → ℕ) (order : List ℕ) (n : ℕ) → length order ≡ n → orderFault n [] order ≡ pass → sumOf f order ≡ left f [] 0 n
-whole-sum f order n h e =
-    let z : left (λ i. 1) order 0 n ≡ 0 = omega (arith, order-sum (λ i. 1) n [] order e, sum-ones order, left-ones 0 n) in
-    omega (arith, order-sum f n [] order e, left-none f order 0 n z)
-
 sumAxes : (Axis → ℕ) → List Axis → ℕ
 sumAxes g [] = 0
 sumAxes g (a ∷ r) = g a + sumAxes g r
-
-pub left-shift : (f : ℕ → ℕ) (k n : ℕ) → left f [] (suc k) n ≡ left (λ i. f (suc i)) [] k n
-unfolding left some
-left-shift f k zero = refl
-left-shift f k (suc n) = ap (λ (z : ℕ). f (suc k) + z) (left-shift f (suc k) n)
 
 sum-axes : (g : Axis → ℕ) (axes : List Axis) → left (λ i. g (axisAt axes i)) [] 0 (length axes) ≡ sumAxes g axes
 unfolding left some sumAxes
@@ -180,7 +75,7 @@ isZero a = if eqb (a .extent) 0 then 1 else 0
 
 zero-sum : (l : List Axis) → isEmpty l ≡ true → 0 < sumAxes isZero l
 unfolding isEmpty some sumAxes
-zero-sum [] e = no-true e
+zero-sum [] e = absurd (true-not-false e refl)
 zero-sum (a ∷ r) e = go (eqb (a .extent) 0) e (zero-sum r)
   where
     go : (t : Bool) → (t || isEmpty r) ≡ true → (isEmpty r ≡ true → 0 < sumAxes isZero r) → 0 < (if t then 1 else 0) + sumAxes isZero r
@@ -205,19 +100,15 @@ empty-by-sum l m q e = go (isEmpty m) refl
 
 -- ---- the three views
 
--- the old layout or the new one
-either : (l n : LayoutM) (c : Check) → Accepted l → (c ≡ pass → Accepted n) → Accepted (unlessRefused l c n .layout)
+-- what holds of the old layout, and of the new one if the check passes, holds of the layout after it
+pub old-or-new : (P : LayoutM → Type 0) (l n : LayoutM) (c : Check) → P l → (c ≡ pass → P n) → P (unlessRefused l c n .layout)
 unfolding unlessRefused
-either l n (done u) a f = f refl
-either l n (refused m vs) a f = a
-
-pub not-false : (t : Bool) → not t ≡ false → t ≡ true
-not-false true e = refl
-not-false false e = absurd (subst T e tt)
+old-or-new P l n (done u) a f = f refl
+old-or-new P l n (refused m vs) a f = a
 
 permute-keeps : (l : LayoutM) (order : List ℕ) → Accepted l → Accepted (permute l order .layout)
 unfolding permute
-permute-keeps l order a = either l _ _ a (λ e.
+permute-keeps l order a = old-or-new Accepted l _ _ a (λ e.
     let p = passed-check (handed l order) e in
     let q = passed (not (eqb (length order) (rank l))) 4 (length order ∷ rank l ∷ []) (p .1) in
     let n : length order ≡ rank l = eqb-true (length order) (rank l) (not-false (eqb (length order) (rank l)) (q .0)) in
@@ -226,15 +117,6 @@ permute-keeps l order a = either l _ _ a (λ e.
     (up-sum (map (axisAt (l .axes)) order) ∙ s (λ a. posPart (span a)) ∙ sym (up-sum (l .axes)))
     (down-sum (map (axisAt (l .axes)) order) ∙ s (λ a. negPart (span a)) ∙ sym (down-sum (l .axes)))
     (empty-by-sum (l .axes) (map (axisAt (l .axes)) order) (s isZero)))
-
-length-those : (test : ℕ → Bool) (l : List ℕ) → length (those test l) ≤ length l
-unfolding those
-length-those test [] = omega arith
-length-those test (a ∷ r) = go (test a) (length-those test r)
-  where
-    go : (t : Bool) → length (those test r) ≤ length r → length (if t then a ∷ those test r else those test r) ≤ suc (length r)
-    go true h = omega arith
-    go false h = omega arith
 
 length-up : (k n : ℕ) → length (upFrom k n) ≡ n
 unfolding upFrom
@@ -247,7 +129,7 @@ length-kept pairs n = omega (arith, length-those (λ a. not (some (λ b. ltb b a
 
 diagonal-keeps : (l : LayoutM) (pairs : List (ℕ × ℕ)) → Accepted l → Accepted (diagonalView l pairs .layout)
 unfolding diagonalView diagonalAxes
-diagonal-keeps l pairs a = either l _ _ a (λ e.
+diagonal-keeps l pairs a = old-or-new Accepted l _ _ a (λ e.
     let p = passed-check (handed l []) e in
     let q = passed-check (pairFault (rank l) pairs) (p .1) in
     let s = passed-check (sumFaults l pairs (kept pairs (rank l))) (q .1) in
@@ -280,7 +162,7 @@ spreads i (a ∷ r) (t ∷ ts) n e =
         either′ : (t : Bool) → (isEmpty r ≡ true → isEmpty (spread r ts) ≡ true) → (t || isEmpty r) ≡ true → (t || isEmpty (spread r ts)) ≡ true
         either′ true f e = refl
         either′ false f e = f e
-    go false false q one s = no-true q
+    go false false q one s = absurd (true-not-false q refl)
     go false true q one s =
         let o : a .extent ≡ 1 = one refl in
         record {
@@ -300,7 +182,7 @@ spreads i (a ∷ r) (t ∷ ts) n e =
 
 broadcast-keeps : (l : LayoutM) (targets : List ℕ) → Accepted l → Accepted (broadcast l targets .layout)
 unfolding broadcast
-broadcast-keeps l targets a = either l _ _ a (λ e.
+broadcast-keeps l targets a = old-or-new Accepted l _ _ a (λ e.
     let p = passed-check (handed l targets) e in
     let q = passed (not (eqb (length targets) (rank l))) 4 (rank l ∷ length targets ∷ []) (p .1) in
     let n : length targets ≡ rank l = eqb-true (length targets) (rank l) (not-false (eqb (length targets) (rank l)) (q .0)) in

@@ -1,4 +1,5 @@
--- Sorting and the block: what holds of the block holds of all active axes, and of the positions.
+-- The block decides: two index vectors of one sum are there on the block exactly if they are on all active axes, and on these exactly if on all axes.
+-- Each axis behind the block is separated from those before it, and order and axes of extent 1 do not matter.
 use mathlib.Core.Path.{_≡_, refl, sym, ap, subst, _∙_}
 use mathlib.Core.Bool.{Bool, true, false, not, _&&_, _||_}
 use mathlib.Core.List.{List, [], _∷_, _++_, append-nil}
@@ -8,7 +9,7 @@ use lib.Dec.{T, leb, ltb, eqb, nleb→lt, ltb→lt, nltb→le, eqb·suc-zero}
 use lib.IntN.{ℤ, pos, negsuc, natAbs}
 use borrow.Author.Tests.{eqb-true, eqb-false}
 use Rattle.integer.specs.Multiple.{eqZ}
-use Rattle.specification.specs.Tests.{if_then_else_, some, insertBy, sortBy}
+use Rattle.specification.specs.Tests.{if_then_else_, some, sortBy}
 use Rattle.specification.specs.Axis.{Axis}
 use Rattle.specification.specs.Search.{ActiveAxis, lengths, reach, spanSum}
 use Rattle.specification.specs.Verdict.{activeFrom, upToLast, smaller, blockOf, still}
@@ -19,10 +20,11 @@ use Rattle.specification.proofs.SeparatedAxis.{separated}
 use Rattle.specification.proofs.Digits.{PositiveExtents}
 use Rattle.specification.proofs.Differences.{EqualSums}
 use Rattle.specification.proofs.AxisOrder.{Perm, nil, skip, swap, trans, perm-sym, apart-of-perm, Carry, carry-perm, carry-skip, carry-trans}
+use Rattle.specification.proofs.Sorting.{Each, EachTwo, perm-refl, perm-each, sort-perm}
 use Rattle.specification.proofs.Collisions.{pair-carry, single, single-back, still as still-pair}
 
 -- a pair of the rest is one of the whole
-pub pair-cons : (a : ActiveAxis) (r : List ActiveAxis) → 0 < a .extent → EqualSums r → EqualSums (a ∷ r)
+pair-cons : (a : ActiveAxis) (r : List ActiveAxis) → 0 < a .extent → EqualSums r → EqualSums (a ∷ r)
 unfolding reach
 pair-cons a r h p = record {
   x = 0 ∷ p .x;
@@ -33,25 +35,7 @@ pair-cons a r h p = record {
   same = ap (λ (z : ℕ). 0 * a .stride + z) (p .same);
 }
 
--- ---- sorting
-
-pub perm-refl : (l : List ActiveAxis) → Perm l l
-perm-refl [] = nil
-perm-refl (a ∷ r) = skip (perm-refl r)
-
-insert-perm : (before : ActiveAxis → ActiveAxis → Bool) (a : ActiveAxis) (r : List ActiveAxis) → Perm (a ∷ r) (insertBy before a r)
-unfolding insertBy
-insert-perm before a [] = skip nil
-insert-perm before a (b ∷ r) = go (before a b) (insert-perm before a r)
-  where
-    go : (t : Bool) → Perm (a ∷ r) (insertBy before a r) → Perm (a ∷ b ∷ r) (if t then a ∷ b ∷ r else b ∷ insertBy before a r)
-    go true p = perm-refl (a ∷ b ∷ r)
-    go false p = trans swap (skip p)
-
-pub sort-perm : (before : ActiveAxis → ActiveAxis → Bool) (l : List ActiveAxis) → Perm l (sortBy before l)
-unfolding sortBy
-sort-perm before [] = nil
-sort-perm before (a ∷ r) = trans (skip (sort-perm before r)) (insert-perm before a (sortBy before r))
+-- ---- an axis moved behind others
 
 middle-perm : (a : ActiveAxis) (r p : List ActiveAxis) → Perm (a ∷ (r ++ p)) (r ++ (a ∷ p))
 middle-perm a [] p = perm-refl (a ∷ p)
@@ -64,30 +48,38 @@ pub record Live (a : ActiveAxis) : Type 0 where
   pub moves : 0 < a .stride
 
 abbrev pub Lives : List ActiveAxis → Type 0
-Lives [] = Unit {0}
-Lives (a ∷ r) = Live a × Lives r
+Lives = Each Live
 
 pub lives-pos : (l : List ActiveAxis) → Lives l → PositiveExtents (lengths l)
 lives-pos [] f = PositiveExtents.none
 lives-pos (a ∷ r) f = let z : 0 < a .extent = omega (arith, f .0 .long) in PositiveExtents.more z (lives-pos r (f .1))
 
 pub perm-lives : {l m : List ActiveAxis} → Perm l m → Lives l → Lives m
-perm-lives nil f = f
-perm-lives (skip p) f = (f .0, perm-lives p (f .1))
-perm-lives swap f = (f .1 .0, (f .0, f .1 .1))
-perm-lives (trans p q) f = perm-lives q (perm-lives p f)
+perm-lives = perm-each Live
 
 -- ---- up to the last axis that is not separated
 
-last-lives : (before : ℕ) (l : List ActiveAxis) → Lives l → Lives (upToLast before l)
+last-each : (P : ActiveAxis → Type 0) (before : ℕ) (l : List ActiveAxis) → Each P l → Each P (upToLast before l)
 unfolding upToLast
-last-lives before [] v = v
-last-lives before (a ∷ r) v = go (upToLast (before + (a .extent - 1) * a .stride) r) (leb (a .stride) before) (last-lives (before + (a .extent - 1) * a .stride) r (v .1))
+last-each P before [] e = e
+last-each P before (a ∷ r) e = go (upToLast (before + (a .extent - 1) * a .stride) r) (leb (a .stride) before) (last-each P (before + (a .extent - 1) * a .stride) r (e .1))
   where
-    go : (u : List ActiveAxis) (t : Bool) → Lives u → Lives (elim u [ [] ↦ if t then a ∷ [] else [] | b ∷ more ↦ a ∷ b ∷ more ])
-    go [] true w = (v .0, tt)
+    go : (u : List ActiveAxis) (t : Bool) → Each P u → Each P (elim u [ [] ↦ if t then a ∷ [] else [] | b ∷ more ↦ a ∷ b ∷ more ])
+    go [] true w = (e .0, tt)
     go [] false w = tt
-    go (b ∷ more) t w = (v .0, w)
+    go (b ∷ more) t w = (e .0, w)
+
+pub last-each-two : (R : ActiveAxis → ActiveAxis → Type 0) (before : ℕ) (l : List ActiveAxis) → EachTwo R l → EachTwo R (upToLast before l)
+unfolding upToLast
+last-each-two R before [] e = e
+last-each-two R before (a ∷ r) e =
+    let before′ = before + (a .extent - 1) * a .stride in
+    go (upToLast before′ r) (leb (a .stride) before) (last-each (R a) before′ r (e .0)) (last-each-two R before′ r (e .1))
+  where
+    go : (u : List ActiveAxis) (t : Bool) → Each (R a) u → EachTwo R u → EachTwo R (elim u [ [] ↦ if t then a ∷ [] else [] | b ∷ more ↦ a ∷ b ∷ more ])
+    go [] true w v = (tt, tt)
+    go [] false w v = tt
+    go (b ∷ more) t w v = (w, v)
 
 -- l is what is left, p what was passed
 last-apart : (before : ℕ) (l p : List ActiveAxis) → before ≡ spanSum p → SumsApart (upToLast before l ++ p) → SumsApart (l ++ p)
@@ -103,6 +95,7 @@ last-apart before (a ∷ r) p e f = apart-of-perm (middle-perm a r p)
     go [] false h ih f = let q : spanSum p < a .stride = omega (arith, h tt) in ih (separated a p q f)
     go (b ∷ more) t h ih f = ih (apart-of-perm (perm-sym (middle-perm a (b ∷ more) p)) f)
 
+-- two vectors of one sum on the part up to the last and what was passed are two on all
 last-pair : (before : ℕ) (l p : List ActiveAxis) → PositiveExtents (lengths l) → EqualSums (upToLast before l ++ p) → EqualSums (l ++ p)
 unfolding upToLast
 last-pair before [] p h f = f
@@ -118,9 +111,11 @@ last-pair before (a ∷ r) p (PositiveExtents.more h t) f = pair-carry (carry-pe
 
 -- ---- the active axes
 
+-- where there are no axes
 no-axes : Carry [] []
 no-axes = carry-perm nil
 
+-- axes of extent 1 left out, vectors are carried over both ways
 pub active-carry : (k : ℕ) {l : List Axis} → AllPositive l → Carry (absolute k l) (activeFrom k l) × Carry (activeFrom k l) (absolute k l)
 unfolding activeFrom
 active-carry k AllPositive.none = (no-axes, no-axes)
@@ -138,15 +133,18 @@ active-carry k (AllPositive.more {a} {r} h t) = go (ltb 1 (a .extent)) (nltb→l
         let e : a .extent ≡ 1 = omega arith in
         (carry-trans (single this (absolute (suc k) r) e) (c .0), carry-trans (c .1) (single-back this (absolute (suc k) r) e))
 
+-- the test for stride 0, on the absolute stride
 eqZ-abs : (z : ℤ) → eqZ z (pos 0) ≡ eqb (natAbs z) 0
 unfolding eqZ
 eqZ-abs (pos n) = refl
 eqZ-abs (negsuc n) = sym (eqb·suc-zero n)
 
+-- the vector of zeros
 zeros : {es : List ℕ} → PositiveExtents es → (x : List ℕ) × IndexVector es x
 zeros PositiveExtents.none = ([], empty)
 zeros (PositiveExtents.more h t) = (0 ∷ zeros t .0, _and_ h (zeros t .1))
 
+-- an active axis has extent above 0
 active-pos : (k : ℕ) (l : List Axis) → PositiveExtents (lengths (activeFrom k l))
 unfolding activeFrom
 active-pos k [] = PositiveExtents.none
@@ -157,6 +155,7 @@ active-pos k (a ∷ r) = go (ltb 1 (a .extent)) (ltb→lt 1 (a .extent)) (active
     go true p w = let z : 0 < a .extent = omega (arith, p tt) in PositiveExtents.more z w
     go false p w = w
 
+-- an active stride 0: two vectors of one sum
 pub still-yes : (k : ℕ) (l : List Axis) → some still l ≡ true → EqualSums (activeFrom k l)
 unfolding activeFrom some
 still-yes k [] e = absurd (subst T (sym e) tt)
@@ -168,6 +167,7 @@ still-yes k (a ∷ r) e = go (ltb 1 (a .extent)) (eqZ (a .stride) (pos 0)) (ltb�
     go true false p q f ih = let h : 0 < a .extent = omega (arith, p tt) in pair-cons (record { axis = k; extent = a .extent; stride = natAbs (a .stride) }) (activeFrom (suc k) r) h (ih f)
     go false y p q f ih = ih f
 
+-- none: each active axis moves
 pub still-no : (k : ℕ) (l : List Axis) → some still l ≡ false → Lives (activeFrom k l)
 unfolding activeFrom some
 still-no k [] e = tt
@@ -181,15 +181,18 @@ still-no k (a ∷ r) e = go (ltb 1 (a .extent)) (eqZ (a .stride) (pos 0)) (ltb�
 
 -- ---- the block
 
+-- the axes of the block are active axes
 pub block-lives : (l : List Axis) → Lives (activeFrom 0 l) → Lives (blockOf l)
 unfolding blockOf
-block-lives l v = last-lives 0 (sortBy smaller (activeFrom 0 l)) (perm-lives (sort-perm smaller (activeFrom 0 l)) v)
+block-lives l v = last-each Live _ (sortBy smaller (activeFrom 0 l)) (perm-lives (sort-perm smaller (activeFrom 0 l)) v)
 
+-- sums that tell vectors of the block apart tell those of the active axes apart
 pub block-apart : (l : List Axis) → SumsApart (blockOf l) → SumsApart (activeFrom 0 l)
 unfolding blockOf spanSum
 block-apart l f = apart-of-perm (sort-perm smaller (activeFrom 0 l)) (subst SumsApart (append-nil (sortBy smaller (activeFrom 0 l)))
     (last-apart 0 (sortBy smaller (activeFrom 0 l)) [] refl (subst SumsApart (sym (append-nil (upToLast 0 (sortBy smaller (activeFrom 0 l))))) f)))
 
+-- two vectors of one sum on the block are two on the active axes
 pub block-pair : (l : List Axis) → Lives (activeFrom 0 l) → EqualSums (blockOf l) → EqualSums (activeFrom 0 l)
 unfolding blockOf
 block-pair l v p = pair-carry (carry-perm (perm-sym (sort-perm smaller (activeFrom 0 l)))) (subst EqualSums (append-nil (sortBy smaller (activeFrom 0 l)))

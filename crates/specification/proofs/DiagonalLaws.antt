@@ -1,5 +1,5 @@
 -- What diagonal_view does to the offset of an index vector whose tied axes have one index.
-use mathlib.Core.Path.{_≡_, refl, sym, ap, ap₂, subst, _∙_}
+use mathlib.Core.Path.{_≡_, refl, sym, ap, subst, _∙_}
 use mathlib.Core.Bool.{Bool, true, false, not, _&&_, _||_}
 use mathlib.Core.Option.{Option, none, some as found}
 use mathlib.Core.List.{List, [], _∷_, map}
@@ -23,94 +23,16 @@ use Rattle.specification.specs.Tied.{Tied, itself, turned, chain}
 use Rattle.specification.specs.TiedDecided.{tied?}
 use Rattle.specification.specs.Views.{withAxes, axisAt, pairFault, classOf, kept, strideSum, fused, diagonalAxes, sumFaults, diagonalView}
 use Rattle.specification.specs.Search.{firstOf}
-use Rattle.specification.specs.Claims.{ViewClaims}
-use Rattle.specification.proofs.AcceptedLaws.{sumOf, left}
+use Rattle.specification.specs.ViewClaims.{ViewClaims}
+use Rattle.specification.proofs.OrderSums.{left-sum}
 use Rattle.specification.proofs.SearchLaws.{First, first-of}
+use Rattle.specification.proofs.Sums.{sumOf, sum-ext, sum-zero, sum-times, sum-swap, sum-those, sum-one, sum-range}
+use Rattle.specification.proofs.TestLaws.{true-not-false}
 use Rattle.specification.proofs.ViewLaws.{permuted, stretched, weigh, parts, by-axis, settled}
-
--- ---- sums
-
-sum-ext : (f g : ℕ → ℕ) (l : List ℕ) → ((a : ℕ) → f a ≡ g a) → sumOf f l ≡ sumOf g l
-unfolding sumOf
-sum-ext f g [] e = refl
-sum-ext f g (a ∷ r) e = ap₂ (λ (x y : ℕ). x + y) (e a) (sum-ext f g r e)
-
-sum-zero : (l : List ℕ) → sumOf (λ a. 0) l ≡ 0
-unfolding sumOf
-sum-zero [] = refl
-sum-zero (a ∷ r) = omega (arith, sum-zero r)
-
-sum-add : (f g : ℕ → ℕ) (l : List ℕ) → sumOf (λ a. f a + g a) l ≡ sumOf f l + sumOf g l
-unfolding sumOf
-sum-add f g [] = refl
-sum-add f g (a ∷ r) = omega (arith, sum-add f g r)
-
-sum-times : (c : ℕ) (f : ℕ → ℕ) (l : List ℕ) → sumOf (λ a. c * f a) l ≡ c * sumOf f l
-unfolding sumOf
-sum-times c f [] = omega arith
-sum-times c f (a ∷ r) = omega (arith, sum-times c f r)
-
-sum-swap : (h : ℕ → ℕ → ℕ) (l m : List ℕ) → sumOf (λ k. sumOf (h k) m) l ≡ sumOf (λ a. sumOf (λ k. h k a) l) m
-unfolding sumOf
-sum-swap h [] m = sym (sum-zero m)
-sum-swap h (k ∷ r) m = ap (λ (z : ℕ). sumOf (h k) m + z) (sum-swap h r m) ∙ sym (sum-add (h k) (λ a. sumOf (λ k′. h k′ a) r) m)
-
-sum-those : (test : ℕ → Bool) (f : ℕ → ℕ) (l : List ℕ) → sumOf f (those test l) ≡ sumOf (λ a. if test a then f a else 0) l
-unfolding sumOf those
-sum-those test f [] = refl
-sum-those test f (a ∷ r) = go (test a) (sum-those test f r)
-  where
-    go : (t : Bool) → sumOf f (those test r) ≡ sumOf (λ a. if test a then f a else 0) r → sumOf f (if t then a ∷ those test r else those test r) ≡ (if t then f a else 0) + sumOf (λ a. if test a then f a else 0) r
-    go true e = omega (arith, e)
-    go false e = omega (arith, e)
-
--- one number of a range passes
-sum-none : (test : ℕ → Bool) (c i n : ℕ) → ((k : ℕ) → i ≤ k → k < i + n → test k ≡ false) → sumOf (λ k. if test k then c else 0) (upFrom i n) ≡ 0
-unfolding sumOf upFrom
-sum-none test c i zero f = refl
-sum-none test c i (suc n) f = go (test i) (f i (omega arith) (omega arith)) (sum-none test c (suc i) n (λ k h l. f k (omega arith) (omega arith)))
-  where
-    go : (t : Bool) → t ≡ false → sumOf (λ k. if test k then c else 0) (upFrom (suc i) n) ≡ 0 → (if t then c else 0) + sumOf (λ k. if test k then c else 0) (upFrom (suc i) n) ≡ 0
-    go true e z = absurd (subst T e tt)
-    go false e z = omega (arith, z)
-
-sum-one : (test : ℕ → Bool) (c p i n : ℕ) → i ≤ p → p < i + n → test p ≡ true → ((k : ℕ) → i ≤ k → k < i + n → test k ≡ true → k ≡ p) → sumOf (λ k. if test k then c else 0) (upFrom i n) ≡ c
-unfolding sumOf upFrom
-sum-one test c p i zero h l e f = absurd (omega arith)
-sum-one test c p i (suc n) h l e f = go (ℕ-discrete i p) (λ q. sum-one test c p (suc i) n q (omega arith) e (λ k a b. f k (omega arith) (omega arith)))
-  where
-    off : (k : ℕ) → i ≤ k → k < suc (i + n) → ¬ (k ≡ p) → test k ≡ false
-    off k a b ne = pick (test k) (f k a (omega arith))
-      where
-        pick : (t : Bool) → (t ≡ true → k ≡ p) → t ≡ false
-        pick true q = absurd (ne (q refl))
-        pick false q = refl
-
-    here : (t : Bool) → t ≡ true → sumOf (λ k. if test k then c else 0) (upFrom (suc i) n) ≡ 0 → (if t then c else 0) + sumOf (λ k. if test k then c else 0) (upFrom (suc i) n) ≡ c
-    here true q z = omega (arith, z)
-    here false q z = absurd (subst T (sym q) tt)
-
-    there : (t : Bool) → t ≡ false → sumOf (λ k. if test k then c else 0) (upFrom (suc i) n) ≡ c → (if t then c else 0) + sumOf (λ k. if test k then c else 0) (upFrom (suc i) n) ≡ c
-    there true q z = absurd (subst T q tt)
-    there false q z = omega (arith, z)
-
-    go : Dec (i ≡ p) → (suc i ≤ p → sumOf (λ k. if test k then c else 0) (upFrom (suc i) n) ≡ c) → (if test i then c else 0) + sumOf (λ k. if test k then c else 0) (upFrom (suc i) n) ≡ c
-    go (yes q) ih = here (test i) (rw q e) (sum-none test c (suc i) n (λ k a b. off k (omega arith) (omega arith) (λ z. omega arith)))
-    go (no q) ih = there (test i) (off i (omega arith) (omega arith) q) (ih (omega arith))
-
-sum-range : (f g : ℕ → ℕ) (i n : ℕ) → ((a : ℕ) → i ≤ a → a < i + n → f a ≡ g a) → sumOf f (upFrom i n) ≡ sumOf g (upFrom i n)
-unfolding sumOf upFrom
-sum-range f g i zero e = refl
-sum-range f g i (suc n) e = ap₂ (λ (x y : ℕ). x + y) (e i (omega arith) (omega arith)) (sum-range f g (suc i) n (λ a h l. e a (omega arith) (omega arith)))
-
-left-sum : (f : ℕ → ℕ) (i n : ℕ) → left f [] i n ≡ sumOf f (upFrom i n)
-unfolding left some sumOf upFrom
-left-sum f i zero = refl
-left-sum f i (suc n) = ap (λ (z : ℕ). f i + z) (left-sum f (suc i) n)
 
 -- ---- some entry of a range that passes one test passes another
 
-some-no : (f g : ℕ → Bool) (i n : ℕ) → ((x : ℕ) → i ≤ x → x < i + n → g x ≡ true → f x ≡ false) → some f (those g (upFrom i n)) ≡ false
+pub some-no : (f g : ℕ → Bool) (i n : ℕ) → ((x : ℕ) → i ≤ x → x < i + n → g x ≡ true → f x ≡ false) → some f (those g (upFrom i n)) ≡ false
 unfolding some those upFrom
 some-no f g i zero h = refl
 some-no f g i (suc n) h = go (g i) refl (some-no f g (suc i) n (λ x a b. h x (omega arith) (omega arith)))
@@ -123,7 +45,7 @@ some-no f g i (suc n) h = go (g i) refl (some-no f g (suc i) n (λ x a b. h x (o
     go true e ih = both (f i) (some f (those g (upFrom (suc i) n))) (h i (omega arith) (omega arith) e) ih
     go false e ih = ih
 
-some-yes : (f g : ℕ → Bool) (i n x : ℕ) → i ≤ x → x < i + n → g x ≡ true → f x ≡ true → some f (those g (upFrom i n)) ≡ true
+pub some-yes : (f g : ℕ → Bool) (i n x : ℕ) → i ≤ x → x < i + n → g x ≡ true → f x ≡ true → some f (those g (upFrom i n)) ≡ true
 unfolding some those upFrom
 some-yes f g i zero x a b p q = absurd (omega arith)
 some-yes f g i (suc n) x a b p q = go (ℕ-discrete i x) (λ l. some-yes f g (suc i) n x l (omega arith) p q)
@@ -157,15 +79,15 @@ module _ (pairs : List (ℕ × ℕ)) (n : ℕ) where
   abbrev q : ℕ → Bool
   q a = not (some (λ b. ltb b a) (classOf pairs n a))
 
-  t-yes : (a b : ℕ) → t a b ≡ true → Tied pairs a b
-  t-yes a b e = go (tied? pairs a b) e
+  pub test-tied : (a b : ℕ) → t a b ≡ true → Tied pairs a b
+  test-tied a b e = go (tied? pairs a b) e
     where
       go : (d : Dec (Tied pairs a b)) → isYes d ≡ true → Tied pairs a b
       go (yes p) e = p
       go (no f) e = absurd (subst T (sym e) tt)
 
-  t-of : (a b : ℕ) → Tied pairs a b → t a b ≡ true
-  t-of a b p = go (tied? pairs a b)
+  pub tied-test : (a b : ℕ) → Tied pairs a b → t a b ≡ true
+  tied-test a b p = go (tied? pairs a b)
     where
       go : (d : Dec (Tied pairs a b)) → isYes d ≡ true
       go (yes _) = refl
@@ -178,9 +100,6 @@ module _ (pairs : List (ℕ × ℕ)) (n : ℕ) where
     root-kept : q root ≡ true
     root-only : (k : ℕ) → k < n → Tied pairs k a → q k ≡ true → k ≡ root
 
-  no-true : {A : Type 0} → true ≡ false → A
-  no-true e = absurd (subst T e tt)
-
   root-of : (a : ℕ) → a < n → Root a
   unfolding classOf
   root-of a h = go (firstOf (λ k. t k a) n 0) (first-of (λ k. t k a) n 0)
@@ -192,28 +111,28 @@ module _ (pairs : List (ℕ × ℕ)) (n : ℕ) where
       pos-neg e = rw e
 
       go : (o : Option ℕ) → First (λ k. t k a) n 0 o → Root a
-      go none f = no-true (sym (t-of a a itself) ∙ f a (omega arith) (omega arith))
+      go none f = absurd (true-not-false (tied-test a a itself) (f a (omega arith) (omega arith)))
       go (found p) f =
-          let tp : Tied pairs p a = t-yes p a (f .2) in
+          let tp : Tied pairs p a = test-tied p a (f .2) in
           record {
             root = p;
             root-lt = omega (arith, f .1);
             root-tied = tp;
-            root-kept = neg (some-no (λ b. ltb b p) (t p) 0 n (λ x i l e. low x (t-yes p x e) (ltb x p) refl));
+            root-kept = neg (some-no (λ b. ltb b p) (t p) 0 n (λ x i l e. low x (test-tied p x e) (ltb x p) refl));
             root-only = λ k l tk qk. only k l tk qk (decLt k p) (decLt p k);
           }
         where
           low : (x : ℕ) → Tied pairs p x → (b : Bool) → ltb x p ≡ b → b ≡ false
           low x w false e = refl
-          low x w true e = no-true (sym (t-of x a (chain (turned w) (t-yes p a (f .2)))) ∙ f .3 x (omega arith) (ltb-true x p e))
+          low x w true e = absurd (true-not-false (tied-test x a (chain (turned w) (test-tied p a (f .2)))) (f .3 x (omega arith) (ltb-true x p e)))
 
           only : (k : ℕ) → k < n → Tied pairs k a → q k ≡ true → Dec (k < p) → Dec (p < k) → k ≡ p
-          only k l tk qk (yes lt) d = no-true (sym (t-of k a tk) ∙ f .3 k (omega arith) lt)
-          only k l tk qk (no nl) (yes lt) = no-true (sym qk ∙ pos-neg (some-yes (λ b. ltb b k) (t k) 0 n p (omega arith) (omega (arith, f .1)) (t-of k p (chain tk (turned (t-yes p a (f .2))))) (lt-ltb p k lt)))
+          only k l tk qk (yes lt) d = absurd (true-not-false (tied-test k a tk) (f .3 k (omega arith) lt))
+          only k l tk qk (no nl) (yes lt) = absurd (true-not-false qk (pos-neg (some-yes (λ b. ltb b k) (t k) 0 n p (omega arith) (omega (arith, f .1)) (tied-test k p (chain tk (turned (test-tied p a (f .2))))) (lt-ltb p k lt))))
           only k l tk qk (no nl) (no ng) = omega arith
 
   -- the sum over the classes of the kept axes is the sum over all
-  pub class-sum : (f : ℕ → ℕ) → sumOf (λ k. sumOf f (classOf pairs n k)) (kept pairs n) ≡ sumOf f (upFrom 0 n)
+  class-sum : (f : ℕ → ℕ) → sumOf (λ k. sumOf f (classOf pairs n k)) (kept pairs n) ≡ sumOf f (upFrom 0 n)
   unfolding classOf kept
   class-sum f =
       sum-those q (λ k. sumOf f (those (t k) (upFrom 0 n))) (upFrom 0 n)
@@ -232,9 +151,9 @@ module _ (pairs : List (ℕ × ℕ)) (n : ℕ) where
       one : (a : ℕ) → a < n → sumOf (λ k. if q k && t k a then f a else 0) (upFrom 0 n) ≡ f a
       one a h =
           let r = root-of a h in
-          let e : (q (r .root) && t (r .root) a) ≡ true = rw (r .root-kept, t-of (r .root) a (r .root-tied)) in
+          let e : (q (r .root) && t (r .root) a) ≡ true = rw (r .root-kept, tied-test (r .root) a (r .root-tied)) in
           sum-one (λ k. q k && t k a) (f a) (r .root) 0 n (omega arith) (omega (arith, r .root-lt)) e
-          (λ k i l b. let w = and-both (q k) (t k a) b in r .root-only k (omega arith) (t-yes k a (w .1)) (w .0))
+          (λ k i l b. let w = and-both (q k) (t k a) b in r .root-only k (omega arith) (test-tied k a (w .1)) (w .0))
 
 -- ---- offsets
 
@@ -271,7 +190,7 @@ module _ (l : LayoutM) (pairs : List (ℕ × ℕ)) (index : List ℕ) where
     in-class : (h : ℕ → ℕ) (k : ℕ) → y k * sumOf h (classOf pairs (rank l) k) ≡ sumOf (λ a. y a * h a) (classOf pairs (rank l) k)
     unfolding classOf
     in-class h k = sym (sum-times (y k) h (classOf pairs (rank l) k)) ∙ sum-those (t pairs (rank l) k) (λ a. y k * h a) (upFrom 0 (rank l))
-        ∙ sum-ext (λ a. if t pairs (rank l) k a then y k * h a else 0) (λ a. if t pairs (rank l) k a then y a * h a else 0) (upFrom 0 (rank l)) (λ a. same a (t pairs (rank l) k a) (t-yes pairs (rank l) k a))
+        ∙ sum-ext (λ a. if t pairs (rank l) k a then y k * h a else 0) (λ a. if t pairs (rank l) k a then y a * h a else 0) (upFrom 0 (rank l)) (λ a. same a (t pairs (rank l) k a) (test-tied pairs (rank l) k a))
         ∙ sym (sum-those (t pairs (rank l) k) (λ a. y a * h a) (upFrom 0 (rank l)))
       where
         same : (a : ℕ) (b : Bool) → (b ≡ true → Tied pairs k a) → (if b then y k * h a else 0) ≡ (if b then y a * h a else 0)
@@ -285,7 +204,7 @@ module _ (l : LayoutM) (pairs : List (ℕ × ℕ)) (index : List ℕ) where
         ∙ sym (left-sum (λ a. y a * part g a) 0 (rank l))
         ∙ by-axis g (l .axes) index n
 
-    pub fused-offset : diagonalView l pairs .answer ≡ pass → length index ≡ rank l
+    fused-offset : diagonalView l pairs .answer ≡ pass → length index ≡ rank l
         → offsetSum (diagonalView l pairs .layout .axes) (map (λ a. getD index a 0) (kept pairs (rank l))) ≡ offsetSum (l .axes) index
     unfolding diagonalView diagonalAxes
     fused-offset e n =

@@ -1,4 +1,5 @@
--- The search of step 5: two axes are solved for, the differences of the others are walked through, and one middle is enough.
+-- The search of step 5: some differences of all axes sum to 0 exactly if those of the two set apart do alone, or the two make up for a vector of the others above zero.
+-- The vectors below zero need no look: each is opposite to one above, and opposites are made up for alike.
 use mathlib.Core.Path.{_≡_, refl, sym, ap, ap₂, _∙_}
 use mathlib.Core.Logic.{_≢_, _⊎_, inl, inr}
 use Prim.Native.Nat.{ℕ, _+_, _*_, _-_, _<_}
@@ -11,62 +12,70 @@ use Rattle.specification.proofs.Differences.{ZeroDifference, noDifferen
 use Rattle.specification.specs.Axis.{indexAt, product}
 use Rattle.specification.specs.Search.{ActiveAxis, lengths, reach, spanSum, widths}
 
+-- each axis has a difference
 pub widths-positive : (l : List ActiveAxis) → PositiveExtents (lengths l) → PositiveExtents (widths l)
 widths-positive [] none = none
 widths-positive (a ∷ r) (more h t) = let z : 0 < 2 * a .extent - 1 = omega arith in more z (widths-positive r t)
 
-mid-box : (l : List ActiveAxis) → PositiveExtents (lengths l) → IndexVector (widths l) (noDifference l)
-mid-box [] none = empty
-mid-box (a ∷ r) (more h t) = let z : a .extent - 1 < 2 * a .extent - 1 = omega arith in _and_ z (mid-box r t)
+-- no difference is one of the vectors
+pub noDifference-within : (l : List ActiveAxis) → PositiveExtents (lengths l) → IndexVector (widths l) (noDifference l)
+noDifference-within [] none = empty
+noDifference-within (a ∷ r) (more h t) = let z : a .extent - 1 < 2 * a .extent - 1 = omega arith in _and_ z (noDifference-within r t)
 
-mid-reach : (l : List ActiveAxis) → reach l (noDifference l) ≡ spanSum l
+-- and sums to 0: its digits to the span
+noDifference-reach : (l : List ActiveAxis) → reach l (noDifference l) ≡ spanSum l
 unfolding reach spanSum
-mid-reach [] = refl
-mid-reach (a ∷ r) = ap (λ (z : ℕ). (a .extent - 1) * a .stride + z) (mid-reach r)
+noDifference-reach [] = refl
+noDifference-reach (a ∷ r) = ap (λ (z : ℕ). (a .extent - 1) * a .stride + z) (noDifference-reach r)
 
--- the place of the vector of no difference
+-- its place among them, the middle
 unfoldable pub middle : List ActiveAxis → ℕ
 middle l = place (widths l) (noDifference l)
 
--- the opposite difference
-unfoldable pub opposite : List ActiveAxis → List ℕ → List ℕ
+-- the digits of the opposite differences
+opposite : List ActiveAxis → List ℕ → List ℕ
 opposite [] d = []
 opposite (a ∷ r) [] = []
 opposite (a ∷ r) (i ∷ d) = (2 * a .extent - 2 - i) ∷ opposite r d
 
-opp-box : (l : List ActiveAxis) {d : List ℕ} → IndexVector (widths l) d → IndexVector (widths l) (opposite l d)
+-- they are digits too
+opposite-within : (l : List ActiveAxis) {d : List ℕ} → IndexVector (widths l) d → IndexVector (widths l) (opposite l d)
 unfolding opposite
-opp-box [] empty = empty
-opp-box (a ∷ r) (_and_ {i = i} h b) = let z : 2 * a .extent - 2 - i < 2 * a .extent - 1 = omega arith in _and_ z (opp-box r b)
+opposite-within [] empty = empty
+opposite-within (a ∷ r) (_and_ {i = i} h b) = let z : 2 * a .extent - 2 - i < 2 * a .extent - 1 = omega arith in _and_ z (opposite-within r b)
 
-opp-reach : (l : List ActiveAxis) {d : List ℕ} → IndexVector (widths l) d → reach l (opposite l d) + reach l d ≡ 2 * spanSum l
+-- opposites sum to twice the span
+opposite-reach : (l : List ActiveAxis) {d : List ℕ} → IndexVector (widths l) d → reach l (opposite l d) + reach l d ≡ 2 * spanSum l
 unfolding opposite reach spanSum
-opp-reach [] empty = refl
-opp-reach (a ∷ r) (_and_ {i = i} h b) =
+opposite-reach [] empty = refl
+opposite-reach (a ∷ r) (_and_ {i = i} h b) =
     let e : 2 * a .extent - 2 - i + i ≡ 2 * (a .extent - 1) = omega arith in
-    omega (arith, opp-reach r b, ap (λ (z : ℕ). z * a .stride) e)
+    omega (arith, opposite-reach r b, ap (λ (z : ℕ). z * a .stride) e)
 
-opp-place : (l : List ActiveAxis) {d : List ℕ} → IndexVector (widths l) d → place (widths l) (opposite l d) + place (widths l) d + 1 ≡ product (widths l)
+-- and stand as far from the two ends
+opposite-place : (l : List ActiveAxis) {d : List ℕ} → IndexVector (widths l) d → place (widths l) (opposite l d) + place (widths l) d + 1 ≡ product (widths l)
 unfolding opposite place product
-opp-place [] empty = refl
-opp-place (a ∷ r) (_and_ {i = i} {is = d} h b) =
+opposite-place [] empty = refl
+opposite-place (a ∷ r) (_and_ {i = i} {is = d} h b) =
     let e : 2 * a .extent - 2 - i + i + 1 ≡ 2 * a .extent - 1 = omega arith in
-    let f = ap (λ (z : ℕ). (2 * a .extent - 1) * z) (opp-place r b) in
+    let f = ap (λ (z : ℕ). (2 * a .extent - 1) * z) (opposite-place r b) in
     glue (2 * a .extent - 2 - i) i (2 * a .extent - 1) (place (widths r) (opposite r d)) (place (widths r) d) (product (widths r)) e f
   where
     glue : (j i w p q s : ℕ) → j + i + 1 ≡ w → w * (p + q + 1) ≡ w * s → j + w * p + (i + w * q) + 1 ≡ w * s
     glue j i w p q s e f = omega arith
 
-opp-mid : (l : List ActiveAxis) → opposite l (noDifference l) ≡ noDifference l
+-- no difference is opposite to itself
+opposite-noDifference : (l : List ActiveAxis) → opposite l (noDifference l) ≡ noDifference l
 unfolding opposite
-opp-mid [] = refl
-opp-mid (a ∷ r) = ap₂ (λ (u : ℕ) (v : List ℕ). u ∷ v) (omega arith) (opp-mid r)
+opposite-noDifference [] = refl
+opposite-noDifference (a ∷ r) = ap₂ (λ (u : ℕ) (v : List ℕ). u ∷ v) (omega arith) (opposite-noDifference r)
 
+-- so there are as many vectors above the middle as below it
 pub half-half : (l : List ActiveAxis) → PositiveExtents (lengths l) → 2 * middle l + 1 ≡ product (widths l)
 unfolding middle
-half-half l h = omega (arith, opp-place l (mid-box l h), ap (λ (z : List ℕ). place (widths l) z) (opp-mid l))
+half-half l h = omega (arith, opposite-place l (noDifference-within l h), ap (λ (z : List ℕ). place (widths l) z) (opposite-noDifference l))
 
--- the two axes make up for t
+-- digits on the two axes that bring the sum t to the goal
 pub record Solves (a b : ActiveAxis) (t goal : ℕ) : Type 0 where
   pub u : ℕ
   pub v : ℕ
@@ -74,12 +83,14 @@ pub record Solves (a b : ActiveAxis) (t goal : ℕ) : Type 0 where
   pub vv : v < 2 * b .extent - 1
   pub sum : u * a .stride + (v * b .stride + t) ≡ goal
 
+-- a vector of the others above the middle that the two axes make up for
 pub record Found (a b : ActiveAxis) (r : List ActiveAxis) : Type 0 where
   pub k : ℕ
   pub high : middle r < k
   pub low : k < product (widths r)
   pub solves : Solves a b (reach r (indexAt (widths r) k)) (spanSum (a ∷ b ∷ r))
 
+-- with it some differences of all axes sum to 0
 pub found-zero : (a b : ActiveAxis) (r : List ActiveAxis) → PositiveExtents (lengths r) → Found a b r → ZeroDifference (a ∷ b ∷ r)
 unfolding reach middle
 found-zero a b r h f = record {
@@ -90,6 +101,7 @@ found-zero a b r h f = record {
   sum = f .solves .sum;
 }
 
+-- differences of the two alone are differences of all axes
 pub two-zero : (a b : ActiveAxis) (r : List ActiveAxis) → PositiveExtents (lengths r) → ZeroDifference (a ∷ b ∷ []) → ZeroDifference (a ∷ b ∷ r)
 unfolding reach spanSum
 two-zero a b r h z = go (z .d) (z .box) (z .some) (z .sum)
@@ -97,11 +109,12 @@ two-zero a b r h z = go (z .d) (z .box) (z .some) (z .sum)
     go : (d : List ℕ) → IndexVector (widths (a ∷ b ∷ [])) d → d ≢ noDifference (a ∷ b ∷ []) → reach (a ∷ b ∷ []) d ≡ spanSum (a ∷ b ∷ []) → ZeroDifference (a ∷ b ∷ r)
     go _ (_and_ {i = u} hu (_and_ {i = v} hv empty)) ne e = record {
       d = u ∷ v ∷ noDifference r;
-      box = _and_ hu (_and_ hv (mid-box r h));
+      box = _and_ hu (_and_ hv (noDifference-within r h));
       some = λ q. let qu : u ≡ a .extent - 1 = cc in let qv : v ≡ b .extent - 1 = cc in ne (ap₂ (λ (x y : ℕ). x ∷ y ∷ []) qu qv);
-      sum = omega (arith, e, mid-reach r);
+      sum = omega (arith, e, noDifference-reach r);
     }
 
+-- and there are no others: differences of all axes sum to 0 on the two alone, or stand above the middle, or their opposites do
 pub zero-split : (a b : ActiveAxis) (r : List ActiveAxis) → PositiveExtents (lengths r) → ZeroDifference (a ∷ b ∷ r) → ZeroDifference (a ∷ b ∷ []) ⊎ Found a b r
 unfolding reach spanSum middle opposite
 zero-split a b r h z = go (z .d) (z .box) (z .some) (z .sum)
@@ -118,22 +131,22 @@ zero-split a b r h z = go (z .d) (z .box) (z .some) (z .sum)
         })
         pick (no p) (yes q) = inr (record {
           k = place (widths r) (opposite r d);
-          high = omega (arith, q, opp-place r bd, half-half r h);
-          low = place-lt (opp-box r bd);
+          high = omega (arith, q, opposite-place r bd, half-half r h);
+          low = place-lt (opposite-within r bd);
           solves = record {
             u = 2 * a .extent - 2 - u;
             v = 2 * b .extent - 2 - v;
             uu = omega arith;
             vv = omega arith;
-            sum = rw (indexAt-place (opp-box r bd)) (omega (arith, e, opp-reach (a ∷ b ∷ r) (_and_ hu (_and_ hv bd))));
+            sum = rw (indexAt-place (opposite-within r bd)) (omega (arith, e, opposite-reach (a ∷ b ∷ r) (_and_ hu (_and_ hv bd))));
           };
         })
         pick (no p) (no q) =
-            let m : d ≡ noDifference r = place-inj bd (mid-box r h) (omega arith) in
+            let m : d ≡ noDifference r = place-inj bd (noDifference-within r h) (omega arith) in
             inl (record {
               d = u ∷ v ∷ [];
               box = _and_ hu (_and_ hv empty);
               some = λ w. let qu : u ≡ a .extent - 1 = cc in let qv : v ≡ b .extent - 1 = cc in
                   ne (λ i. qu i ∷ qv i ∷ m i);
-              sum = omega (arith, e, ap (λ (x : List ℕ). reach r x) m, mid-reach r);
+              sum = omega (arith, e, ap (λ (x : List ℕ). reach r x) m, noDifference-reach r);
             })

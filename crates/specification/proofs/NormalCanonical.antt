@@ -1,77 +1,83 @@
+-- Normal lists that read alike are equal. The first stride is the sum at 1; the first extent is where the sum stops being a multiple of it,
+-- since the next axis does not continue it; and the rest is read at the multiples of the first extent.
 use mathlib.Core.Path.{_≡_, refl, sym, ap, ap₂, _∙_}
-use Prim.Native.Nat.{ℕ, _*_, _<_, _≤_}
 use mathlib.Core.List.{List, [], _∷_}
-use native.Mathlib.Nat.{mul-one, mul-pos, mod-eq-of-lt, div-eq-of-lt, mul-mod-right, mul-div-right, eq-of-mul-eq-mul-left, mul-lt-mul-of-pos-left, le-mul-of-pos-right}
+use Prim.Native.Nat.{ℕ, _*_, _<_, _≤_}
+use native.Mathlib.Nat.{mul-one, mod-eq-of-lt, div-eq-of-lt, zero-mod, zero-div, mul-mod-right, mul-div-right, eq-of-mul-eq-mul-left, mul-lt-mul-of-pos-left, le-mul-of-pos-right}
 use native.Mathlib.Omega.{arith}
-use lib.IntN.{ℤ, +ℤ-idl, +ℤ-idr}
-use Rattle.specification.proofs.NormalAxes.{digitSum, Normal, none, more, digitSum-zero}
+use lib.IntN.{ℤ, pos, +ℤ-idl, +ℤ-idr}
 use Rattle.integer.specs.Multiple.{_·_}
 use Rattle.integer.proofs.MultipleLaws.{·-one, ·-zero}
-use Rattle.specification.specs.Axis.{Axis, positions, product}
+use Rattle.specification.specs.Axis.{Axis, positions, product, indexAt, offsetSum, sumAt}
+use Rattle.specification.proofs.NormalAxes.{Normal, none, more, normal-positive, positions-pos}
 
-pub positions-positive : {r : List Axis} → Normal r → 0 < positions r
+-- ---- what a list reads at some numbers
+
+-- at 0 all indices are 0
+pub sum-at-zero : (r : List Axis) → sumAt r 0 ≡ pos 0
+unfolding indexAt offsetSum
+sum-at-zero [] = refl
+sum-at-zero (a ∷ r) = rw (zero-mod, zero-div, ·-zero, sum-at-zero r)
+
+-- below the first extent only the first index is not 0
+sum-below : (a : Axis) (r : List Axis) (k : ℕ) → k < a .extent → sumAt (a ∷ r) k ≡ k · (a .stride)
+unfolding indexAt offsetSum
+sum-below a r k h = rw (mod-eq-of-lt, div-eq-of-lt, sum-at-zero r, +ℤ-idr)
+
+-- at the multiples of the first extent the first index is 0
+sum-at-multiple : (a : Axis) (r : List Axis) (k : ℕ) → 0 < a .extent → sumAt (a ∷ r) (a .extent * k) ≡ sumAt r k
+unfolding indexAt offsetSum
+sum-at-multiple a r k h = rw (mul-mod-right, mul-div-right, ·-zero, +ℤ-idl)
+
+-- the sum at 1 is the first stride
+sum-at-one : (a : Axis) (r : List Axis) → 2 ≤ a .extent → sumAt (a ∷ r) 1 ≡ a .stride
+sum-at-one a r h = sum-below a r 1 h ∙ ·-one (a .stride)
+
+-- ---- the first extent
+
+-- of two normal lists that read alike the first cannot have the smaller first extent: its next stride would be read as a multiple of its first
+not-smaller : (a b : Axis) {r q : List Axis} → Normal (a ∷ r) → Normal (b ∷ q) → a .stride ≡ b .stride → positions (a ∷ r) ≡ positions (b ∷ q)
+    → ((k : ℕ) → k < positions (a ∷ r) → sumAt (a ∷ r) k ≡ sumAt (b ∷ q) k) → a .extent < b .extent → ⊥
 unfolding product
-positions-positive none = omega arith
-positions-positive (more {a} {r} h f t) = let p : 0 < a .extent = omega arith in mul-pos p (positions-positive t)
-
--- below the first extent only the first axis moves
-at-low : (a : Axis) (r : List Axis) (k : ℕ) → k < a .extent → digitSum (a ∷ r) k ≡ k · (a .stride)
-unfolding digitSum
-at-low a r k h = rw (mod-eq-of-lt, div-eq-of-lt, digitSum-zero r, +ℤ-idr)
-
--- at the multiples of it, only the rest
-at-high : (a : Axis) (r : List Axis) (k : ℕ) → 0 < a .extent → digitSum (a ∷ r) (a .extent * k) ≡ digitSum r k
-unfolding digitSum
-at-high a r k h = rw (mul-mod-right, mul-div-right, ·-zero, +ℤ-idl)
-
--- the first stride is the offset at 1
-at-one : (a : Axis) (r : List Axis) → 2 ≤ a .extent → digitSum (a ∷ r) 1 ≡ a .stride
-at-one a r h = at-low a r 1 h ∙ ·-one (a .stride)
-
-pub Same : List Axis → List Axis → Type 0
-Same l m = (positions l ≡ positions m) × ((k : ℕ) → k < positions l → digitSum l k ≡ digitSum m k)
-
--- the first extent is no smaller
-not-less : (a b : Axis) {r q : List Axis} → Normal (a ∷ r) → Normal (b ∷ q) → a .stride ≡ b .stride → positions (a ∷ r) ≡ positions (b ∷ q)
-    → ((k : ℕ) → k < positions (a ∷ r) → digitSum (a ∷ r) k ≡ digitSum (b ∷ q) k) → a .extent < b .extent → ⊥
-unfolding product
-not-less a b (more ha fa none) (more {r = q} hb fb tb) es ec f h = omega (arith, le-mul-of-pos-right (b .extent) (positions-positive tb))
-not-less a b (more ha fa (more {a = c} {r} hc fc tc)) (more {r = q} hb fb tb) es ec f h =
-    let big : a .extent * 1 < a .extent * (c .extent * positions r) = omega (arith, le-mul-of-pos-right (b .extent) (positions-positive tb)) in
+not-smaller a b (more ha fa none) (more {r = q} hb fb tb) es ec f h = omega (arith, le-mul-of-pos-right (b .extent) (positions-pos (normal-positive tb)))
+not-smaller a b (more ha fa (more {a = c} {r} hc fc tc)) (more {r = q} hb fb tb) es ec f h =
+    let big : a .extent * 1 < a .extent * (c .extent * positions r) = omega (arith, le-mul-of-pos-right (b .extent) (positions-pos (normal-positive tb))) in
     let low : a .extent * 1 < b .extent = omega arith in
-    fa (sym (at-one c r hc) ∙ sym (at-high a (c ∷ r) 1 (omega arith)) ∙ f (a .extent * 1) big ∙ at-low b q (a .extent * 1) low
+    fa (sym (sum-at-one c r hc) ∙ sym (sum-at-multiple a (c ∷ r) 1 (omega arith)) ∙ f (a .extent * 1) big ∙ sum-below b q (a .extent * 1) low
     ∙ ap₂ (λ (x : ℕ) (y : ℤ). x · y) (mul-one (a .extent)) (sym es))
 
+-- ---- equal lists
+
+-- axes of one extent and one stride are equal
 axis-path : (a b : Axis) → a .extent ≡ b .extent → a .stride ≡ b .stride → a ≡ b
 axis-path a b p q = λ i. record { extent = p i; stride = q i }
 
-short : (a : Axis) (r : List Axis) → 2 ≤ a .extent → Normal r → positions [] ≡ positions (a ∷ r) → ⊥
+-- a normal list with an axis has two positions or more
+two-positions : (a : Axis) {r : List Axis} → 2 ≤ a .extent → Normal r → 1 < positions (a ∷ r)
 unfolding product
-short a r h t ec = omega (arith, le-mul-of-pos-right (a .extent) (positions-positive t))
+two-positions a h t = omega (arith, le-mul-of-pos-right (a .extent) (positions-pos (normal-positive t)))
 
--- two normal lists that read alike are equal
-pub canonical-axes : {l m : List Axis} → Normal l → Normal m → positions l ≡ positions m → ((k : ℕ) → k < positions l → digitSum l k ≡ digitSum m k) → l ≡ m
+-- axis by axis from the first
+pub canonical-axes : {l m : List Axis} → Normal l → Normal m → positions l ≡ positions m → ((k : ℕ) → k < positions l → sumAt l k ≡ sumAt m k) → l ≡ m
 unfolding product
 canonical-axes none none ec f = refl
-canonical-axes none (more {a} {r} h g t) ec f = absurd (short a r h t ec)
-canonical-axes (more {a} {r} h g t) none ec f = absurd (short a r h t (sym ec))
+canonical-axes none (more {a} h g t) ec f = absurd (omega (arith, two-positions a h t))
+canonical-axes (more {a} h g t) none ec f = absurd (omega (arith, two-positions a h t))
 canonical-axes (more {a} {r} h g t) (more {a = b} {r = q} k e w) ec f =
-    ap₂ (λ (x : Axis) (y : List Axis). x ∷ y) (axis-path a b en es) (canonical-axes t w ecr fr)
+    ap₂ (λ (x : Axis) (y : List Axis). x ∷ y) (axis-path a b same-extent same-stride) (canonical-axes t w as-many alike)
   where
-    top : 1 < positions (a ∷ r)
-    top = omega (arith, le-mul-of-pos-right (a .extent) (positions-positive t))
+    same-stride : a .stride ≡ b .stride
+    same-stride = sym (sum-at-one a r h) ∙ f 1 (two-positions a h t) ∙ sum-at-one b q k
 
-    es : a .stride ≡ b .stride
-    es = sym (at-one a r h) ∙ f 1 top ∙ at-one b q k
-
-    en : a .extent ≡ b .extent
-    en = let p : ¬ (a .extent < b .extent) = not-less a b (more h g t) (more k e w) es ec f in
-        let v : ¬ (b .extent < a .extent) = not-less b a (more k e w) (more h g t) (sym es) (sym ec) (λ x hx. sym (f x (rw ec hx))) in
+    same-extent : a .extent ≡ b .extent
+    same-extent =
+        let p : ¬ (a .extent < b .extent) = not-smaller a b (more h g t) (more k e w) same-stride ec f in
+        let v : ¬ (b .extent < a .extent) = not-smaller b a (more k e w) (more h g t) (sym same-stride) (sym ec) (λ x hx. sym (f x (rw ec hx))) in
         omega arith
 
-    ecr : positions r ≡ positions q
-    ecr = eq-of-mul-eq-mul-left (a .extent) (omega arith) (positions r) (positions q) (ec ∙ ap (λ (x : ℕ). x * positions q) (sym en))
+    as-many : positions r ≡ positions q
+    as-many = eq-of-mul-eq-mul-left (a .extent) (omega arith) (positions r) (positions q) (ec ∙ ap (λ (x : ℕ). x * positions q) (sym same-extent))
 
-    fr : (x : ℕ) → x < positions r → digitSum r x ≡ digitSum q x
-    fr x hx = sym (at-high a r x (omega arith)) ∙ f (a .extent * x) (mul-lt-mul-of-pos-left hx (omega arith))
-        ∙ ap (λ (z : ℕ). digitSum (b ∷ q) (z * x)) en ∙ at-high b q x (omega arith)
+    alike : (x : ℕ) → x < positions r → sumAt r x ≡ sumAt q x
+    alike x hx = sym (sum-at-multiple a r x (omega arith)) ∙ f (a .extent * x) (mul-lt-mul-of-pos-left hx (omega arith))
+        ∙ ap (λ (z : ℕ). sumAt (b ∷ q) (z * x)) same-extent ∙ sum-at-multiple b q x (omega arith)

@@ -1,27 +1,28 @@
--- The normal form keeps the offsets, is canonical, and is where any order of merging ends.
+-- The normal form of a layout keeps the offsets, is canonical, and is where any order of dropping and merging ends: what NormalAxes, NormalCanonical and
+-- NormalOrder prove of axes with no extent 0, for every layout. An empty layout has no position, and one normal form.
 use mathlib.Core.Path.{_≡_, refl, sym, ap, ap₂, subst, _∙_}
-use mathlib.Core.Bool.{Bool, true, false, not, _||_}
+use mathlib.Core.Bool.{Bool, true, false, _||_}
 use mathlib.Core.Logic.{_↔_}
 use mathlib.Core.List.{List, [], _∷_}
-use Prim.Native.Nat.{ℕ, _*_, _<_}
-use native.Mathlib.Nat.{mul-pos}
+use Prim.Native.Nat.{ℕ, _*_}
 use native.Mathlib.Omega.{arith}
 use lib.Dec.{T, eqb, eqb→eq}
-use lib.IntN.{ℤ, pos, _+ℤ_}
+use lib.IntN.{ℤ, pos, _+ℤ_, _-ℤ_, +ℤ-idr, +ℤ-comm, +ℤ-negℤ-cancel}
 use borrow.Author.Tests.{eqb-false}
-use Rattle.integer.specs.Multiple.{_·_, eqZ}
-use Rattle.specification.specs.Tests.{if_then_else_, some, those}
+use Rattle.specification.specs.Tests.{some}
 use Rattle.specification.specs.Axis.{Axis, positions, product, sumAt, isEmpty}
 use Rattle.specification.specs.Layout.{LayoutM}
-use Rattle.specification.specs.Normal.{both, mergeInto, merge, normalAxes, normalOf}
-use Rattle.specification.specs.Claims.{SameOffsets, SameForm, Step, Steps, dropped, merged, further, ended, next, NormalClaims}
-use Rattle.specification.proofs.NormalAxes.{AllPositive, none, more, Normal, Apart, normal, keep, push, join, positions-of-normal, digitSum-of-normal}
-use Rattle.specification.proofs.Positions.{digitSum-is}
-use Rattle.specification.proofs.NormalOrder as Any
-use Rattle.specification.proofs.NormalScan.{layout-canon}
+use Rattle.specification.specs.Views.{withAxes}
+use Rattle.specification.specs.Normal.{normalAxes, normalOf}
+use Rattle.specification.specs.NormalClaims.{SameOffsets, SameForm, NormalClaims}
+use Rattle.specification.proofs.NormalAxes.{AllPositive, none, more, Normal, normal-alike, normal-positive, normal-is-normal}
+use Rattle.specification.proofs.NormalCanonical.{sum-at-zero}
+use Rattle.specification.proofs.NormalOrder.{normal-canonical, normal-of-normal, any-order}
+pub use Rattle.specification.proofs.NormalAxes.{positions-pos}
 
 -- ---- empty or not
 
+-- not empty: no extent is 0
 pub full-pos : (l : List Axis) → isEmpty l ≡ false → AllPositive l
 unfolding isEmpty some
 full-pos [] e = none
@@ -31,11 +32,7 @@ full-pos (a ∷ r) e = go (eqb (a .extent) 0) refl e (full-pos r)
     go true q f ih = absurd (subst T f tt)
     go false q f ih = let n : ¬ (a .extent ≡ 0) = eqb-false (a .extent) 0 q in more {a = a} (omega arith) (ih f)
 
-pub positions-pos : {l : List Axis} → AllPositive l → 0 < positions l
-unfolding product
-positions-pos none = omega arith
-positions-pos (more h t) = mul-pos h (positions-pos t)
-
+-- empty: there is no position
 pub empty-none : (l : List Axis) → isEmpty l ≡ true → positions l ≡ 0
 unfolding isEmpty some product
 empty-none [] e = absurd (subst T (sym e) tt)
@@ -45,104 +42,95 @@ empty-none (a ∷ r) e = go (eqb (a .extent) 0) (eqb→eq (a .extent) 0) e (empt
     go true q f ih = let z : a .extent ≡ 0 = q tt in omega (arith, ap (λ (k : ℕ). k * positions r) z)
     go false q f ih = omega (arith, ap (λ (k : ℕ). a .extent * k) (ih f))
 
--- ---- the definition, and the fold that the proofs are about
+-- ---- the two cases of the normal form
 
-push-is : (a : Axis) (r : List Axis) → mergeInto a r ≡ push a r
-unfolding mergeInto push join
-push-is a [] = refl
-push-is a (b ∷ r) = go (eqZ (b .stride) (a .extent · (a .stride)))
-  where
-    go : (t : Bool) → (if t then both a b ∷ r else a ∷ b ∷ r) ≡ join t a b r
-    go true = refl
-    go false = refl
+-- the axes of the normal form of an empty layout
+abbrev pub emptyAxes : List Axis
+emptyAxes = record { extent = 0; stride = pos 0 } ∷ []
 
-pub normal-is : (l : List Axis) → normalAxes l ≡ normal l
-unfolding normalAxes merge those normal keep
-normal-is [] = refl
-normal-is (a ∷ r) = go (eqb (a .extent) 1) (normal-is r)
-  where
-    go : (t : Bool) → normalAxes r ≡ normal r → merge (if not t then a ∷ those (λ a. not (eqb (a .extent) 1)) r else those (λ a. not (eqb (a .extent) 1)) r) ≡ keep t a (normal r)
-    go true e = e
-    go false e = ap (mergeInto a) e ∙ push-is a (normal r)
+-- of an empty layout
+pub normal-of-empty : (l : LayoutM) → isEmpty (l .axes) ≡ true → normalOf l ≡ record { buffer = l .buffer; offset = pos 0; axes = emptyAxes }
+unfolding normalOf
+normal-of-empty l e = rw e
+
+-- of one that is not empty
+pub normal-of-full : (l : LayoutM) → isEmpty (l .axes) ≡ false → normalOf l ≡ withAxes l (normalAxes (l .axes))
+unfolding normalOf
+normal-of-full l e = rw e
+
+-- the merged axes of a layout that is not empty are normal
+pub normalAxes-normal : (l : List Axis) → isEmpty l ≡ false → Normal (normalAxes l)
+normalAxes-normal l e = normal-is-normal (full-pos l e)
+
+-- axes that are normal are their own normal form
+pub normalAxes-own : {l : List Axis} → Normal l → normalAxes l ≡ l
+normalAxes-own {l} n = normal-of-normal (normal-positive n) n
 
 -- ---- same offsets
 
-pub same-refl : (x : LayoutM) → SameOffsets x x
-same-refl x = record { as-many = refl; alike = λ k h. refl }
-
+-- the same offsets, the other way round
 pub same-sym : {x y : LayoutM} → SameOffsets x y → SameOffsets y x
 same-sym s = record { as-many = sym (s .as-many); alike = λ k h. sym (s .alike k (rw (s .as-many) h)) }
 
-pub same-trans : {x y z : LayoutM} → SameOffsets x y → SameOffsets y z → SameOffsets x z
+-- and by way of a third layout
+same-trans : {x y z : LayoutM} → SameOffsets x y → SameOffsets y z → SameOffsets x z
 same-trans s t = record { as-many = s .as-many ∙ t .as-many; alike = λ k h. s .alike k h ∙ t .alike k (rw (← s .as-many) h) }
 
+-- equal but for the buffer length: the same offsets
 same-form : {x y : LayoutM} → SameForm x y → SameOffsets x y
-same-form {x} {y} f = record {
+same-form f = record {
   as-many = ap positions (f .same-axes);
   alike = λ k h. ap₂ (λ (o : ℤ) (l : List Axis). o +ℤ sumAt l k) (f .same-offset) (f .same-axes);
 }
 
+-- the normal form has the same offsets
 pub normal-same : (l : LayoutM) → SameOffsets (normalOf l) l
-unfolding normalOf product
+unfolding product
 normal-same l = go (isEmpty (l .axes)) refl
   where
-    go : (t : Bool) → isEmpty (l .axes) ≡ t → SameOffsets (if t then record { buffer = l .buffer; offset = pos 0; axes = record { extent = 0; stride = pos 0 } ∷ [] } else record { buffer = l .buffer; offset = l .offset; axes = normalAxes (l .axes) }) l
-    go true e = record { as-many = sym (empty-none (l .axes) e); alike = λ k h. absurd (omega arith) }
-    go false e = record {
-      as-many = ap positions (normal-is (l .axes)) ∙ positions-of-normal (l .axes);
-      alike = λ k h. ap (λ (z : ℤ). l .offset +ℤ z) (ap (λ (m : List Axis). sumAt m k) (normal-is (l .axes)) ∙ sym (digitSum-is (normal (l .axes)) k) ∙ digitSum-of-normal (full-pos (l .axes) e) k ∙ digitSum-is (l .axes) k);
-    }
+    go : (t : Bool) → isEmpty (l .axes) ≡ t → SameOffsets (normalOf l) l
+    go true e = rw (normal-of-empty l e) (record { as-many = sym (empty-none (l .axes) e); alike = λ k h. absurd (omega arith) })
+    go false e = let n = normal-alike (l .axes) in rw (normal-of-full l e) (record { as-many = n .count; alike = λ k h. ap (λ (z : ℤ). l .offset +ℤ z) (n .sums k) })
 
+-- ---- canonical
+
+-- offsets alike: the layout's own offset is the one at position 0, where the sum is 0; without it the sums are alike
+canonical-full : (x y : LayoutM) → AllPositive (x .axes) → AllPositive (y .axes) → SameOffsets x y → (x .offset ≡ y .offset) × (normalAxes (x .axes) ≡ normalAxes (y .axes))
+canonical-full x y hx hy s = (same-offset, normal-canonical hx hy (s .as-many) (λ k b. cancel (sumAt (x .axes) k) (sumAt (y .axes) k) (s .alike k b)))
+  where
+    same-offset : x .offset ≡ y .offset
+    same-offset = sym (+ℤ-idr (x .offset)) ∙ ap (λ (z : ℤ). x .offset +ℤ z) (sym (sum-at-zero (x .axes))) ∙ s .alike 0 (positions-pos hx) ∙ ap (λ (z : ℤ). y .offset +ℤ z) (sum-at-zero (y .axes)) ∙ +ℤ-idr (y .offset)
+
+    cancel : (u v : ℤ) → x .offset +ℤ u ≡ y .offset +ℤ v → u ≡ v
+    cancel u v q = sym (+ℤ-negℤ-cancel u (x .offset)) ∙ ap (λ (z : ℤ). z -ℤ x .offset) (+ℤ-comm u (x .offset) ∙ q ∙ ap (λ (z : ℤ). z +ℤ v) (sym same-offset) ∙ +ℤ-comm (x .offset) v) ∙ +ℤ-negℤ-cancel v (x .offset)
+
+-- equal offsets have equal normal forms
 canonical : (x y : LayoutM) → SameOffsets x y → SameForm (normalOf x) (normalOf y)
-unfolding normalOf
 canonical x y s = go (isEmpty (x .axes)) (isEmpty (y .axes)) refl refl
   where
     clash : (l m : List Axis) → isEmpty l ≡ true → isEmpty m ≡ false → positions l ≡ positions m → ⊥
     clash l m e f q = omega (arith, empty-none l e, positions-pos (full-pos m f))
 
-    go : (t u : Bool) → isEmpty (x .axes) ≡ t → isEmpty (y .axes) ≡ u → SameForm
-        (if t then record { buffer = x .buffer; offset = pos 0; axes = record { extent = 0; stride = pos 0 } ∷ [] } else record { buffer = x .buffer; offset = x .offset; axes = normalAxes (x .axes) })
-        (if u then record { buffer = y .buffer; offset = pos 0; axes = record { extent = 0; stride = pos 0 } ∷ [] } else record { buffer = y .buffer; offset = y .offset; axes = normalAxes (y .axes) })
-    go true true e f = record { same-offset = refl; same-axes = refl }
+    go : (t u : Bool) → isEmpty (x .axes) ≡ t → isEmpty (y .axes) ≡ u → SameForm (normalOf x) (normalOf y)
+    go true true e f = rw (normal-of-empty x e, normal-of-empty y f) (record { same-offset = refl; same-axes = refl })
     go true false e f = absurd (clash (x .axes) (y .axes) e f (s .as-many))
     go false true e f = absurd (clash (y .axes) (x .axes) f e (sym (s .as-many)))
-    go false false e f =
-        let hx = full-pos (x .axes) e in
-        let hy = full-pos (y .axes) f in
-        let c = layout-canon (x .offset) (y .offset) hx hy (s .as-many) (positions-pos hx) (λ k h. ap (λ (z : ℤ). x .offset +ℤ z) (digitSum-is (x .axes) k) ∙ s .alike k h ∙ ap (λ (z : ℤ). y .offset +ℤ z) (sym (digitSum-is (y .axes) k))) in
-        record { same-offset = c .0; same-axes = normal-is (x .axes) ∙ c .1 ∙ sym (normal-is (y .axes)) }
+    go false false e f = let c = canonical-full x y (full-pos (x .axes) e) (full-pos (y .axes) f) s in rw (normal-of-full x e, normal-of-full y f) (record { same-offset = c .0; same-axes = c .1 })
 
+-- and unequal offsets have unequal ones
 pub canonical-iff : (x y : LayoutM) → SameForm (normalOf x) (normalOf y) ↔ SameOffsets x y
 canonical-iff x y = (λ f. same-trans (same-sym (normal-same x)) (same-trans (same-form f) (normal-same y)), canonical x y)
 
--- ---- any order
+-- ---- the claims
 
-to-step : {l m : List Axis} → Step l m → Any.Step l m
-to-step (dropped e) = Any.drop e
-to-step (merged e) = Any.merge e
-to-step (further s) = Any.under (to-step s)
-
-end-normal : {l : List Axis} → AllPositive l → ((m : List Axis) → ¬ (Step l m)) → Normal l
-end-normal none f = none
-end-normal (more {a} {r} h t) f =
-    let ne : ¬ (a .extent ≡ 1) = λ e. f r (dropped e) in
-    more {a = a} (omega arith) (apart r f) (end-normal t (λ m s. f (a ∷ m) (further s)))
+-- the buffer length stays
+pub buffer-stays : (l : LayoutM) → normalOf l .buffer ≡ l .buffer
+buffer-stays l = go (isEmpty (l .axes)) refl
   where
-    apart : (r : List Axis) → ((m : List Axis) → ¬ (Step (a ∷ r) m)) → Apart a r
-    apart [] f = tt
-    apart (b ∷ r) f = λ e. f (both a b ∷ r) (merged e)
+    go : (t : Bool) → isEmpty (l .axes) ≡ t → normalOf l .buffer ≡ l .buffer
+    go true e = ap (λ (x : LayoutM). x .buffer) (normal-of-empty l e)
+    go false e = ap (λ (x : LayoutM). x .buffer) (normal-of-full l e)
 
-record End (l m : List Axis) : Type 0 where
-  steps : Any.Steps l m
-  normally : Normal m
-
-to-steps : {l m : List Axis} → AllPositive l → Steps l m → End l m
-to-steps p (ended f) = record { steps = Any.done; normally = end-normal p f }
-to-steps p (next s t) = let e = to-steps (Any.step-pos (to-step s) p) t in record { steps = Any.next (to-step s) (e .steps); normally = e .normally }
-
+-- all that is claimed of the normal form
 pub normal-claims : NormalClaims
-normal-claims = record {
-  same = normal-same;
-  canonical = canonical-iff;
-  any-order = λ l m e s. let d = to-steps (full-pos l e) s in Any.any-order (full-pos l e) (d .steps) (d .normally) ∙ sym (normal-is l);
-}
+normal-claims = record { same = normal-same; same-buffer = buffer-stays; canonical = canonical-iff; any-order = λ l m e s. any-order (full-pos l e) s }

@@ -1,57 +1,68 @@
--- Equal readings have equal normal forms; and merging in any order ends in the normal form.
-use mathlib.Core.Path.{_≡_, refl, sym, ap, _∙_}
-use Prim.Native.Nat.{ℕ, _*_, _/_, _%_, _<_}
-use mathlib.Core.List.{List, _∷_}
-use native.Mathlib.Nat.{mul-assoc, mul-pos, one-mul, mod-one, div-one, div-div-eq-div-mul}
-use lib.IntN.{ℤ, _+ℤ_, +ℤ-idl}
-use Rattle.specification.proofs.NormalAxes.{digitSum, Normal, AllPositive, more, Continues, normal, positions-of-normal, digitSum-of-normal, normal-is-normal, digitSum-of-merged}
+-- Axes that read alike have equal normal forms, and any order of dropping and merging ends in the normal form:
+-- each step keeps what is read, and where no step is left the list is normal.
+use mathlib.Core.Path.{_≡_, sym, _∙_}
+use mathlib.Core.List.{List, [], _∷_}
+use Prim.Native.Nat.{ℕ, _<_}
+use native.Mathlib.Nat.{mul-pos}
+use native.Mathlib.Omega.{arith}
+use Rattle.specification.specs.Axis.{Axis, positions, sumAt}
+use Rattle.specification.specs.Normal.{both, normalAxes}
+use Rattle.specification.specs.NormalClaims.{Step, Steps, dropped, merged, further, ended, next}
+use Rattle.specification.proofs.NormalAxes.{ReadsAlike, alike-refl, alike-trans, alike-more, alike-dropped, alike-merged, normal-alike, AllPositive, none, more, Apart, Normal, normal-is-normal}
 use Rattle.specification.proofs.NormalCanonical.{canonical-axes}
-use Rattle.integer.specs.Multiple.{_·_}
-use Rattle.integer.proofs.MultipleLaws.{·-zero}
-use Rattle.specification.specs.Axis.{Axis, positions, product}
 
-pub normal-canonical : {l m : List Axis} → AllPositive l → AllPositive m → positions l ≡ positions m → ((k : ℕ) → k < positions l → digitSum l k ≡ digitSum m k) → normal l ≡ normal m
+-- ---- equal normal forms
+
+-- as many positions, and the same sum at each of them
+pub normal-canonical : {l m : List Axis} → AllPositive l → AllPositive m → positions l ≡ positions m → ((k : ℕ) → k < positions l → sumAt l k ≡ sumAt m k) → normalAxes l ≡ normalAxes m
 normal-canonical {l} {m} pl pm e f =
-    canonical-axes (normal-is-normal pl) (normal-is-normal pm) (positions-of-normal l ∙ e ∙ sym (positions-of-normal m)) (λ k h. digitSum-of-normal pl k ∙ f k (rw (← positions-of-normal) h) ∙ sym (digitSum-of-normal pm k))
+    let nl = normal-alike l in
+    let nm = normal-alike m in
+    canonical-axes (normal-is-normal pl) (normal-is-normal pm) (nl .count ∙ e ∙ sym (nm .count)) (λ k h. nl .sums k ∙ f k (rw (← nl .count) h) ∙ sym (nm .sums k))
 
--- one step: drop an axis of extent 1, or merge two neighbours, anywhere
-pub data Step : List Axis → List Axis → Type 0 where
-  drop : {a : Axis} {r : List Axis} → a .extent ≡ 1 → Step (a ∷ r) r
-  merge : {a b : Axis} {r : List Axis} → Continues a b → Step (a ∷ b ∷ r) (record { extent = a .extent * b .extent; stride = a .stride } ∷ r)
-  under : {a : Axis} {r q : List Axis} → Step r q → Step (a ∷ r) (a ∷ q)
+-- a normal list that reads like a list is its normal form
+pub normal-of-alike : {l m : List Axis} → AllPositive l → Normal m → ReadsAlike m l → m ≡ normalAxes l
+normal-of-alike {l} p n w = let v = normal-alike l in canonical-axes n (normal-is-normal p) (w .count ∙ sym (v .count)) (λ k h. w .sums k ∙ sym (v .sums k))
 
-pub data Steps : List Axis → List Axis → Type 0 where
-  done : {l : List Axis} → Steps l l
-  next : {l m q : List Axis} → Step l m → Steps m q → Steps l q
+-- a normal list is its own normal form
+pub normal-of-normal : {l : List Axis} → AllPositive l → Normal l → normalAxes l ≡ l
+normal-of-normal p n = sym (normal-of-alike p n alike-refl)
 
-pub step-pos : {l m : List Axis} → Step l m → AllPositive l → AllPositive m
-step-pos (drop e) (more h t) = t
-step-pos (merge {a} {b} e) (more h (more k t)) = more {a = record { extent = a .extent * b .extent; stride = a .stride }} (mul-pos h k) t
-step-pos (under s) (more h t) = more h (step-pos s t)
+-- ---- any order
 
-step-count : {l m : List Axis} → Step l m → positions m ≡ positions l
-unfolding product
-step-count (drop {r = r} e) = rw e (sym (one-mul (positions r)))
-step-count (merge {a} {b} {r} e) = mul-assoc (a .extent) (b .extent) (positions r)
-step-count (under {a} s) = ap (λ (x : ℕ). a .extent * x) (step-count s)
+-- a step leaves no extent 0
+step-positive : {l m : List Axis} → Step l m → AllPositive l → AllPositive m
+step-positive (dropped e) (more h t) = t
+step-positive (merged {a} {b} e) (more h (more k t)) = more {a = both a b} (mul-pos h k) t
+step-positive (further s) (more h t) = more h (step-positive s t)
 
-step-at : {l m : List Axis} → Step l m → AllPositive l → (k : ℕ) → digitSum m k ≡ digitSum l k
-unfolding digitSum
-step-at (drop {a} {r} e) p k = rw (e, mod-one, div-one, ·-zero, +ℤ-idl)
-step-at (merge {a} {b} {r} e) (more h (more g t)) k = digitSum-of-merged (a .extent) (b .extent) k (a .stride) (b .stride) (digitSum r (k / (a .extent * b .extent))) h g e ∙ rw div-div-eq-div-mul
-step-at (under {a} s) (more h t) k = ap (λ (x : ℤ). (k % a .extent) · (a .stride) +ℤ x) (step-at s t (k / a .extent))
+-- and keeps what is read
+step-alike : {l m : List Axis} → Step l m → ReadsAlike m l
+step-alike (dropped {a} {rest} e) = alike-dropped a rest e
+step-alike (merged {a} {b} {rest} e) = alike-merged a b rest e
+step-alike (further {a} s) = alike-more a (step-alike s)
 
-steps-nf : {l m : List Axis} → Steps l m → AllPositive l → normal m ≡ normal l
-steps-nf done p = refl
-steps-nf (next s r) p = steps-nf r (step-pos s p) ∙ normal-canonical (step-pos s p) p (step-count s) (λ k h. step-at s p k)
+-- no step left
+ended-normal : {l : List Axis} → AllPositive l → ((m : List Axis) → ¬ (Step l m)) → Normal l
+ended-normal none f = none
+ended-normal (more {a} {r} h t) f =
+    let ne : ¬ (a .extent ≡ 1) = λ e. f r (dropped e) in
+    more {a = a} (omega arith) (apart r f) (ended-normal t (λ m s. f (a ∷ m) (further s)))
+  where
+    apart : (r : List Axis) → ((m : List Axis) → ¬ (Step (a ∷ r) m)) → Apart a r
+    apart [] f = tt
+    apart (b ∷ r) f = λ e. f (both a b ∷ r) (merged e)
 
--- any merging that ends in a normal list ends in `normal`
-steps-pos : {l m : List Axis} → Steps l m → AllPositive l → AllPositive m
-steps-pos done p = p
-steps-pos (next s r) p = steps-pos r (step-pos s p)
+-- what steps end in
+record Ends (l m : List Axis) : Type 0 where
+  is-normal : Normal m
+  alike : ReadsAlike m l
 
-pub normal-of-normal : {l : List Axis} → AllPositive l → Normal l → normal l ≡ l
-normal-of-normal {l} p n = canonical-axes (normal-is-normal p) n (positions-of-normal l) (λ k h. digitSum-of-normal p k)
+-- they end in a normal list that reads like the first
+steps-end : {l m : List Axis} → AllPositive l → Steps l m → Ends l m
+steps-end p (ended f) = record { is-normal = ended-normal p f; alike = alike-refl }
+steps-end p (next s t) = let e = steps-end (step-positive s p) t in record { is-normal = e .is-normal; alike = alike-trans (e .alike) (step-alike s) }
 
-pub any-order : {l m : List Axis} → AllPositive l → Steps l m → Normal m → m ≡ normal l
-any-order p s n = sym (normal-of-normal (steps-pos s p) n) ∙ steps-nf s p
+-- which is the normal form
+pub any-order : {l m : List Axis} → AllPositive l → Steps l m → m ≡ normalAxes l
+any-order p s = let e = steps-end p s in normal-of-alike p (e .is-normal) (e .alike)

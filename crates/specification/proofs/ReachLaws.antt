@@ -2,6 +2,7 @@
 use mathlib.Core.Path.{_≡_, refl, sym, ap, subst, _∙_}
 use mathlib.Core.Bool.{Bool, true, false, not, _&&_, _||_}
 use mathlib.Core.List.{List, [], _∷_}
+use mathlib.Core.Logic.{_⊎_, inl, inr}
 use Prim.Native.Nat.{ℕ, _+_, _-_, _<_, _≤_}
 use native.Mathlib.Nat.{mul-le-mul-right}
 use native.Mathlib.Omega.{arith}
@@ -11,14 +12,14 @@ use lib.Signed.{leZ, ltZ}
 use Rattle.integer.specs.Multiple.{_·_}
 use Rattle.integer.specs.Parts.{posPart, negPart}
 use Rattle.integer.proofs.MultipleLaws.{posPart-·, negPart-·}
-use Rattle.integer.proofs.PartLaws.{parts-add, parts-minus, parts-ext, leZ-true, leZ-false, le-leZ, ltZ-true, ltZ-false, le-parts, parts-le, lt-parts, parts-lt}
+use Rattle.integer.proofs.PartLaws.{parts-add, parts-minus, parts-ext, leZ-true, leZ-false, le-leZ, ltZ-true, ltZ-false, lt-ltZ, le-parts, parts-le, lt-parts, parts-lt}
 use Rattle.integer.specs.Range.{fits, mostSigned}
 use Rattle.specification.specs.Tests.{if_then_else_, some}
 use Rattle.specification.specs.Axis.{Axis, extents, offsetSum, sumAt, isEmpty, span, upward, downward}
 use Rattle.specification.specs.Outcome.{pass, refuseIf}
 use Rattle.specification.specs.Layout.{LayoutM, rank, Accepted, lowest, highest, inReach}
 use Rattle.specification.specs.CheckIn.{tooWide, bounds}
-use Rattle.specification.specs.Claims.{Reach, ReachClaims}
+use Rattle.specification.specs.ReachClaims.{Reach}
 use Rattle.specification.proofs.NormalAxes.{AllPositive}
 use Rattle.specification.proofs.Positions.{IndexVector, empty, _and_, place, indices-within, indices-place, place-lt}
 use Rattle.specification.proofs.NormalLaws.{full-pos, empty-none}
@@ -118,6 +119,10 @@ module _ (l : LayoutM) (e : isEmpty (l .axes) ≡ false) where
     );
   }
 
+-- a value whose parts are small fits
+pub fits-small : (z : ℤ) → posPart z ≤ mostSigned → negPart z ≤ mostSigned → fits z ≡ true
+fits-small z p n = rw (le-leZ (negsuc mostSigned) z (omega arith), le-leZ z (pos mostSigned) (omega arith))
+
 -- what the test says of a layout that is not empty
 pub record Within (l : LayoutM) : Type 0 where
   pub w-low : negPart (lowest l) ≤ posPart (lowest l)
@@ -134,13 +139,6 @@ tests l e =
     let v = and-true (leZ (pos 0) (lowest l)) (leZ (highest l) (pos mostSigned)) (w .0) in
     record { w-low = omega (arith, leZ-true (pos 0) (lowest l) (v .0)); w-most = omega (arith, leZ-true (highest l) (pos mostSigned) (v .1)); w-in = omega (arith, ltZ-true (highest l) (pos (l .buffer)) (w .1)) }
 
-lt-ltZ : (x y : ℤ) → posPart x + negPart y < posPart y + negPart x → ltZ x y ≡ true
-lt-ltZ x y h = go (ltZ x y) (ltZ-false x y)
-  where
-    go : (t : Bool) → (t ≡ false → posPart y + negPart x ≤ posPart x + negPart y) → t ≡ true
-    go true f = refl
-    go false f = absurd (omega (arith, f refl))
-
 untests : (l : LayoutM) → Within l → (leZ (pos 0) (lowest l) && leZ (highest l) (pos mostSigned) && ltZ (highest l) (pos (l .buffer))) ≡ true
 untests l w = rw (le-leZ (pos 0) (lowest l) (omega (arith, w .w-low)), le-leZ (highest l) (pos mostSigned) (omega (arith, w .w-most)), lt-ltZ (highest l) (pos (l .buffer)) (omega (arith, w .w-in)))
 
@@ -154,6 +152,12 @@ accepted-within l e a =
       w-most = omega (arith, le-parts (rw (r .high) at (hi .to-most)));
       w-in = omega (arith, lt-parts (rw (r .high) at (hi .in-buffer)));
     }
+
+-- so the spans together fit
+pub spans-fit : (l : LayoutM) → isEmpty (l .axes) ≡ false → Accepted l → upward (l .axes) + downward (l .axes) ≤ mostSigned
+spans-fit l e a =
+    let w = accepted-within l e a in
+    omega (arith, w .w-low, w .w-most, parts-minus (l .offset) (pos (downward (l .axes))), parts-add (l .offset) (pos (upward (l .axes))))
 
 pub within-accepted : (l : LayoutM) → isEmpty (l .axes) ≡ false → rank l ≤ 16 → Within l → Accepted l
 within-accepted l e n w =
@@ -192,29 +196,38 @@ unfolding refuseIf
 pass-false true e = absurd (clash (sym e))
 pass-false false e = refl
 
-pub bounds-reach : (l : LayoutM) → bounds l ≡ pass → inReach l ≡ true
-unfolding bounds inReach
-bounds-reach l q = go (isEmpty (l .axes)) q
+-- check-in lets pass an empty layout, and one with no extent too wide whose ends are within
+pub bounds-within : (l : LayoutM) → bounds l ≡ pass → (isEmpty (l .axes) ≡ true) ⊎ ((some tooWide (l .axes) ≡ false) × Within l)
+unfolding bounds
+bounds-within l q = go (isEmpty (l .axes)) refl q
   where
-    within : (a b : Bool) → (a || b || ltZ (pos mostSigned) (highest l) || ltZ (lowest l) (pos 0) || leZ (pos (l .buffer)) (highest l)) ≡ false → Within l
+    within : (a b : Bool) → (a || b || ltZ (pos mostSigned) (highest l) || ltZ (lowest l) (pos 0) || leZ (pos (l .buffer)) (highest l)) ≡ false → (a ≡ false) × Within l
     within a b e =
         let w₁ = or-false (a || b || ltZ (pos mostSigned) (highest l) || ltZ (lowest l) (pos 0)) (leZ (pos (l .buffer)) (highest l)) e in
         let w₂ = or-false (a || b || ltZ (pos mostSigned) (highest l)) (ltZ (lowest l) (pos 0)) (w₁ .0) in
-        let w₃ = or-false (a || b) (ltZ (pos mostSigned) (highest l)) (w₂ .0) in
-        record {
-          w-low = omega (arith, ltZ-false (lowest l) (pos 0) (w₂ .1));
-          w-most = omega (arith, ltZ-false (pos mostSigned) (highest l) (w₃ .1));
-          w-in = omega (arith, leZ-false (pos (l .buffer)) (highest l) (w₁ .1));
-        }
+        let w₃ = or-false (a || b) (ltZ (pos mostSigned) (highest l)) (w₂ .0) in (
+          or-false a b (w₃ .0) .0,
+          record {
+            w-low = omega (arith, ltZ-false (lowest l) (pos 0) (w₂ .1));
+            w-most = omega (arith, ltZ-false (pos mostSigned) (highest l) (w₃ .1));
+            w-in = omega (arith, leZ-false (pos (l .buffer)) (highest l) (w₁ .1));
+          },
+        )
 
-    go : (t : Bool) → (if t then pass else refuseIf (some tooWide (l .axes) || some (λ a. not (fits (span a))) (l .axes) || ltZ (pos mostSigned) (highest l) || ltZ (lowest l) (pos 0) || leZ (pos (l .buffer)) (highest l)) 3 []) ≡ pass
-        → (t || (leZ (pos 0) (lowest l) && leZ (highest l) (pos mostSigned) && ltZ (highest l) (pos (l .buffer)))) ≡ true
-    go true q = refl
-    go false q = untests l (within (some tooWide (l .axes)) (some (λ a. not (fits (span a))) (l .axes)) (pass-false _ q))
+    go : (t : Bool) → isEmpty (l .axes) ≡ t
+        → (if t then pass else refuseIf (some tooWide (l .axes) || some (λ a. not (fits (span a))) (l .axes) || ltZ (pos mostSigned) (highest l) || ltZ (lowest l) (pos 0) || leZ (pos (l .buffer)) (highest l)) 3 []) ≡ pass
+        → (isEmpty (l .axes) ≡ true) ⊎ ((some tooWide (l .axes) ≡ false) × Within l)
+    go true e q = inl e
+    go false e q = inr (within (some tooWide (l .axes)) (some (λ a. not (fits (span a))) (l .axes)) (pass-false _ q))
 
-pub reach-claims : ReachClaims
-reach-claims = record {
-  reach = reach-of;
-  tested = λ l. (λ a. (a .few, tested-yes l a), λ p. tested-no l (p .0) (p .1));
-  checked = λ l n q. tested-no l n (bounds-reach l q);
-}
+pub bounds-reach : (l : LayoutM) → bounds l ≡ pass → inReach l ≡ true
+unfolding inReach
+bounds-reach l q = go (bounds-within l q)
+  where
+    or-right : (t u : Bool) → u ≡ true → (t || u) ≡ true
+    or-right true u e = refl
+    or-right false u e = e
+
+    go : (isEmpty (l .axes) ≡ true) ⊎ ((some tooWide (l .axes) ≡ false) × Within l) → (isEmpty (l .axes) || (leZ (pos 0) (lowest l) && leZ (highest l) (pos mostSigned) && ltZ (highest l) (pos (l .buffer)))) ≡ true
+    go (inl e) = rw e
+    go (inr w) = or-right (isEmpty (l .axes)) _ (untests l (w .1))

@@ -1,23 +1,20 @@
--- Steps 4 to 6 tell the truth of a block, and the count is the place.
+-- Steps 5 and 6 tell the truth of a block; each way that the search ends, with its count.
 use mathlib.Core.Path.{_≡_, refl, sym, ap, subst, _∙_}
-use mathlib.Core.Bool.{Bool, true, false, not, _||_}
-use mathlib.Core.Logic.{_≢_}
+use mathlib.Core.Bool.{Bool, true, false}
 use mathlib.Core.Option.{Option, none, some}
 use mathlib.Core.List.{List, [], _∷_}
-use Prim.Native.Nat.{ℕ, zero, suc, _+_, _*_, _-_, _/_, _<_, _≤_}
+use Prim.Native.Nat.{ℕ, zero, suc, _+_, _*_, _-_, _<_, _≤_}
 use native.Mathlib.Decide.{ℕ-discrete}
 use native.Mathlib.Omega.{arith}
-use lib.Dec.{T, leb, leb→le, nleb→lt}
+use lib.Dec.{T}
 use lib.IntN.{ℤ, pos, natAbs, _-ℤ_, _*ℤ_}
-use Rattle.integer.specs.Gcd.{gcd}
 use Rattle.integer.specs.Parts.{posPart, negPart}
-use Rattle.integer.proofs.GcdLaws.{Meet, meet, meet-only}
 use Rattle.integer.proofs.PartLaws.{parts-add, posPart-scale, negPart-scale}
 use Rattle.specification.specs.Tests.{if_then_else_, isYes}
 use Rattle.specification.specs.Axis.{product, indexAt}
 use Rattle.specification.specs.Search.{ActiveAxis, lengths, reach, spanSum, total, twoDistinct, widths, half, fromDigits, differenceAt, differenceSum, Completes, CompletesAt, firstOf, SameSum}
 use Rattle.specification.specs.Decided.{completes?}
-use Rattle.integer.proofs.SignedEquation.{small, below, above, shifted, to-parts, from-parts}
+use Rattle.integer.proofs.SignedEquation.{natAbs-of-shifted, negPart-of-natAbs, posPart-of-natAbs, shifted, parts-of-equation, equation-of-parts}
 use Rattle.specification.specs.Verdict.{Distinct, Repeated, Undecided, Plan, answered, enumerated, hit, placed, searched}
 use Rattle.specification.proofs.Positions.{IndexVector, empty, _and_, place}
 use Rattle.specification.proofs.AbsoluteStrides.{SumsApart}
@@ -25,75 +22,21 @@ use Rattle.specification.proofs.Digits.{PositiveExtents, indexAt-within
 use Rattle.specification.proofs.Differences.{EqualSums, pair-zero, zero-pair}
 use Rattle.specification.proofs.DifferenceWalk.{Solves, Found, middle, half-half, two-zero, widths-positive}
 use Rattle.specification.proofs.Collisions.{search-no, search-yes}
+use Rattle.specification.proofs.TwoAxes.{no-pair-of-two, pair-of-two}
 use Rattle.specification.proofs.BlockLaws.{Live, Lives, lives-pos}
 
--- what a plan says of axes
-abbrev pub TruePlan : List ActiveAxis → Plan → Type 0
-TruePlan l (answered Distinct c) = SumsApart l
-TruePlan l (answered Repeated c) = EqualSums l
-TruePlan l (answered Undecided c) = Unit {0}
-TruePlan l (enumerated b) = (SumsApart b → SumsApart l) × (EqualSums b → EqualSums l) × PositiveExtents (lengths b)
+-- what a plan says of axes; U is what Undecided says
+abbrev pub TruePlan : Type 0 → List ActiveAxis → Plan → Type 0
+TruePlan U l (answered Distinct c) = SumsApart l
+TruePlan U l (answered Repeated c) = EqualSums l
+TruePlan U l (answered Undecided c) = U
+TruePlan U l (enumerated b) = (SumsApart b → SumsApart l) × (EqualSums b → EqualSums l) × PositiveExtents (lengths b)
 
-pub move : {l m : List ActiveAxis} → (SumsApart l → SumsApart m) → (EqualSums l → EqualSums m) → (p : Plan) → TruePlan l p → TruePlan m p
-move f g (answered Distinct c) s = f s
-move f g (answered Repeated c) s = g s
-move f g (answered Undecided c) s = s
-move f g (enumerated b) s = (λ r. f (s .0 r), λ p. g (s .1 p), s .2)
-
--- ---- two axes
-
-meet-pair : (a b : ActiveAxis) → Meet (a .stride) (a .extent) (b .stride) (b .extent) → EqualSums (a ∷ b ∷ [])
-unfolding reach
-meet-pair a b m = record {
-  x = m .i₁ ∷ m .i₂ ∷ [];
-  y = m .j₁ ∷ m .j₂ ∷ [];
-  bx = _and_ (m .lt₁) (_and_ (m .lt₂) empty);
-  by = _and_ (m .mt₁) (_and_ (m .mt₂) empty);
-  other = λ e. m .other (cc, cc);
-  same = omega (arith, m .same);
-}
-
-pair-meet : (a b : ActiveAxis) → EqualSums (a ∷ b ∷ []) → Meet (a .stride) (a .extent) (b .stride) (b .extent)
-unfolding reach
-pair-meet a b p = go (p .x) (p .y) (p .bx) (p .by) (p .other) (p .same)
-  where
-    go : (x y : List ℕ) → IndexVector (lengths (a ∷ b ∷ [])) x → IndexVector (lengths (a ∷ b ∷ [])) y → x ≢ y → reach (a ∷ b ∷ []) x ≡ reach (a ∷ b ∷ []) y → Meet (a .stride) (a .extent) (b .stride) (b .extent)
-    go _ _ (_and_ {i = i₁} h₁ (_and_ {i = i₂} h₂ empty)) (_and_ {i = j₁} k₁ (_and_ {i = j₂} k₂ empty)) ne e =
-        record {
-          i₁ = i₁;
-          i₂ = i₂;
-          j₁ = j₁;
-          j₂ = j₂;
-          lt₁ = h₁;
-          lt₂ = h₂;
-          mt₁ = k₁;
-          mt₂ = k₂;
-          other = λ w. ne (λ i. w .0 i ∷ w .1 i ∷ []);
-          same = omega arith;
-        }
-
-module _ (a b : ActiveAxis) (ha : 0 < a .stride) (hb : 0 < b .stride) where
-  pub two-apart : twoDistinct a b ≡ true → ¬ (EqualSums (a ∷ b ∷ []))
-  unfolding twoDistinct
-  two-apart e p =
-      let w = meet-only (a .stride) (a .extent) (b .stride) (b .extent) ha hb (pair-meet a b p) in
-      go (leb (a .extent) (b .stride / gcd (a .stride) (b .stride))) (leb (b .extent) (a .stride / gcd (a .stride) (b .stride)))
-      (λ t. omega (arith, leb→le (a .extent) (b .stride / gcd (a .stride) (b .stride)) t, w .0)) (λ t. omega (arith, leb→le (b .extent) (a .stride / gcd (a .stride) (b .stride)) t, w .1)) e
-    where
-      go : (x y : Bool) → (T x → ⊥) → (T y → ⊥) → (x || y) ≡ true → ⊥
-      go true y f g e = f tt
-      go false true f g e = g tt
-      go false false f g e = subst T (sym e) tt
-
-  pub two-meet : twoDistinct a b ≡ false → EqualSums (a ∷ b ∷ [])
-  unfolding twoDistinct
-  two-meet e = go (leb (a .extent) (b .stride / gcd (a .stride) (b .stride))) (leb (b .extent) (a .stride / gcd (a .stride) (b .stride)))
-      (nleb→lt (a .extent) (b .stride / gcd (a .stride) (b .stride))) (nleb→lt (b .extent) (a .stride / gcd (a .stride) (b .stride))) e
-    where
-      go : (x y : Bool) → (T (not x) → b .stride / gcd (a .stride) (b .stride) < a .extent) → (T (not y) → a .stride / gcd (a .stride) (b .stride) < b .extent) → (x || y) ≡ false → EqualSums (a ∷ b ∷ [])
-      go true y f g e = absurd (subst T e tt)
-      go false true f g e = absurd (subst T e tt)
-      go false false f g e = meet-pair a b (meet (a .stride) (a .extent) (b .stride) (b .extent) ha hb (f tt) (g tt))
+pub move : (U : Type 0) {l m : List ActiveAxis} → (SumsApart l → SumsApart m) → (EqualSums l → EqualSums m) → (p : Plan) → TruePlan U l p → TruePlan U m p
+move U f g (answered Distinct c) s = f s
+move U f g (answered Repeated c) s = g s
+move U f g (answered Undecided c) s = s
+move U f g (enumerated b) s = (λ r. f (s .0 r), λ p. g (s .1 p), s .2)
 
 -- ---- completing
 
@@ -117,25 +60,25 @@ module _ (a b : ActiveAxis) (z : ℤ) (t s : ℕ) (e : posPart z + s ≡ t + neg
   completes-solves w =
       let hx : natAbs (w .x) < suc (a .extent - 1) = omega (arith, w .x-below) in
       let hy : natAbs (w .y) < suc (b .extent - 1) = omega (arith, w .y-below) in
-      let bx : negPart (w .x) ≤ a .extent - 1 = below (w .x) (a .extent - 1) hx in
-      let by : negPart (w .y) ≤ b .extent - 1 = below (w .y) (b .extent - 1) hy in
+      let bx : negPart (w .x) ≤ a .extent - 1 = negPart-of-natAbs (w .x) (a .extent - 1) hx in
+      let by : negPart (w .y) ≤ b .extent - 1 = negPart-of-natAbs (w .y) (b .extent - 1) hy in
       let ex : posPart (w .x) + (a .extent - 1) - negPart (w .x) + negPart (w .x) ≡ posPart (w .x) + (a .extent - 1) = omega arith in
       let ey : posPart (w .y) + (b .extent - 1) - negPart (w .y) + negPart (w .y) ≡ posPart (w .y) + (b .extent - 1) = omega arith in
       record {
         u = posPart (w .x) + (a .extent - 1) - negPart (w .x);
         v = posPart (w .y) + (b .extent - 1) - negPart (w .y);
-        uu = omega (arith, above (w .x) (a .extent - 1) hx);
-        vv = omega (arith, above (w .y) (b .extent - 1) hy);
-        sum = omega (arith, to-parts (w .x) (w .y) z (a .stride) (b .stride) (w .to-zero), ap (λ (k : ℕ). k * a .stride) ex, ap (λ (k : ℕ). k * b .stride) ey);
+        uu = omega (arith, posPart-of-natAbs (w .x) (a .extent - 1) hx);
+        vv = omega (arith, posPart-of-natAbs (w .y) (b .extent - 1) hy);
+        sum = omega (arith, parts-of-equation (w .x) (w .y) z (a .stride) (b .stride) (w .to-zero), ap (λ (k : ℕ). k * a .stride) ex, ap (λ (k : ℕ). k * b .stride) ey);
       }
 
   solves-completes : Solves a b t ((a .extent - 1) * a .stride + ((b .extent - 1) * b .stride + s)) → Completes a b z
   solves-completes w = record {
     x = pos (w .u) -ℤ pos (a .extent - 1);
     y = pos (w .v) -ℤ pos (b .extent - 1);
-    x-below = omega (arith, small (pos (w .u) -ℤ pos (a .extent - 1)) (w .u) (a .extent - 1) (shifted (w .u) (a .extent - 1)) (omega (arith, w .uu)));
-    y-below = omega (arith, small (pos (w .v) -ℤ pos (b .extent - 1)) (w .v) (b .extent - 1) (shifted (w .v) (b .extent - 1)) (omega (arith, w .vv)));
-    to-zero = from-parts (pos (w .u) -ℤ pos (a .extent - 1)) (pos (w .v) -ℤ pos (b .extent - 1)) z (a .stride) (b .stride)
+    x-below = omega (arith, natAbs-of-shifted (pos (w .u) -ℤ pos (a .extent - 1)) (w .u) (a .extent - 1) (shifted (w .u) (a .extent - 1)) (omega (arith, w .uu)));
+    y-below = omega (arith, natAbs-of-shifted (pos (w .v) -ℤ pos (b .extent - 1)) (w .v) (b .extent - 1) (shifted (w .v) (b .extent - 1)) (omega (arith, w .vv)));
+    to-zero = equation-of-parts (pos (w .u) -ℤ pos (a .extent - 1)) (pos (w .v) -ℤ pos (b .extent - 1)) z (a .stride) (b .stride)
         (omega (arith, w .sum, e, ap (λ (k : ℕ). k * a .stride) (shifted (w .u) (a .extent - 1)), ap (λ (k : ℕ). k * b .stride) (shifted (w .v) (b .extent - 1))));
   }
 
@@ -167,17 +110,37 @@ no-is : {P : Type 0} (d : Dec P) → isYes d ≡ false → P → ⊥
 no-is (yes p) e q = subst T e tt
 no-is (no f) e q = f q
 
-pub hit-yes : (a b : ActiveAxis) (others : List ActiveAxis) (c : ℕ) → hit a b others c ≡ true → CompletesAt a b others c
+hit-yes : (a b : ActiveAxis) (others : List ActiveAxis) (c : ℕ) → hit a b others c ≡ true → CompletesAt a b others c
 unfolding hit
 hit-yes a b others c e = yes-is (completes? a b (differenceSum others (differenceAt others (half others + c)))) e
 
-pub hit-no : (a b : ActiveAxis) (others : List ActiveAxis) (c : ℕ) → hit a b others c ≡ false → CompletesAt a b others c → ⊥
+hit-no : (a b : ActiveAxis) (others : List ActiveAxis) (c : ℕ) → hit a b others c ≡ false → CompletesAt a b others c → ⊥
 unfolding hit
 hit-no a b others c e w = no-is (completes? a b (differenceSum others (differenceAt others (half others + c)))) e w
 
 -- ---- step 5
 
-half-is : (l : List ActiveAxis) → PositiveExtents (lengths l) → half l ≡ middle l
+-- each way that the search ends
+pub data SearchEnd (a b : ActiveAxis) (others : List ActiveAxis) : Plan → Type 0 where
+  collided : twoDistinct a b ≡ false → SearchEnd a b others (answered Repeated 0)
+  completed : {c : ℕ} → twoDistinct a b ≡ true → c < half others → CompletesAt a b others (suc c) → ((d : ℕ) → d < c → ¬ (CompletesAt a b others (suc d)))
+      → SearchEnd a b others (answered Repeated (suc c))
+  exhausted : twoDistinct a b ≡ true → ((d : ℕ) → d < half others → ¬ (CompletesAt a b others (suc d))) → SearchEnd a b others (answered Distinct (half others))
+
+pub search-end : (a b : ActiveAxis) (others : List ActiveAxis) → SearchEnd a b others (searched a b others)
+unfolding searched placed
+search-end a b others = go (twoDistinct a b) refl
+  where
+    fin : twoDistinct a b ≡ true → (o : Option ℕ) → First (hit a b others) (half others) 1 o → SearchEnd a b others (placed others o)
+    fin e none w = exhausted e (λ d h. hit-no a b others (suc d) (w (suc d) (omega arith) (omega arith)))
+    fin e (some zero) w = absurd (omega (arith, w .0))
+    fin e (some (suc c)) w = completed {c = c} e (omega (arith, w .1)) (hit-yes a b others (suc c) (w .2)) (λ d h. hit-no a b others (suc d) (w .3 (suc d) (omega arith) (omega arith)))
+
+    go : (t : Bool) → twoDistinct a b ≡ t → SearchEnd a b others (if t then placed others (firstOf (hit a b others) (half others) 1) else answered Repeated 0)
+    go true e = fin e (firstOf (hit a b others) (half others) 1) (first-of (hit a b others) (half others) 1)
+    go false e = collided e
+
+pub half-is : (l : List ActiveAxis) → PositiveExtents (lengths l) → half l ≡ middle l
 unfolding half
 half-is l h = omega (arith, half-half l h)
 
@@ -194,44 +157,35 @@ module _ (a b : ActiveAxis) (r : List ActiveAxis) (la : Live a) (lb : Live b) (l
   parts-at : (k : ℕ) → k < product (widths r) → posPart (differenceSum r (differenceAt r k)) + spanSum r ≡ reach r (indexAt (widths r) k) + negPart (differenceSum r (differenceAt r k))
   parts-at k h = difference-parts r (indexAt-within (widths-positive r hp) k h)
 
-  found-place : Found a b r → (c : ℕ) × (0 < c) × (c < 1 + half r) × CompletesAt a b r c
+  found-place : Found a b r → (c : ℕ) × (c < half r) × CompletesAt a b r (suc c)
   unfolding spanSum
   found-place f =
       let e = half-is r hp in
       let hh = half-half r hp in
-      let q : half r + (f .k - half r) ≡ f .k = omega (arith, f .high) in (
-        f .k - half r,
-        omega (arith, f .high),
-        omega (arith, f .low),
+      let q : half r + suc (f .k - suc (half r)) ≡ f .k = omega (arith, f .high) in (
+        f .k - suc (half r),
+        omega (arith, f .low, f .high),
         rw q (solves-completes a b (differenceSum r (differenceAt r (f .k))) (reach r (indexAt (widths r) (f .k))) (spanSum r) (parts-at (f .k) (f .low)) ga gb (f .solves)),
       )
 
-  place-found : (c : ℕ) → 0 < c → c < 1 + half r → CompletesAt a b r c → Found a b r
+  place-found : (c : ℕ) → c < half r → CompletesAt a b r (suc c) → Found a b r
   unfolding spanSum
-  place-found c h l w =
+  place-found c h w =
       let e = half-is r hp in
       let hh = half-half r hp in
-      let low : half r + c < product (widths r) = omega arith in
+      let low : half r + suc c < product (widths r) = omega arith in
       record {
-        k = half r + c;
+        k = half r + suc c;
         high = omega arith;
         low = low;
-        solves = completes-solves a b (differenceSum r (differenceAt r (half r + c))) (reach r (indexAt (widths r) (half r + c))) (spanSum r) (parts-at (half r + c) low) ga gb w;
+        solves = completes-solves a b (differenceSum r (differenceAt r (half r + suc c))) (reach r (indexAt (widths r) (half r + suc c))) (spanSum r) (parts-at (half r + suc c) low) ga gb w;
       }
 
-  pub says-search : TruePlan (a ∷ b ∷ r) (searched a b r)
-  unfolding searched placed
-  says-search = go (twoDistinct a b) (two-apart a b (la .moves) (lb .moves)) (two-meet a b (la .moves) (lb .moves)) refl
-    where
-      fin : ¬ (EqualSums (a ∷ b ∷ [])) → (o : Option ℕ) → First (hit a b r) (half r) 1 o → TruePlan (a ∷ b ∷ r) (placed r o)
-      fin n none w = search-no a b r hp (λ z. n (zero-pair (a ∷ b ∷ []) z))
-          (λ f. let p = found-place f in hit-no a b r (p .0) (w (p .0) (p .1) (p .2)) (p .3))
-      fin n (some c) w = search-yes a b r hp (place-found c (w .0) (w .1) (hit-yes a b r c (w .2)))
-
-      go : (t : Bool) → (t ≡ true → ¬ (EqualSums (a ∷ b ∷ []))) → (t ≡ false → EqualSums (a ∷ b ∷ [])) → twoDistinct a b ≡ t
-          → TruePlan (a ∷ b ∷ r) (if t then placed r (firstOf (hit a b r) (half r) 1) else answered Repeated 0)
-      go true p q e = fin (p refl) (firstOf (hit a b r) (half r) 1) (first-of (hit a b r) (half r) 1)
-      go false p q e = zero-pair (a ∷ b ∷ r) (two-zero a b r hp (pair-zero (a ∷ b ∷ []) (q refl)))
+  pub says-search : (U : Type 0) {p : Plan} → SearchEnd a b r p → TruePlan U (a ∷ b ∷ r) p
+  says-search U (collided e) = zero-pair (a ∷ b ∷ r) (two-zero a b r hp (pair-zero (a ∷ b ∷ []) (pair-of-two a b (la .moves) (lb .moves) e)))
+  says-search U (completed {c} e h w f) = search-yes a b r hp (place-found c h w)
+  says-search U (exhausted e f) = search-no a b r hp (λ z. no-pair-of-two a b (la .moves) (lb .moves) e (zero-pair (a ∷ b ∷ []) z))
+      (λ w. let p = found-place w in f (p .0) (p .1) (p .2))
 
 -- ---- step 6
 

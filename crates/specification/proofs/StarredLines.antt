@@ -1,31 +1,10 @@
 -- The starred lines of 01, together: they compute.
 use mathlib.Core.Path.{refl}
-use Rattle.integer.specs.Gcd.{gcd, gcdWithin}
-use Rattle.integer.specs.Multiple.{_·_, eqZ}
-use Rattle.integer.proofs.BoundedEquation.{firstFrom, lowest, solution?, solvable, fitsTest}
-use Rattle.integer.proofs.Congruence.{root, coefficient, coefficientWithin, subMod}
-use Rattle.integer.proofs.Decide.{byTest}
-use Rattle.specification.specs.Tests.{some, those, insertBy, sortBy, upFrom}
-use Rattle.specification.specs.Axis.{axesOf, product, indexAt, isEmpty, upward, downward}
-use Rattle.specification.specs.Outcome.{refuseIf, _>>_, _>>=_}
-use Rattle.specification.specs.Layout.{inReach, handed}
-use Rattle.specification.specs.CheckIn.{bounds, checkIn}
-use Rattle.specification.specs.TiedDecided.{name, tied?}
-use Rattle.specification.specs.Views.{unlessRefused, pairFault, classOf, kept, leastExtent, strideSum, strideFault, fused, diagonalAxes, sumFaults, diagonalView}
-use Rattle.specification.specs.Normal.{mergeInto, merge, normalAxes, normalOf, overfull, normalForm}
-use Rattle.specification.specs.Search.{reach, spanSum, twoDistinct, half, fromDigits, differenceSum, firstOf, wordsFor}
-use Rattle.specification.specs.Decided.{completes?}
-use Rattle.specification.specs.Verdict.{activeFrom, upToLast, blockOf, byTwo, othersOf, hit, placed, searched, pastSearch, byMany, bySize, byBlock, outOfRange, planOf, carryOut, judge, verdict}
-use Rattle.specification.specs.Record.{bigEndian, axisBytes, recordBytes, written}
-use Rattle.specification.specs.Claims.{Starred}
+use Rattle.specification.specs.Starred.{Starred}
+use Rattle.specification.proofs.Computing.{computing}
 
 pub starred : Starred
-unfolding _·_ eqZ gcd gcdWithin firstFrom lowest byTest solution? solvable fitsTest root coefficient coefficientWithin subMod some those insertBy sortBy upFrom
-    axesOf product indexAt isEmpty upward downward refuseIf _>>_ _>>=_ inReach handed bounds checkIn name tied?
-    unlessRefused pairFault classOf kept leastExtent strideSum strideFault fused diagonalAxes sumFaults diagonalView
-    mergeInto merge normalAxes normalOf overfull normalForm reach spanSum twoDistinct half fromDigits differenceSum firstOf wordsFor completes?
-    activeFrom upToLast blockOf byTwo othersOf hit placed searched pastSearch byMany bySize byBlock outOfRange planOf carryOut judge verdict
-    bigEndian axisBytes recordBytes written
+unfolding computing
 starred = record {
   rank-0-length-0 = refl;
   rank-0-length-1 = refl;

@@ -7,7 +7,7 @@ use native.Mathlib.Omega.{arith}
 use lib.Dec.{eqb}
 use lib.IntN.{ℤ, pos, _+ℤ_}
 use lib.ListN.{length, getD}
-use borrow.Author.Tests.{eqb-true}
+use borrow.Author.Tests.{eqb-true, not-false}
 use Rattle.integer.specs.Multiple.{_·_}
 use Rattle.integer.specs.Parts.{posPart, negPart}
 use Rattle.integer.proofs.MultipleLaws.{posPart-·, negPart-·}
@@ -17,9 +17,10 @@ use Rattle.specification.specs.Axis.{Axis, offsetSum}
 use Rattle.specification.specs.Outcome.{Check, done, refused, pass, refuseIf, _>>_}
 use Rattle.specification.specs.Layout.{LayoutM, rank, handed}
 use Rattle.specification.specs.Views.{unlessRefused, withAxes, axisAt, orderFault, permute, targetFault, spread, broadcast}
-use Rattle.specification.specs.Claims.{heldBack}
-use Rattle.specification.proofs.AcceptedLaws.{not-false, sumOf, left, left-shift, whole-sum}
+use Rattle.specification.specs.ViewClaims.{heldBack}
+use Rattle.specification.proofs.OrderSums.{left, left-shift, whole-sum}
 use Rattle.specification.proofs.OutcomeLaws.{clash, passed, passed-check}
+use Rattle.specification.proofs.Sums.{sumOf}
 
 -- a view that is not refused
 pub record Settled (l n : LayoutM) (c : Check) : Type 0 where

@@ -71,8 +71,7 @@ active a = ltb 1 (a .extent)
 abbrev pub span : Axis → ℤ
 span a = (a .extent - 1) · (a .stride)
 
--- the sum of the positive spans; below, of the negative spans without their sign
--- (`pp z` is z where z is above 0, else 0; `nn z` is -z where z is below 0, else 0)
+-- the sum of the positive spans (`posPart z` is z where z is above 0, else 0)
 unfoldable pub upward : List Axis → ℕ
 upward [] = 0
 upward (a ∷ rest) = posPart (span a) + upward rest

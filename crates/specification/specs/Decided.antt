@@ -11,7 +11,7 @@ use lib.Dec.{T, ltb, ltb→lt, nltb→le}
 use lib.IntN.{ℤ, pos, negsuc, _-ℤ_}
 use Rattle.integer.proofs.BoundedEquation.{Solution, solution?}
 use Rattle.integer.proofs.Decide.{find}
-use Rattle.integer.proofs.SignedEquation.{small, shifted, up-to, down-to, none-above}
+use Rattle.integer.proofs.SignedEquation.{natAbs-of-shifted, shifted, signed-of-solution, solution-of-signed, no-signed-above}
 use Rattle.specification.specs.Axis.{indexAt}
 use Rattle.specification.specs.Search.{ActiveAxis, lengths, reach, total, Completes, SameSum}
 
@@ -28,12 +28,12 @@ module _ (a b : ActiveAxis) (sum : ℤ) where
       go (yes w) = yes (record {
         x = pos (w .u) -ℤ pos (a .extent - 1);
         y = pos (w .v) -ℤ pos (b .extent - 1);
-        x-below = omega (arith, small (pos (w .u) -ℤ pos (a .extent - 1)) (w .u) (a .extent - 1) (shifted (w .u) (a .extent - 1)) (w .uu));
-        y-below = omega (arith, small (pos (w .v) -ℤ pos (b .extent - 1)) (w .v) (b .extent - 1) (shifted (w .v) (b .extent - 1)) (w .vv));
-        to-zero = up-to (a .stride) (b .stride) (a .extent - 1) (b .extent - 1) sum c (w .u) (w .v) e (w .sum);
+        x-below = omega (arith, natAbs-of-shifted (pos (w .u) -ℤ pos (a .extent - 1)) (w .u) (a .extent - 1) (shifted (w .u) (a .extent - 1)) (w .u-within));
+        y-below = omega (arith, natAbs-of-shifted (pos (w .v) -ℤ pos (b .extent - 1)) (w .v) (b .extent - 1) (shifted (w .v) (b .extent - 1)) (w .v-within));
+        to-zero = signed-of-solution (a .stride) (b .stride) (a .extent - 1) (b .extent - 1) sum c (w .u) (w .v) e (w .sum);
       })
-      go (no f) = no (λ w. f (down-to (a .stride) (b .stride) (a .extent - 1) (b .extent - 1) sum c (w .x) (w .y) e (omega (arith, w .x-below)) (omega (arith, w .y-below)) (w .to-zero)))
-  by-equation (negsuc c) e ha hb d = no (λ w. none-above (a .stride) (b .stride) (a .extent - 1) (b .extent - 1) sum c (w .x) (w .y) e (omega (arith, w .x-below)) (omega (arith, w .y-below)) (w .to-zero))
+      go (no f) = no (λ w. f (solution-of-signed (a .stride) (b .stride) (a .extent - 1) (b .extent - 1) sum c (w .x) (w .y) e (omega (arith, w .x-below)) (omega (arith, w .y-below)) (w .to-zero)))
+  by-equation (negsuc c) e ha hb d = no (λ w. no-signed-above (a .stride) (b .stride) (a .extent - 1) (b .extent - 1) sum c (w .x) (w .y) e (omega (arith, w .x-below)) (omega (arith, w .y-below)) (w .to-zero))
 
   pub by-extents : (t u : Bool) → (T t → 0 < a .extent) → (T (not t) → a .extent ≤ 0) → (T u → 0 < b .extent) → (T (not u) → b .extent ≤ 0) → Dec (Completes a b sum)
   by-extents true true p np q nq = by-equation goal refl (p tt) (q tt) (λ c. solution? (a .stride) (b .stride) (2 * (a .extent - 1)) (2 * (b .extent - 1)) c)

@@ -13,4 +13,16 @@ pub mod Verdict
 pub mod Record
 pub mod Beside
 pub mod Calls
-pub mod Claims
+pub mod ViewRules
+pub mod TestClaims
+pub mod ReachClaims
+pub mod NormalClaims
+pub mod ViewClaims
+pub mod VerdictClaims
+pub mod CountClaims
+pub mod BlockClaims
+pub mod RecordClaims
+pub mod BesideClaims
+pub mod Demand3
+pub mod Starred
+pub mod Cases

@@ -1,6 +1,7 @@
 -- The record of a layout (added): its bytes, the writer, the reader, and stepping over.
 use mathlib.Core.Bool.{Bool, true, false, not, _&&_, _||_}
 use mathlib.Core.List.{List, [], _∷_, _++_}
+use mathlib.Core.Path.{_≡_}
 use Prim.Native.Nat.{ℕ, zero, suc, _+_, _-_, _*_, _/_, _%_, _^_}
 use lib.Dec.{eqb, ltb, leb}
 use lib.IntN.{ℤ, pos, negsuc}
@@ -14,7 +15,7 @@ use Rattle.specification.specs.Axis.{Axis, isEmpty}
 use Rattle.specification.specs.Outcome.{Outcome, done, refused, refuseIf, _>>_, _>>=_}
 use Rattle.specification.specs.Layout.{LayoutM, rank, lowest, highest}
 use Rattle.specification.specs.Normal.{continues, overfull, normalForm}
-use Rattle.specification.specs.Verdict.{Verdict, Distinct, Repeated, Undecided, judge, freedBy}
+use Rattle.specification.specs.Verdict.{Verdict, Distinct, Repeated, Undecided, judge, freedBy, ScratchAfter}
 
 -- ---- the bytes
 
@@ -74,6 +75,17 @@ writeFrees (refused number values) = 0
 abbrev pub outputAfter : Outcome Made → List ℕ → List ℕ
 outputAfter (done m) before = m .bytes ++ drop (length (m .bytes)) before
 outputAfter (refused number values) before = before
+
+-- what the call answers: how many bytes were written, or the refusal
+unfoldable pub writeAnswer : Outcome Made → Outcome ℕ
+writeAnswer (done m) = done (length (m .bytes))
+writeAnswer (refused number values) = refused number values
+
+-- one call of the writer on lent output and scratch: its answer, and what both hold afterwards
+pub record Writing (l : LayoutM) (output scratch : List ℕ) (answer : Outcome ℕ) (output-then scratch-then : List ℕ) : Type 0 where
+  pub answer-is : answer ≡ writeAnswer (written l (length output) (length scratch))
+  pub output-is : output-then ≡ outputAfter (written l (length output) (length scratch)) output
+  pub scratch-is : ScratchAfter (writeFrees (written l (length output) (length scratch))) scratch scratch-then
 
 -- ---- the reader
 

@@ -1,8 +1,8 @@
 -- What a layout means: as many axes as the rank says, also above 16; places past the rank are no part of it.
 use mathlib.Core.List.{List, [], _∷_}
-use Prim.Native.Nat.{ℕ}
+use Prim.Native.Nat.{ℕ, _<_}
 use lib.IntN.{ℤ, pos}
-use lib.ListN.{getD}
+use lib.ListN.{length, getD}
 use Rattle.lists.specs.Table.{table}
 use Rattle.specification.specs.Axis.{Axis, axesOf}
 use Rattle.specification.specs.Layout.{LayoutM}
@@ -26,6 +26,10 @@ modelOf l = record { buffer = l .len; offset = l .offset .0; axes = axesIn (l .e
 
 abbrev pub viewedOf : Viewed → After
 viewedOf v = record { answer = outcomeOf (v .answer); layout = modelOf (v .layout) }
+
+-- each entry of a list is below n
+abbrev pub AllBelow : ℕ → List ℕ → Type 0
+AllBelow n list = (i : ℕ) → i < length list → getD list i 0 < n
 
 -- the layout that two lists give
 abbrev pub modelFrom : ℕ → ℤ → List ℕ → List ℤ → LayoutM

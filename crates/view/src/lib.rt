@@ -2,8 +2,11 @@
 pub mod accepted;
 pub mod bounded;
 pub mod bounds;
+pub mod broadcast;
 pub mod check_in;
 pub mod count;
 pub mod dense;
+pub mod diagonal;
 pub mod layout;
 pub mod offset;
+pub mod permute;

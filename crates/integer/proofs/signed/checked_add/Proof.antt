@@ -10,7 +10,8 @@ use mir.Val.{SFits}
 use mir.ValLaws.{toZ-ofZ}
 use Rattle.integer.proofs.CheckedLaws.{checked-above, checked-below, checked-within}
 use Rattle.integer.proofs.MachineInteger.{less-tested, readBack}
-use Rattle.integer.proofs.PartLaws.{ltZ-false, ltZ-true, negPart-below, parts-add, parts-fit, parts-minus, posPart-below}
+use Rattle.integer.proofs.PartLaws.{ltZ-false, ltZ-true, negPart-below, parts-add, parts-minus, posPart-below}
+use Rattle.integer.proofs.Polynomial.{_⊕_, _⊖_, int, prove-fits}
 use Rattle.integer.specs.Range.{checkedOf, mostSigned}
 use Rattle.integer.specs.declared.signed.Checked.the-variants.{Fits, Over}
 use Rattle.integer.proofs.signed.checked_add.Statement.{statement}
@@ -30,12 +31,12 @@ module _ (a b : ℤ) (fa : SFits w64 a) (fb : SFits w64 b) where
   least-left : ltZ (readBack b) (pos 0) ≡ true → SFits w64 (least -ℤ b)
   least-left t =
       let k = ltZ-true b (pos 0) (less-tested fb zero-fits t) in
-      parts-fit (omega (arith, parts-minus least b, negPart-below fb)) (omega (arith, parts-minus least b))
+      prove-fits (int least ⊖ int b) (omega (arith, negPart-below fb)) (omega arith)
 
   most-left : ltZ (readBack b) (pos 0) ≡ false → SFits w64 (most -ℤ b)
   most-left t =
       let k = ltZ-false b (pos 0) (less-tested fb zero-fits t) in
-      parts-fit (omega (arith, parts-minus most b)) (omega (arith, parts-minus most b, posPart-below fb))
+      prove-fits (int most ⊖ int b) (omega arith) (omega (arith, posPart-below fb))
 
   least-left-read : ltZ (readBack b) (pos 0) ≡ true → SFits w64 (least -ℤ readBack b)
   least-left-read t = rw (toZ-ofZ w64 b fb) (least-left t)
@@ -59,13 +60,13 @@ module _ (a b : ℤ) (fa : SFits w64 a) (fb : SFits w64 b) where
   sum-from-least t u =
       let h = ltZ-true b (pos 0) (less-tested fb zero-fits t) in
       let k = ltZ-false a (least -ℤ b) (less-tested fa (least-left t) (rw (toZ-ofZ w64 b fb) at u)) in
-      parts-fit (omega (arith, parts-add a b, posPart-below fa)) (omega (arith, parts-add a b, parts-minus least b))
+      prove-fits (int a ⊕ int b) (omega (arith, posPart-below fa)) (omega (arith, parts-minus least b))
 
   sum-to-most : ltZ (readBack b) (pos 0) ≡ false → ltZ (readBack (most -ℤ readBack b)) (readBack a) ≡ false → SFits w64 (a +ℤ b)
   sum-to-most t u =
       let h = ltZ-false b (pos 0) (less-tested fb zero-fits t) in
       let k = ltZ-false (most -ℤ b) a (less-tested (most-left t) fa (rw (toZ-ofZ w64 b fb) at u)) in
-      parts-fit (omega (arith, parts-add a b, parts-minus most b)) (omega (arith, parts-add a b, negPart-below fa))
+      prove-fits (int a ⊕ int b) (omega (arith, parts-minus most b)) (omega (arith, negPart-below fa))
 
   -- what the machine adds, and what it then answers
   read-fits : SFits w64 (a +ℤ b) → SFits w64 (readBack a +ℤ readBack b)

@@ -5,7 +5,8 @@ use borrow.Author.Needs.{needs}
 use lib.IntN.{negℤ, pos}
 use Rattle.integer.proofs.CheckedLaws.{checked-below, checked-within}
 use Rattle.integer.proofs.MachineInteger.{negation-reads}
-use Rattle.integer.proofs.PartLaws.{negPart-neg, parts-fit, posPart-neg}
+use Rattle.integer.proofs.PartLaws.{negPart-neg, posPart-neg}
+use Rattle.integer.proofs.Polynomial.{nat, neg, prove-fits}
 use Rattle.integer.proofs.signed.checked_negative.Statement.{statement}
 use Rattle.integer.proofs.signed.checked_negative.Tie as tie
 
@@ -21,9 +22,7 @@ returns c = rw (c .if1 .taken)
 returns-2 : tie.Need-returns-2
 returns-2 c =
     let m = c .before .before .args .m in
-    let p = posPart-neg (pos m) in
-    let n = negPart-neg (pos m) in
-    rw (negation-reads m (omega arith) (omega arith)) (sym (checked-within (negℤ (pos m)) (parts-fit (omega arith) (omega arith))))
+    rw (negation-reads m (omega arith) (omega arith)) (sym (checked-within (negℤ (pos m)) (prove-fits (neg (nat m)) (omega arith) (omega arith))))
 
 returns-3 : tie.Need-returns-3
 returns-3 c =

@@ -1,0 +1,3 @@
+pub mod VectorLaws
+pub mod OrderLaws
+mod Turning

@@ -1,0 +1,7 @@
+pub mod AxisLaws
+pub mod Combinations
+pub mod PartSums
+pub mod Turning
+pub mod Questions
+pub mod ResidueLaws
+pub mod Walking
