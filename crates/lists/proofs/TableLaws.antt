@@ -1,14 +1,14 @@
 -- Laws of `table`: one entry more at the end, an entry, its length, and what is left from an entry on.
-use mathlib.Core.Path.{_≡_, refl, _∙_}
+use mathlib.Core.Path.{_≡_, refl, sym, _∙_}
 use mathlib.Core.Bool.{Bool, true, false}
-use mathlib.Core.List.{[], _∷_, _++_}
+use mathlib.Core.List.{List, [], _∷_, _++_}
 use Prim.Native.Nat.{ℕ, zero, suc, _+_, _≤_, _<_}
 use native.Mathlib.Nat.{not-suc-le-zero, le-refl}
 use native.Mathlib.Numerals.{add-one}
 use native.Mathlib.Omega.{arith}
 use lib.Dec.{eqb}
-use lib.ListN.{length, drop, getD, length-append, drop-of-length-le, List·getD-append}
-use lib.Seq.{drop-cons, getD-at}
+use lib.ListN.{length, take, drop, getD, set, length-append, drop-of-length-le, List·getD-append}
+use lib.Seq.{drop-cons, ext-getD, getD-at, take-suc-set}
 use borrow.Author.Tests.{eqb-true, eqb-false}
 use Rattle.lists.specs.Table.{table}
 
@@ -56,3 +56,13 @@ module _ {A : Type 0} where
 
   pub drop-table-end : (f : ℕ → A) (n i : ℕ) → n ≤ i → drop i (table n f) ≡ []
   drop-table-end f n i h = drop-of-length-le (table n f) {i = i} (omega (arith, length-table f n))
+
+  -- a list is the table of its entries
+  pub table-getD : (l : List A) (d : A) (n : ℕ) → length l ≡ n → table n (λ i. getD l i d) ≡ l
+  table-getD l d n e =
+      ext-getD d (table n (λ i. getD l i d)) l (length-table (λ i. getD l i d) n ∙ sym e)
+      (λ i h. getD-table (λ i. getD l i d) n i d (omega (arith, length-table (λ i. getD l i d) n)))
+
+  -- an array whose front is the table so far, and the next entry stored
+  pub table-store : (f : ℕ → A) (new : List A) (i : ℕ) → i < length new → take i new ≡ table i f → take (i + 1) (set new i (f i)) ≡ table (i + 1) f
+  table-store f new i h e = rw (table-suc f i, add-one, take-suc-set, e)
