@@ -1,13 +1,14 @@
 -- The reach of a layout by its offset and the two sums of spans, and what it says of check-in's refusal 3.
 use mathlib.Core.Path.{_≡_, refl, sym, ap, _∙_, subst}
-use mathlib.Core.Bool.{Bool, true, false, not, _&&_}
+use mathlib.Core.Bool.{Bool, true, false, not, _&&_, and-false}
 use mathlib.Core.List.{List, [], _∷_}
 use mathlib.Core.Logic.{_⊎_, inl, inr}
 use Prim.Native.Nat.{ℕ, _+_, _-_, _≤_, _<_}
 use native.Mathlib.Omega.{arith}
-use lib.Dec.{T}
+use lib.Dec.{T, ltb}
 use lib.IntN.{ℤ, pos, natAbs}
 use lib.Signed.{leZ, ltZ}
+use borrow.Author.Tests.{lt-ltb, le-ltb}
 use Rattle.integer.specs.Parts.{posPart, negPart}
 use Rattle.integer.specs.Range.{fits, mostSigned}
 use Rattle.integer.proofs.PartLaws.{parts-add, parts-minus, parts-ext, parts-fit, leZ-true, ltZ-true, ltZ-false, le-leZ, lt-leZ}
@@ -18,7 +19,7 @@ use Rattle.specification.specs.Axis.{Axis, isEmpty, span, upward, downward}
 use Rattle.specification.specs.Layout.{LayoutM, lowest, highest, inReach}
 use Rattle.specification.specs.CheckIn.{bounds, tooWide}
 use Rattle.specification.proofs.ReachLaws.{Within, and-true, bounds-reach}
-use Rattle.view.specs.Reach.{reachOf}
+use Rattle.view.specs.Reach.{reachOf, tooWideExtent}
 use Rattle.view.specs.declared.bounds.Reach.{Reach}
 use Rattle.view.specs.declared.bounds.Reach.the-variants.{Empty, Between, Outside}
 
@@ -79,6 +80,14 @@ module _ (l : LayoutM) (e : isEmpty (l .axes) ≡ false) where
       not-reached : (t : Bool) → inReach l ≡ t → t ≡ false
       not-reached true q = absurd (never (reach-within q))
       not-reached false q = refl
+
+-- ---- an extent that is too wide
+
+pub wide-extent : (n : ℕ) → 9223372036854775808 < n → tooWideExtent n ≡ true
+wide-extent n h = rw (lt-ltb 1 n (omega arith), lt-ltb mostSigned (n - 1) (omega arith))
+
+pub narrow-extent : (n : ℕ) → n ≤ 9223372036854775808 → tooWideExtent n ≡ false
+narrow-extent n h = rw (le-ltb mostSigned (n - 1) (omega arith)) (and-false (ltb 1 n))
 
 -- ---- what the reach says of check-in
 

@@ -7,7 +7,7 @@ use lib.Dec.{eqb}
 use lib.IntN.{ℤ}
 use lib.ListN.{length}
 use borrow.Author.Tests.{eqb-true, ltb-false}
-use Rattle.specification.specs.Outcome.{Outcome, done, refused, pass}
+use Rattle.specification.specs.Outcome.{Outcome, Check, done, refused, pass, _>>_}
 use Rattle.specification.specs.Layout.{tooLong}
 use Rattle.specification.specs.CheckIn.{bounds, checkIn}
 use Rattle.specification.proofs.OutcomeLaws.{clash, passed, passed-check}
@@ -15,6 +15,12 @@ use Rattle.specification.proofs.ReachLaws.{or-false}
 use Rattle.specification.proofs.AcceptedLaws.{not-false}
 use Rattle.view.specs.Answers.{answerOf}
 use Rattle.view.specs.Model.{modelFrom}
+
+-- the last of a chain of rules hands over a result; its answer is that of the rules before
+pub answerOf-then : {A : Type 0} (c : Check) (a : A) → answerOf (c >> done a) ≡ c
+unfolding _>>_
+answerOf-then (done u) a = refl
+answerOf-then (refused number values) a = refl
 
 -- an outcome, by its answer
 answer-done : {A : Type 0} (o : Outcome A) → answerOf o ≡ pass → (a : A) × (o ≡ done a)

@@ -1,6 +1,6 @@
 -- Running products, one step after another, forward and backward.
 use mathlib.Core.Path.{_≡_, refl, sym, ap, _∙_}
-use mathlib.Core.Bool.{Bool, true, false, _&&_}
+use mathlib.Core.Bool.{Bool, true, false, _&&_, and-false}
 use mathlib.Core.List.{List, [], _∷_, _++_, reverse, append-nil, append-assoc, reverse-cons, reverse-append, reverse-reverse}
 use Prim.Native.Nat.{ℕ, suc, _+_, _*_, _-_, _≤_, _<_}
 use native.Mathlib.Nat.{le-refl, sub-self, sub-zero}
@@ -22,10 +22,6 @@ use Rattle.specification.proofs.OutcomeLaws.{clash, done-inj}
 pub step-fits : (empty : Bool) (step extent : ℕ) → step * extent ≤ mostSigned → extent ≤ mostSigned → nextStep empty step extent ≡ done (step * extent)
 unfolding nextStep
 step-fits empty step extent h k = rw (le-leb (step * extent) mostSigned h, le-leb extent mostSigned k)
-
-and-false : (b : Bool) → (b && false) ≡ false
-and-false true = refl
-and-false false = refl
 
 -- what is answered where the product or the extent does not fit
 unfoldable pub fullStep : Bool → Outcome ℕ

@@ -4,9 +4,8 @@ pub mod OrderLaws
 pub mod TargetLaws
 pub mod SomeLaws
 pub mod BoundedLaws
-pub mod ReachLaws
+pub mod SpanLaws
 pub mod BoundsLaws
-pub mod AnswerLaws
 pub mod HandedLaws
 pub mod CheckInLaws
 pub mod ListedLaws

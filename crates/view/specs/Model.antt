@@ -21,9 +21,11 @@ axisOf extents strides i = record { extent = getD extents i 0; stride = getD str
 abbrev pub axesIn : List ℕ → List ℤ → ℕ → List Axis
 axesIn extents strides rank = table rank (axisOf extents strides)
 
+-- a layout by its meaning
 abbrev pub modelOf : Layout → LayoutM
 modelOf l = record { buffer = l .len; offset = l .offset .0; axes = axesIn (l .extents) (l .strides) (l .rank) }
 
+-- an answer with the layout after it
 abbrev pub viewedOf : Viewed → After
 viewedOf v = record { answer = outcomeOf (v .answer); layout = modelOf (v .layout) }
 

@@ -1,11 +1,11 @@
 -- How far the offsets of a layout reach, as the code answers it.
 use mathlib.Core.Bool.{Bool, _&&_}
+use mathlib.Core.List.{List}
 use Prim.Native.Nat.{ℕ, _-_}
 use lib.Dec.{ltb, leb}
 use lib.IntN.{natAbs}
 use Rattle.integer.specs.Range.{mostSigned}
 use Rattle.specification.specs.Tests.{if_then_else_}
-use mathlib.Core.List.{List}
 use Rattle.specification.specs.Axis.{Axis, isEmpty, upward, downward}
 use Rattle.specification.specs.Layout.{LayoutM, lowest, highest, inReach}
 use Rattle.view.specs.declared.bounds.Reach.{Reach}

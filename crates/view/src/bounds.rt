@@ -1,21 +1,18 @@
 // How far the offsets of a layout reach, and check-in by it.
 ghost use mathlib.Core.Path.{_≡_};
-ghost use mathlib.Core.List.{List};
-ghost use Prim.Native.Nat.{ℕ, _+_, _*_, _-_, _≤_};
+ghost use Prim.Native.Nat.{_+_, _-_};
 ghost use lib.ListN.{length};
 ghost use Rattle.integer.specs.Parts.{posPart, negPart};
 ghost use Rattle.specification.specs.Tests.{some};
 ghost use Rattle.specification.specs.Axis.{axesOf};
-ghost use Rattle.specification.specs.Layout.{handed};
 ghost use Rattle.specification.specs.CheckIn.{bounds, checkIn};
 ghost use Rattle.specification.specs.Beside.{zeroAmong};
 ghost use Rattle.view.specs.Answers.{outcomeOf, answerOf};
-ghost use Rattle.view.specs.Model.{modelOf, modelFrom};
+ghost use Rattle.view.specs.Model.{modelFrom};
 ghost use Rattle.view.specs.Reach.{reachOf, spansUpTo, tooWideExtent};
 use crate::bounded::Bounded;
 use crate::bounded::bounded_product;
 use crate::layout::Answer;
-use crate::layout::Layout;
 use crate::layout::ReadingOffset;
 use crate::layout::Refusal;
 use integer::signed::magnitude;
@@ -61,13 +58,14 @@ fn too_wide(extents: &[u64]) -> bool
     false
 }
 
-// The part of a stride that is above 0, and below, without its sign.
+// The part of an integer that is above 0: itself, or 0.
 fn positive_part(stride: i64) -> u64
     ensures { λ r. ⌜ r ≡ posPart stride ⌝ }
 {
     if stride < 0 { 0 } else { magnitude(stride) }
 }
 
+// The part that is below 0, without its sign.
 fn negative_part(stride: i64) -> u64
     ensures { λ r. ⌜ r ≡ negPart stride ⌝ }
 {
@@ -81,7 +79,7 @@ fn last_index(extent: u64) -> u64
     if extent == 0 { 0 } else { extent - 1 }
 }
 
-// The sums of the positive and of the negative spans, where each is at most its limit.
+// The sums of the positive and of the negative spans, where each is at most its limit. A span is 0 at stride 0, however wide the extent.
 pub fn sum_spans(extents: &[u64], strides: &[i64], above: u64, below: u64) -> Spans
     requires { ⌜ length (now extents) ≡ length (now strides) ⌝ }
     ensures { λ r. ⌜ r ≡ spansUpTo above below (axesOf (now (extents .entry)) (now (strides .entry))) ⌝ }
@@ -106,7 +104,8 @@ pub fn sum_spans(extents: &[u64], strides: &[i64], above: u64, below: u64) -> Sp
     Spans::Of(up, down)
 }
 
-// The reach of the layout that two lists of equal length give.
+// The reach of the layout that two lists of equal length give. The positive spans have room from the offset up to 2^63 - 1,
+// the negative spans from the offset down to 0.
 pub fn reach_of(len: u64, offset: ReadingOffset, extents: &[u64], strides: &[i64]) -> Reach
     requires { ⌜ length (now extents) ≡ length (now strides) ⌝ }
     ensures { λ r. ⌜ r ≡ reachOf (modelFrom len (offset .0) (now (extents .entry)) (now (strides .entry))) ⌝ }
@@ -132,7 +131,7 @@ pub fn reach_of(len: u64, offset: ReadingOffset, extents: &[u64], strides: &[i64
     }
 }
 
-// Check-in's refusal 3, for two lists of equal length.
+// Check-in's refusal 3, for two lists of equal length. Where the offsets are in reach each span fits, so only a wide extent is left to test.
 pub fn bounds_refusal(len: u64, offset: ReadingOffset, extents: &[u64], strides: &[i64]) -> Answer
     requires { ⌜ length (now extents) ≡ length (now strides) ⌝ }
     ensures { λ r. ⌜ outcomeOf r ≡ bounds (modelFrom len (offset .0) (now (extents .entry)) (now (strides .entry))) ⌝ }
@@ -151,7 +150,7 @@ pub fn bounds_refusal(len: u64, offset: ReadingOffset, extents: &[u64], strides:
     }
 }
 
-// Refusals 1 and 2, then the bounds.
+// Check-in without the layout: refusals 1 and 2, then the bounds.
 pub fn validate_bounds(len: u64, offset: ReadingOffset, extents: &[u64], strides: &[i64]) -> Answer
     ensures { λ r. ⌜ outcomeOf r ≡ answerOf (checkIn len (offset .0) (now (extents .entry)) (now (strides .entry))) ⌝ }
 {

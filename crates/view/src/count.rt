@@ -1,5 +1,4 @@
 // The number of positions.
-ghost use mathlib.Core.Path.{_≡_};
 ghost use Rattle.view.specs.Count.{Counted};
 use crate::bounded::Bounded;
 use crate::bounded::bounded_product;

@@ -1,9 +1,5 @@
 // Dense strides: running products of the extents.
 ghost use mathlib.Core.Path.{_≡_};
-ghost use mathlib.Core.Bool.{Bool};
-ghost use Prim.Native.Nat.{_≤_};
-ghost use lib.ListN.{length};
-ghost use Rattle.integer.specs.Range.{mostSigned};
 ghost use Rattle.specification.specs.Outcome.{refused};
 ghost use Rattle.specification.specs.Beside.{nextStep, colMajor, rowMajor};
 ghost use Rattle.view.specs.Answers.{numberOf, valuesOf};

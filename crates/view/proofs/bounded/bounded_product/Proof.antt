@@ -1,24 +1,22 @@
+-- The quotient of the limit tells whether the product passes it.
 use mathlib.Core.Path.{sym}
 use Prim.Native.Nat.{_*_, _<_, _≤_}
 use native.Mathlib.Nat.{le-div-iff-mul-le, div-lt-iff-lt-mul, mul-zero}
 use native.Mathlib.Omega.{arith}
-use Rattle.view.proofs.BoundedLaws.{bounded-is, bounded-over}
 use borrow.Author.Needs.{needs}
+use Rattle.view.proofs.BoundedLaws.{bounded-is, bounded-over}
 use Rattle.view.proofs.bounded.bounded_product.Statement.{statement}
 use Rattle.view.proofs.bounded.bounded_product.Tie as tie
 
--- src/bounded.rt:17:9
 returns : tie.Need-returns
 returns c = rw (c .if1 .taken, mul-zero) (sym (bounded-is (c .before .args .limit) 0 (omega arith)))
 
--- src/bounded.rt:19:8
 div-if2 : tie.Need-div-if2
 div-if2 c = search needs
 
 above-zero : (c : tie.Else1) → 0 < c .before .args .b
 above-zero c = omega arith
 
--- src/bounded.rt:20:9
 returns-2 : tie.Need-returns-2
 returns-2 c =
     let a = c .before .before .args in
@@ -27,11 +25,9 @@ returns-2 c =
 holds : (c : tie.Else2) → let a = c .before .before .args in a .a * a .b ≤ a .limit
 holds c = omega (arith, le-div-iff-mul-le (above-zero (c .before)) .0 (c .if2 .left))
 
--- src/bounded.rt:22:17
 mul-t5 : tie.Need-mul-t5
 mul-t5 c = omega (arith, holds c)
 
--- src/bounded.rt:13:1
 returns-3 : tie.Need-returns-3
 returns-3 c = sym (bounded-is _ _ (holds c))
 

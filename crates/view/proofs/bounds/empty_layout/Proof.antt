@@ -1,11 +1,12 @@
+-- What was passed holds no zero, so the answer is that of the extents still left.
 use mathlib.Core.Path.{_≡_, sym, _∙_}
 use Prim.Native.Nat.{_≤_, _-_}
 use lib.Dec.{eqb}
 use lib.ListN.{length, drop}
 use borrow.Author.Tests.{eq-eqb, ne-eqb}
+use borrow.Author.Needs.{needs}
 use Rattle.specification.specs.Beside.{zeroAmong}
 use Rattle.view.proofs.SomeLaws.{some-found, some-behind, some-end}
-use borrow.Author.Needs.{needs}
 use Rattle.view.proofs.bounds.empty_layout.Statement.{statement}
 use Rattle.view.proofs.bounds.empty_layout.Tie as tie
 
@@ -15,39 +16,31 @@ Inv-loop extents i₀ i = (i ≤ length extents) × (zeroAmong extents ≡ zeroA
 abbrev μ-loop : tie.MeasureT-loop
 μ-loop extents i₀ i = length extents - i
 
--- src/bounds.rt:37:5
 loop-holds : tie.Need-loop-holds Inv-loop μ-loop
 loop-holds c = search needs
 
--- src/bounds.rt:38:12
 mul-if1 : tie.Need-mul-if1 Inv-loop μ-loop
 mul-if1 c = search needs
 
--- src/bounds.rt:38:12
 shared-slice-read-if1 : tie.Need-shared-slice-read-if1 Inv-loop μ-loop
 shared-slice-read-if1 c = search needs
 
--- src/bounds.rt:39:13
 returns : tie.Need-returns Inv-loop μ-loop
 returns c =
     let l = c .before .before .before .loop in
     sym (l .inv .1 ∙ some-found (λ n. eqb n 0) 0 (c .before .before .before .before .args .extents .now) (l .i) (search needs) (eq-eqb _ _ (c .if1 .taken)))
 
--- src/bounds.rt:41:9
 add-i : tie.Need-add-i Inv-loop μ-loop
 add-i c = search needs
 
--- src/bounds.rt:37:5
 loop-less : tie.Need-loop-less Inv-loop μ-loop
 loop-less c = search needs
 
--- src/bounds.rt:37:5
 loop-again : tie.Need-loop-again Inv-loop μ-loop
 loop-again c =
     let l = c .before .before .before .loop in
     (search needs, l .inv .1 ∙ some-behind (λ n. eqb n 0) 0 (c .before .before .before .before .args .extents .now) (l .i) (search needs) (ne-eqb _ _ (c .if1 .left)))
 
--- src/bounds.rt:33:1
 returns-2 : tie.Need-returns-2 Inv-loop μ-loop
 returns-2 c =
     let l = c .before .loop in

@@ -1,21 +1,19 @@
+-- The magnitude of a stride below 0 is its negative part.
 use mathlib.Core.Path.{_∙_, ap, sym}
 use lib.IntN.{natAbs}
+use borrow.Author.Needs.{needs}
 use mir.Syntax.{w64}
 use mir.ValLaws.{toZ-ofZ}
 use Rattle.integer.proofs.MachineInteger.{negative-tested, nonnegative-tested}
-use borrow.Author.Needs.{needs}
 use Rattle.view.proofs.bounds.negative_part.Statement.{statement}
 use Rattle.view.proofs.bounds.negative_part.Tie as tie
 
--- src/bounds.rt:78:21
 magnitude-requires : tie.Need-magnitude-requires
 magnitude-requires c κs = search needs
 
--- src/bounds.rt:75:1
 returns : tie.Need-returns
 returns c = c .magnitude .ensures ∙ ap natAbs (toZ-ofZ w64 _ (c .before .before .fits .stride)) ∙ negative-tested _ (c .before .before .fits .stride) (c .before .if1 .taken) .size
 
--- src/bounds.rt:75:1
 returns-2 : tie.Need-returns-2
 returns-2 c = sym (nonnegative-tested _ (c .before .fits .stride) (c .if1 .left) .no-negative)
 

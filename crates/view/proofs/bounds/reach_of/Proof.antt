@@ -1,10 +1,12 @@
+-- By the offset and the two sums: the lowest offset is the offset less the one, the highest the offset and the other.
 use mathlib.Core.Path.{_≡_, sym, ap, _∙_}
-use Prim.Native.Nat.{ℕ, _-_, _≤_}
-use native.Mathlib.Omega.{arith}
 use mathlib.Core.Bool.{Bool, false}
 use mathlib.Core.List.{List}
+use Prim.Native.Nat.{ℕ, _-_, _≤_}
+use native.Mathlib.Omega.{arith}
 use lib.Dec.{eqb}
 use lib.IntN.{ℤ}
+use borrow.Author.Needs.{needs}
 use mir.Syntax.{w64}
 use mir.Val.{SFits}
 use mir.ValLaws.{toZ-ofZ}
@@ -16,9 +18,8 @@ use Rattle.specification.specs.Layout.{LayoutM}
 use Rattle.view.specs.Model.{modelFrom}
 use Rattle.view.specs.Reach.{reachOf}
 use Rattle.view.proofs.SomeLaws.{some-axesOf}
-use Rattle.view.proofs.ReachLaws.{spans-of, spans-over}
+use Rattle.view.proofs.SpanLaws.{spans-of, spans-over}
 use Rattle.view.proofs.BoundsLaws.{reach-between, reach-outside, low-parts, high-parts}
-use borrow.Author.Needs.{needs}
 use Rattle.view.proofs.bounds.reach_of.Statement.{statement}
 use Rattle.view.proofs.bounds.reach_of.Tie as tie
 
@@ -58,55 +59,43 @@ spans-found : (a : tie.After-known-told) → let s = a .before in let l = layout
     × (upward (l .axes) ≤ 9223372036854775807 - s .before .before .before .positive-part .result) × (downward (l .axes) ≤ s .before .before .before .positive-part .result)
 spans-found a = spans-of _ _ _ _ _ (a .before .before .before .sum-spans .ensures) (a .before .spans .given .1)
 
--- src/bounds.rt:130:8
 empty-layout-requires : tie.Need-empty-layout-requires
 empty-layout-requires c κs = search needs
 
--- src/bounds.rt:131:9
 returns : tie.Need-returns
 unfolding reachOf
 returns c = rw (empty-tested (c .before) (c .if1 .taken))
 
--- src/bounds.rt:135:9
 returns-2 : tie.Need-returns-2
 returns-2 c =
     let n = negative-tested _ (offset-fits (c .before)) (c .if2 .taken) in
     sym (reach-outside (layout (c .before)) (not-empty (c .before)) (λ w.
     omega (arith, n, low-parts (layout (c .before)) (not-empty (c .before)))))
 
--- src/bounds.rt:137:9
 positive-part-requires : tie.Need-positive-part-requires
 positive-part-requires c κs = search needs
 
--- src/bounds.rt:138:45
 sub-sum-spans : tie.Need-sub-sum-spans
 sub-sum-spans c = omega (arith, base-is c, posPart-below (offset-fits (c .before .before)))
 
--- src/bounds.rt:138:9
 sum-spans-requires : tie.Need-sum-spans-requires
 sum-spans-requires c κs = search needs
 
--- src/bounds.rt:140:24
 enum-told : tie.Need-enum-told
 enum-told c = search needs
 
--- src/bounds.rt:141:19
 enum-known-spans : tie.Need-enum-known-spans
 enum-known-spans c = search needs
 
--- src/bounds.rt:142:23
 add-if3 : tie.Need-add-if3
 add-if3 c = record { fits = omega (arith, spans-found c, base-is (c .before .before .before .before)) }
 
--- src/bounds.rt:145:32
 sub-t17 : tie.Need-sub-t17
 sub-t17 c = omega (arith, spans-found (c .before))
 
--- src/bounds.rt:145:45
 add-t18 : tie.Need-add-t18
 add-t18 c = search needs
 
--- src/bounds.rt:126:1
 returns-3 : tie.Need-returns-3
 returns-3 c =
     let p = c .before .before .before in
@@ -116,7 +105,6 @@ returns-3 c =
     (omega (arith, base-is p, no-negative p, high-parts (layout a) (not-empty a)))
     (omega (arith, base-is p, no-negative p, low-parts (layout a) (not-empty a)))))
 
--- src/bounds.rt:126:1
 returns-4 : tie.Need-returns-4
 returns-4 c =
     let p = c .before .before .before .before .before in
@@ -124,7 +112,6 @@ returns-4 c =
     sym (reach-outside (layout a) (not-empty a) (λ w.
     omega (arith, spans-found (c .before), base-is p, no-negative p, high-parts (layout a) (not-empty a))))
 
--- src/bounds.rt:126:1
 returns-5 : tie.Need-returns-5
 returns-5 c =
     let p = c .before .before .before .before .before in

@@ -1,17 +1,18 @@
+-- Each sum and the spans still left make the whole sum, so a sum that passes its limit on the way passes it in the end.
 use mathlib.Core.Path.{_≡_, sym, ap, _∙_}
 use mathlib.Core.List.{List}
-use lib.IntN.{ℤ, pos}
-use mir.Val.{toZ, ofZ}
 use Prim.Native.Nat.{ℕ, _+_, _*_, _-_, _≤_}
 use native.Mathlib.Omega.{arith}
+use lib.IntN.{ℤ, pos}
 use lib.ListN.{length, drop, getD}
+use borrow.Author.Needs.{needs}
+use mir.Val.{toZ, ofZ}
 use mir.Syntax.{w64}
 use mir.ValLaws.{toZ-ofZ}
 use Rattle.integer.specs.Parts.{posPart, negPart}
 use Rattle.specification.specs.Axis.{axesOf, upward, downward}
 use Rattle.view.proofs.BoundedLaws.{is-bounded, over-bounded}
-use Rattle.view.proofs.ReachLaws.{spans-are, spans-above, spans-below, upward-turn, downward-turn, upward-end, downward-end}
-use borrow.Author.Needs.{needs}
+use Rattle.view.proofs.SpanLaws.{spans-are, spans-above, spans-below, upward-turn, downward-turn, upward-end, downward-end}
 use Rattle.view.proofs.bounds.sum_spans.Statement.{statement}
 use Rattle.view.proofs.bounds.sum_spans.Tie as tie
 
@@ -86,105 +87,81 @@ module _ (c : tie.After-known-told2 Inv-loop μ-loop) where
   more-down-is : (c .before .more-down .given .0 .0 ≡ span-down down-place) × (span-down down-place ≤ below (turn up-place) - atLoop (turn up-place) .loop .down)
   more-down-is = is-bounded _ (span-down down-place) _ (down-place .bounded-product2 .ensures) (c .before .more-down .given .1)
 
--- src/bounds.rt:92:5
 loop-holds : tie.Need-loop-holds Inv-loop μ-loop
 loop-holds c = search needs
 
--- src/bounds.rt:93:31
 mul-last-index : tie.Need-mul-last-index Inv-loop μ-loop
 mul-last-index c = search needs
 
--- src/bounds.rt:93:31
 shared-slice-read-last-index : tie.Need-shared-slice-read-last-index Inv-loop μ-loop
 shared-slice-read-last-index c = search needs
 
--- src/bounds.rt:93:13
 last-index-requires : tie.Need-last-index-requires Inv-loop μ-loop
 last-index-requires c κs = search needs
 
--- src/bounds.rt:94:22
 mul-stride : tie.Need-mul-stride Inv-loop μ-loop
 mul-stride c = search needs
 
--- src/bounds.rt:94:22
 shared-slice-copy-out-stride : tie.Need-shared-slice-copy-out-stride Inv-loop μ-loop
 shared-slice-copy-out-stride c = search needs
 
--- src/bounds.rt:95:58
 positive-part-requires : tie.Need-positive-part-requires Inv-loop μ-loop
 positive-part-requires c κs = search needs
 
--- src/bounds.rt:95:81
 sub-bounded-product : tie.Need-sub-bounded-product Inv-loop μ-loop
 sub-bounded-product c = search needs
 
--- src/bounds.rt:95:36
 bounded-product-requires : tie.Need-bounded-product-requires Inv-loop μ-loop
 bounded-product-requires c κs = search needs
 
--- src/bounds.rt:95:25
 enum-known-more-up : tie.Need-enum-known-more-up Inv-loop μ-loop
 enum-known-more-up c = search needs
 
--- src/bounds.rt:96:13
 enum-told : tie.Need-enum-told Inv-loop μ-loop
 enum-told c = search needs
 
--- src/bounds.rt:96:13
 returns : tie.Need-returns Inv-loop μ-loop
 returns c =
     let t = c .before .before in
     sym (spans-above (above (turn t)) (below (turn t)) (axesOf (es (turn t)) (ss (turn t)))
     (omega (arith, up-turn t, over-bounded (above (turn t) - atLoop (turn t) .loop .up) (span-up t) (t .bounded-product .ensures) (c .enum-told .given .1))))
 
--- src/bounds.rt:98:60
 negative-part-requires : tie.Need-negative-part-requires Inv-loop μ-loop
 negative-part-requires c κs = search needs
 
--- src/bounds.rt:98:83
 sub-bounded-product-2 : tie.Need-sub-bounded-product-2 Inv-loop μ-loop
 sub-bounded-product-2 c = search needs
 
--- src/bounds.rt:98:38
 bounded-product-requires-2 : tie.Need-bounded-product-requires-2 Inv-loop μ-loop
 bounded-product-requires-2 c κs = search needs
 
--- src/bounds.rt:98:25
 enum-known-more-down : tie.Need-enum-known-more-down Inv-loop μ-loop
 enum-known-more-down c = search needs
 
--- src/bounds.rt:99:13
 enum-told-2 : tie.Need-enum-told-2 Inv-loop μ-loop
 enum-told-2 c = search needs
 
--- src/bounds.rt:99:13
 returns-2 : tie.Need-returns-2 Inv-loop μ-loop
 returns-2 c =
     let t = c .before .before in
     sym (spans-below (above (turn-down t)) (below (turn-down t)) (axesOf (es (turn-down t)) (ss (turn-down t)))
     (omega (arith, down-turn t, over-bounded (below (turn-down t) - atLoop (turn-down t) .loop .down) (span-down t) (t .bounded-product2 .ensures) (c .enum-told2 .given .1))))
 
--- src/bounds.rt:101:9
 add-up : tie.Need-add-up Inv-loop μ-loop
 add-up c = let f = atLoop (turn (up-place c)) .before .before .fits in record { fits = omega (arith, more-up-is c, f) }
 
--- src/bounds.rt:102:9
 add-down : tie.Need-add-down Inv-loop μ-loop
 add-down c = let f = atLoop (turn (up-place c)) .before .before .fits in record { fits = omega (arith, more-down-is c, f) }
 
--- src/bounds.rt:103:9
 add-i : tie.Need-add-i Inv-loop μ-loop
 add-i c = search needs
 
--- src/bounds.rt:92:5
 loop-less : tie.Need-loop-less Inv-loop μ-loop
 loop-less c = search needs
 
--- src/bounds.rt:92:5
 loop-again : tie.Need-loop-again Inv-loop μ-loop
 loop-again c = let x = more-up-is c in let y = more-down-is c in omega (arith, up-turn (up-place c), down-turn (down-place c))
 
--- src/bounds.rt:85:1
 returns-3 : tie.Need-returns-3 Inv-loop μ-loop
 returns-3 c =
     let s = c .before .before .before .args in

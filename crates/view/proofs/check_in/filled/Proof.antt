@@ -1,13 +1,14 @@
+-- The axes stored so far are those of the lists, one more with each turn.
 use mathlib.Core.Path.{_≡_, refl, sym, _∙_}
 use Prim.Native.Nat.{_-_, _≤_}
 use native.Mathlib.Omega.{arith}
 use lib.ListN.{length, length-set}
+use borrow.Author.Needs.{needs}
 use mir.Syntax.{w64}
 use mir.ValLaws.{toZ-ofZ}
 use Rattle.lists.proofs.TableLaws.{table-zero}
 use Rattle.view.specs.Model.{axesIn}
 use Rattle.view.proofs.ModelLaws.{axesIn-store, axesIn-suc, axesIn-axesOf}
-use borrow.Author.Needs.{needs}
 use Rattle.view.proofs.check_in.filled.Statement.{statement}
 use Rattle.view.proofs.check_in.filled.Tie as tie
 
@@ -21,55 +22,42 @@ Inv-loop len extents strides next₀ i₀ next i =
 abbrev μ-loop : tie.MeasureT-loop
 μ-loop len extents strides next₀ i₀ next i = length extents - i
 
--- src/check_in.rt:30:20
 no-layout-requires : tie.Need-no-layout-requires Inv-loop μ-loop
 no-layout-requires c κs = search needs
 
--- src/check_in.rt:35:5
 loop-holds : tie.Need-loop-holds Inv-loop μ-loop
 loop-holds c = (search needs, refl, refl, refl, search needs, search needs, table-zero _ ∙ sym (table-zero _))
 
--- src/check_in.rt:36:22
 mul-extent : tie.Need-mul-extent Inv-loop μ-loop
 mul-extent c = search needs
 
--- src/check_in.rt:36:22
 shared-slice-read-extent : tie.Need-shared-slice-read-extent Inv-loop μ-loop
 shared-slice-read-extent c = search needs
 
--- src/check_in.rt:37:22
 mul-stride : tie.Need-mul-stride Inv-loop μ-loop
 mul-stride c = search needs
 
--- src/check_in.rt:37:22
 shared-slice-copy-out-stride : tie.Need-shared-slice-copy-out-stride Inv-loop μ-loop
 shared-slice-copy-out-stride c = search needs
 
--- src/check_in.rt:38:9
 mul-next : tie.Need-mul-next Inv-loop μ-loop
 mul-next c = search needs
 
--- src/check_in.rt:38:9
 element-write-next : tie.Need-element-write-next Inv-loop μ-loop
 element-write-next c = search needs
 
--- src/check_in.rt:39:9
 mul-stride-2 : tie.Need-mul-stride-2 Inv-loop μ-loop
 mul-stride-2 c = search needs
 
--- src/check_in.rt:39:9
 element-set-from-stride : tie.Need-element-set-from-stride Inv-loop μ-loop
 element-set-from-stride c = search needs
 
--- src/check_in.rt:40:9
 add-i : tie.Need-add-i Inv-loop μ-loop
 add-i c = search needs
 
--- src/check_in.rt:35:5
 loop-less : tie.Need-loop-less Inv-loop μ-loop
 loop-less c = search needs
 
--- src/check_in.rt:35:5
 loop-again : tie.Need-loop-again Inv-loop μ-loop
 loop-again c =
     let l = c .before .before .before .loop in
@@ -84,7 +72,6 @@ loop-again c =
           ∙ rw (l .inv .6, toZ-ofZ w64 _ (record { sfits = c .stride .given })) (sym (axesIn-suc (a .extents .now) (a .strides .now) (l .i))),
     )
 
--- src/check_in.rt:26:1
 returns : tie.Need-returns Inv-loop μ-loop
 returns c =
     let l = c .before .loop in

@@ -1,9 +1,9 @@
-use Rattle.lists.specs.Table.{table}
+-- The one axis of the layout beside a refusal has extent 0.
 use mathlib.Core.Path.{refl}
+use Rattle.lists.specs.Table.{table}
 use Rattle.view.proofs.check_in.no_layout.Statement.{statement}
 use Rattle.view.proofs.check_in.no_layout.Tie as tie
 
--- src/check_in.rt:13:1
 returns : tie.Need-returns
 unfolding table
 returns c = refl

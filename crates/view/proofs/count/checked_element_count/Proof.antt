@@ -1,3 +1,4 @@
+-- The product so far times the extents still left is the number of positions, and none of these is 0.
 use mathlib.Core.Path.{_≡_, sym, ap, _∙_}
 use mathlib.Core.List.{List}
 use mathlib.Core.Bool.{false}
@@ -5,12 +6,12 @@ use Prim.Native.Nat.{ℕ, _+_, _*_, _-_, _≤_}
 use native.Mathlib.Nat.{one-mul, mul-one, mul-assoc}
 use native.Mathlib.Omega.{arith}
 use lib.ListN.{length, drop, getD}
+use borrow.Author.Needs.{needs}
 use Rattle.integer.specs.Range.{mostUnsigned}
 use Rattle.specification.specs.Axis.{product}
 use Rattle.specification.specs.Beside.{zeroAmong}
 use Rattle.view.proofs.BoundedLaws.{is-bounded, over-bounded}
 use Rattle.view.proofs.CountLaws.{product-drop, product-end, product-above, factor-below, count-empty, count-of, count-over}
-use borrow.Author.Needs.{needs}
 use Rattle.view.proofs.count.checked_element_count.Statement.{statement}
 use Rattle.view.proofs.count.checked_element_count.Tie as tie
 
@@ -38,39 +39,30 @@ module _ (t : tie.After-bounded-product Inv-loop μ-loop) where
       mul-assoc (l .count) (getD es (l .i) 0) (product (drop (l .i + 1) es))
       ∙ ap (λ (n : ℕ). l .count * n) (sym (product-drop es (l .i) (search needs))) ∙ l .inv .3
 
--- src/count.rt:18:8
 empty-layout-requires : tie.Need-empty-layout-requires Inv-loop μ-loop
 empty-layout-requires c κs = search needs
 
--- src/count.rt:19:9
 returns : tie.Need-returns Inv-loop μ-loop
 returns c axes e = count-empty axes _ e (sym (c .before .empty-layout .ensures) ∙ c .if1 .taken)
 
--- src/count.rt:23:5
 loop-holds : tie.Need-loop-holds Inv-loop μ-loop
 loop-holds c = (search needs, sym (c .before .empty-layout .ensures) ∙ c .if1 .left, search needs, one-mul _)
 
--- src/count.rt:24:55
 mul-bounded-product : tie.Need-mul-bounded-product Inv-loop μ-loop
 mul-bounded-product c = search needs
 
--- src/count.rt:24:55
 shared-slice-read-bounded-product : tie.Need-shared-slice-read-bounded-product Inv-loop μ-loop
 shared-slice-read-bounded-product c = search needs
 
--- src/count.rt:24:33
 bounded-product-requires : tie.Need-bounded-product-requires Inv-loop μ-loop
 bounded-product-requires c κs = search needs
 
--- src/count.rt:24:25
 enum-known-more : tie.Need-enum-known-more Inv-loop μ-loop
 enum-known-more c = search needs
 
--- src/count.rt:25:13
 enum-told : tie.Need-enum-told Inv-loop μ-loop
 enum-told c = search needs
 
--- src/count.rt:25:13
 returns-2 : tie.Need-returns-2 Inv-loop μ-loop
 returns-2 c axes e =
     let t = c .before .before in
@@ -78,22 +70,18 @@ returns-2 c axes e =
     count-over axes (es t) e z
     (factor-below (next t) _ _ mostUnsigned (turned t) (product-above (es t) z) (over-bounded mostUnsigned (next t) (t .bounded-product .ensures) (c .enum-told .given .1)))
 
--- src/count.rt:28:9
 add-i : tie.Need-add-i Inv-loop μ-loop
 add-i c = search needs
 
--- src/count.rt:23:5
 loop-less : tie.Need-loop-less Inv-loop μ-loop
 loop-less c = search needs
 
--- src/count.rt:23:5
 loop-again : tie.Need-loop-again Inv-loop μ-loop
 loop-again c =
     let t = c .before .before .before in
     let b = is-bounded mostUnsigned (next t) (c .before .more .given .0 .0) (t .bounded-product .ensures) (c .before .more .given .1) in
     (search needs, atLoop t .loop .inv .1, omega arith, rw (b .0) (turned t))
 
--- src/count.rt:15:1
 returns-3 : tie.Need-returns-3 Inv-loop μ-loop
 returns-3 c axes e =
     let l = c .before .loop in

@@ -1,16 +1,17 @@
+-- The strides stored so far stand before those of the extents still left.
 use mathlib.Core.Path.{_≡_, refl, sym, ap, _∙_}
 use mathlib.Core.Bool.{Bool}
 use mathlib.Core.List.{List}
 use Prim.Native.Nat.{ℕ, _-_, _≤_}
 use native.Mathlib.Omega.{arith}
 use lib.ListN.{length, take, drop, getD, length-set}
+use borrow.Author.Needs.{needs}
 use mir.Syntax.{w64}
 use mir.ValLaws.{toZ-pos}
 use Rattle.integer.specs.Range.{mostSigned}
 use Rattle.specification.specs.Beside.{running, zeroAmong}
 use Rattle.view.specs.Dense.{stepOf, denseAfter}
 use Rattle.view.proofs.DenseLaws.{behind, behind-none, step-most, col-many, col-few, forward-turn, forward-stop, forward-end}
-use borrow.Author.Needs.{needs}
 use Rattle.view.proofs.dense.checked_col_major_strides.Statement.{statement}
 use Rattle.view.proofs.dense.checked_col_major_strides.Tie as tie
 
@@ -36,59 +37,45 @@ module _ (t : tie.After-next-step Inv-loop μ-loop) where
 is-empty : (a : tie.After-empty-layout Inv-loop μ-loop) → a .empty-layout .result ≡ zeroAmong (a .before .before .before .args .extents .now)
 is-empty a = a .empty-layout .ensures
 
--- src/dense.rt:59:9
 no-strides-requires : tie.Need-no-strides-requires Inv-loop μ-loop
 no-strides-requires c κs = search needs
 
--- src/dense.rt:59:9
 returns : tie.Need-returns Inv-loop μ-loop
 returns c = c .no-strides .ensures ∙ ap denseAfter (sym (col-many _ (c .before .if1 .taken)))
 
--- src/dense.rt:61:9
 empty-layout-requires : tie.Need-empty-layout-requires Inv-loop μ-loop
 empty-layout-requires c κs = search needs
 
--- src/dense.rt:65:5
 loop-holds : tie.Need-loop-holds Inv-loop μ-loop
 loop-holds c = (search needs, search needs, refl, search needs, sym (behind-none _))
 
--- src/dense.rt:66:22
 cast-strides : tie.Need-cast-strides Inv-loop μ-loop
 cast-strides c = record { sfits = omega arith }
 
--- src/dense.rt:66:9
 mul-strides : tie.Need-mul-strides Inv-loop μ-loop
 mul-strides c = search needs
 
--- src/dense.rt:66:9
 array-set-from-strides : tie.Need-array-set-from-strides Inv-loop μ-loop
 array-set-from-strides c = search needs
 
--- src/dense.rt:67:56
 mul-next-step : tie.Need-mul-next-step Inv-loop μ-loop
 mul-next-step c = search needs
 
--- src/dense.rt:67:56
 shared-slice-read-next-step : tie.Need-shared-slice-read-next-step Inv-loop μ-loop
 shared-slice-read-next-step c = search needs
 
--- src/dense.rt:67:33
 next-step-requires : tie.Need-next-step-requires Inv-loop μ-loop
 next-step-requires c κs = search needs
 
--- src/dense.rt:67:25
 enum-known-next : tie.Need-enum-known-next Inv-loop μ-loop
 enum-known-next c = search needs
 
--- src/dense.rt:68:28
 enum-told : tie.Need-enum-told Inv-loop μ-loop
 enum-told c = search needs
 
--- src/dense.rt:68:13
 no-strides-requires-2 : tie.Need-no-strides-requires-2 Inv-loop μ-loop
 no-strides-requires-2 c κs = search needs
 
--- src/dense.rt:68:13
 returns-2 : tie.Need-returns-2 Inv-loop μ-loop
 returns-2 c =
     let t = c .before .before .before in
@@ -97,15 +84,12 @@ returns-2 c =
     let r = forward-stop (empty t) (es t) (l .strides) (l .i) (l .step) (l .inv .4) (search needs) o in
     c .no-strides2 .ensures ∙ ap denseAfter (sym (col-few (es t) (l .inv .1) ∙ ap (λ (b : Bool). running b 1 (es t)) (sym (is-empty (atLoop t .before))) ∙ r))
 
--- src/dense.rt:71:9
 add-i : tie.Need-add-i Inv-loop μ-loop
 add-i c = search needs
 
--- src/dense.rt:65:5
 loop-less : tie.Need-loop-less Inv-loop μ-loop
 loop-less c = omega arith
 
--- src/dense.rt:65:5
 loop-again : tie.Need-loop-again Inv-loop μ-loop
 loop-again c =
     let t = c .before .before .before in
@@ -118,7 +102,6 @@ loop-again c =
       rw (toZ-pos w64 (l .step) (omega arith)) (forward-turn (empty t) (es t) (l .strides) (l .i) (l .step) (l .inv .4) _ (search needs) (omega arith) o),
     )
 
--- src/dense.rt:55:1
 returns-3 : tie.Need-returns-3 Inv-loop μ-loop
 returns-3 c =
     let l = c .before .loop in

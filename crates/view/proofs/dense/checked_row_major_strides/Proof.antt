@@ -1,3 +1,4 @@
+-- The strides stored so far, last one first, stand before those of the extents still left, last one first.
 use mathlib.Core.Path.{_≡_, refl, sym, ap, subst, _∙_}
 use mathlib.Core.Bool.{Bool}
 use mathlib.Core.List.{List, reverse}
@@ -5,13 +6,13 @@ use Prim.Native.Nat.{ℕ, _+_, _-_, _≤_}
 use native.Mathlib.Omega.{arith}
 use lib.IntN.{pos}
 use lib.ListN.{replicate, length, take, drop, getD, length-set}
+use borrow.Author.Needs.{needs}
 use mir.Syntax.{w64}
 use mir.ValLaws.{toZ-pos}
 use Rattle.integer.specs.Range.{mostSigned}
 use Rattle.specification.specs.Beside.{running, zeroAmong}
 use Rattle.view.specs.Dense.{stepOf, denseAfter}
 use Rattle.view.proofs.DenseLaws.{behind, step-most, row-many, row-done, row-refused, backward-turn, backward-stop, backward-start, backward-end}
-use borrow.Author.Needs.{needs}
 use Rattle.view.proofs.dense.checked_row_major_strides.Statement.{statement}
 use Rattle.view.proofs.dense.checked_row_major_strides.Tie as tie
 
@@ -49,63 +50,48 @@ module _ (t : tie.After-next-step Inv-loop μ-loop) where
 is-empty : (a : tie.After-empty-layout Inv-loop μ-loop) → a .empty-layout .result ≡ zeroAmong (a .before .before .before .args .extents .now)
 is-empty a = a .empty-layout .ensures
 
--- src/dense.rt:85:9
 no-strides-requires : tie.Need-no-strides-requires Inv-loop μ-loop
 no-strides-requires c κs = search needs
 
--- src/dense.rt:85:9
 returns : tie.Need-returns Inv-loop μ-loop
 returns c = c .no-strides .ensures ∙ ap denseAfter (sym (row-many _ (c .before .if1 .taken)))
 
--- src/dense.rt:87:9
 empty-layout-requires : tie.Need-empty-layout-requires Inv-loop μ-loop
 empty-layout-requires c κs = search needs
 
--- src/dense.rt:91:5
 loop-holds : tie.Need-loop-holds Inv-loop μ-loop
 loop-holds c = (search needs, search needs, refl, search needs, backward-start _ (c .before .before .before .args .extents .now) (replicate 16 (pos 0)) 1)
 
--- src/dense.rt:92:9
 sub-i : tie.Need-sub-i Inv-loop μ-loop
 sub-i c = search needs
 
--- src/dense.rt:93:22
 cast-strides : tie.Need-cast-strides Inv-loop μ-loop
 cast-strides c = record { sfits = omega arith }
 
--- src/dense.rt:93:9
 mul-strides : tie.Need-mul-strides Inv-loop μ-loop
 mul-strides c = omega arith
 
--- src/dense.rt:93:9
 array-set-from-strides : tie.Need-array-set-from-strides Inv-loop μ-loop
 array-set-from-strides c = omega arith
 
--- src/dense.rt:94:56
 mul-next-step : tie.Need-mul-next-step Inv-loop μ-loop
 mul-next-step c = omega arith
 
--- src/dense.rt:94:56
 shared-slice-read-next-step : tie.Need-shared-slice-read-next-step Inv-loop μ-loop
 shared-slice-read-next-step c = omega arith
 
--- src/dense.rt:94:33
 next-step-requires : tie.Need-next-step-requires Inv-loop μ-loop
 next-step-requires c κs = search needs
 
--- src/dense.rt:94:25
 enum-known-next : tie.Need-enum-known-next Inv-loop μ-loop
 enum-known-next c = search needs
 
--- src/dense.rt:95:28
 enum-told : tie.Need-enum-told Inv-loop μ-loop
 enum-told c = search needs
 
--- src/dense.rt:95:13
 no-strides-requires-2 : tie.Need-no-strides-requires-2 Inv-loop μ-loop
 no-strides-requires-2 c κs = search needs
 
--- src/dense.rt:95:13
 returns-2 : tie.Need-returns-2 Inv-loop μ-loop
 returns-2 c =
     let t = c .before .before .before in
@@ -114,11 +100,9 @@ returns-2 c =
     let r = backward-stop (empty t) (es t) (l .strides) (place t) (l .step) (so-far t) (omega arith) o in
     c .no-strides2 .ensures ∙ ap denseAfter (sym (row-refused (es t) (l .inv .1) (ap (λ (b : Bool). running b 1 (reverse (es t))) (sym (is-empty (atLoop t .before))) ∙ r)))
 
--- src/dense.rt:91:5
 loop-less : tie.Need-loop-less Inv-loop μ-loop
 loop-less c = omega arith
 
--- src/dense.rt:91:5
 loop-again : tie.Need-loop-again Inv-loop μ-loop
 loop-again c =
     let t = c .before .before .before in
@@ -131,7 +115,6 @@ loop-again c =
       rw (toZ-pos w64 (l .step) (omega arith)) (backward-turn (empty t) (es t) (l .strides) (place t) (l .step) (so-far t) _ (omega arith) (omega arith) o),
     )
 
--- src/dense.rt:81:1
 returns-3 : tie.Need-returns-3 Inv-loop μ-loop
 returns-3 c =
     let l = c .before .loop in

@@ -1,33 +1,29 @@
+-- The product is bounded by 2^63 - 1; what does not fit depends on whether the layout is empty.
 use mathlib.Core.Path.{sym, ap, _∙_}
 use Prim.Native.Nat.{_*_}
+use borrow.Author.Needs.{needs}
 use Rattle.integer.specs.Range.{mostSigned}
 use Rattle.specification.specs.Outcome.{done}
 use Rattle.view.proofs.BoundedLaws.{is-bounded, over-bounded}
 use Rattle.view.proofs.DenseLaws.{step-fits, step-full-product, step-full-extent, fullStep}
-use borrow.Author.Needs.{needs}
 use Rattle.view.proofs.dense.next_step.Statement.{statement}
 use Rattle.view.proofs.dense.next_step.Tie as tie
 
--- src/dense.rt:27:13
 bounded-product-requires : tie.Need-bounded-product-requires
 bounded-product-requires c κs = search needs
 
--- src/dense.rt:29:25
 enum-known-product : tie.Need-enum-known-product
 enum-known-product c = search needs
 
--- src/dense.rt:31:20
 enum-told : tie.Need-enum-told
 enum-told c = search needs
 
--- src/dense.rt:23:1
 returns : tie.Need-returns
 returns c =
     let a = c .before .before .before .before .before .args in
     let b = is-bounded mostSigned (a .step * a .extent) (c .before .product .given .0 .0) (c .before .before .before .bounded-product .ensures) (c .before .product .given .1) in
     ap done (b .0) ∙ sym (step-fits (a .empty) (a .step) (a .extent) (b .1) (search needs))
 
--- src/dense.rt:23:1
 returns-2 : tie.Need-returns-2
 unfolding fullStep
 returns-2 c =
@@ -35,7 +31,6 @@ returns-2 c =
     let a = p .before .before .args in
     sym (step-full-product (a .empty) (a .step) (a .extent) (over-bounded mostSigned (a .step * a .extent) (p .bounded-product .ensures) (c .before .enum-told .given .1)) ∙ rw (c .if2 .taken))
 
--- src/dense.rt:23:1
 returns-3 : tie.Need-returns-3
 unfolding fullStep
 returns-3 c =
@@ -43,14 +38,12 @@ returns-3 c =
     let a = p .before .before .args in
     sym (step-full-product (a .empty) (a .step) (a .extent) (over-bounded mostSigned (a .step * a .extent) (p .bounded-product .ensures) (c .before .enum-told .given .1)) ∙ rw (c .if2 .left))
 
--- src/dense.rt:23:1
 returns-4 : tie.Need-returns-4
 unfolding fullStep
 returns-4 c =
     let a = c .before .before .args in
     sym (step-full-extent (a .empty) (a .step) (a .extent) (c .before .if1 .left) ∙ rw (c .if3 .taken))
 
--- src/dense.rt:23:1
 returns-5 : tie.Need-returns-5
 unfolding fullStep
 returns-5 c =

@@ -1,34 +1,29 @@
+-- Index, product and sum are tested in this order; each failed test is refusal 3.
 use mathlib.Core.Path.{sym, _∙_}
+use borrow.Author.Needs.{needs}
 use mir.Syntax.{w64}
 use mir.ValLaws.{toZ-ofZ}
 use Rattle.integer.specs.Multiple.{_·_}
 use Rattle.integer.proofs.CheckedLaws.{checked-mul-is, fits-arm, over-arm}
 use Rattle.view.proofs.IndexedLaws.{added-wide, added-over, added-checked}
-use borrow.Author.Needs.{needs}
 use Rattle.view.proofs.offset.add_indexed.Statement.{statement}
 use Rattle.view.proofs.offset.add_indexed.Tie as tie
 
--- src/offset.rt:28:9
 returns : tie.Need-returns
 returns c = let a = c .before .args in sym (added-wide (a .sum) (a .index) (a .stride) (c .if1 .taken))
 
--- src/offset.rt:30:9
 checked-mul-requires : tie.Need-checked-mul-requires
 checked-mul-requires c κs = search needs
 
--- src/offset.rt:32:26
 enum-told : tie.Need-enum-told
 enum-told c = search needs
 
--- src/offset.rt:33:23
 enum-known-product : tie.Need-enum-known-product
 enum-known-product c = search needs
 
--- src/offset.rt:33:32
 checked-add-requires : tie.Need-checked-add-requires
 checked-add-requires c κs = search needs
 
--- src/offset.rt:24:1
 returns-2 : tie.Need-returns-2
 returns-2 c =
     let m = c .before .before in
@@ -36,7 +31,6 @@ returns-2 c =
     sym (added-over (a .sum) (a .index) (a .stride) (m .before .if1 .left)
     (over-arm (a .index · (a .stride)) (checked-mul-is (a .index) (a .stride) (m .before .before .fits .stride) (m .checked-mul .ensures)) (c .enum-told .given .1)))
 
--- src/offset.rt:24:1
 returns-3 : tie.Need-returns-3
 returns-3 c =
     let m = c .before .before .before .before in

@@ -1,9 +1,11 @@
+-- The sum over all axes is the sum so far with the axes and indices still left.
 use mathlib.Core.Path.{_≡_, sym, ap, _∙_}
 use mathlib.Core.List.{List, _∷_}
 use Prim.Native.Nat.{ℕ, _+_, _-_, _≤_}
 use native.Mathlib.Omega.{arith}
 use lib.IntN.{ℤ}
 use lib.ListN.{length, drop, getD}
+use borrow.Author.Needs.{needs}
 use mir.Syntax.{w64}
 use mir.Val.{ofZ, toZ}
 use mir.ValLaws.{toZ-ofZ}
@@ -15,7 +17,6 @@ use Rattle.view.specs.Indexed.{addedOf}
 use Rattle.view.specs.Model.{modelOf, axisOf}
 use Rattle.view.proofs.ModelLaws.{drop-axesIn}
 use Rattle.view.proofs.IndexedLaws.{indexed-bad, indexed-over, indexed-on, indexed-end, index-here}
-use borrow.Author.Needs.{needs}
 use Rattle.view.proofs.offset.sum_indexed.Statement.{statement}
 use Rattle.view.proofs.offset.sum_indexed.Tie as tie
 
@@ -60,66 +61,51 @@ added : (a : tie.After-add-indexed Inv-loop μ-loop) → let t = a .before .befo
     a .add-indexed .result ≡ addedOf (sum t) (getD (vector t) (i t) 0) (axis t .stride)
 added a = let t = a .before .before in a .add-indexed .ensures ∙ ap (addedOf (sum t) (getD (vector t) (i t) 0)) (stride-is t)
 
--- src/offset.rt:44:5
 loop-holds : tie.Need-loop-holds Inv-loop μ-loop
 loop-holds c = (search needs, search needs, rw (toZ-ofZ w64 _ (record { sfits = c .struct-told .given .1 .0 .1 .1 .0 .1 })))
 
--- src/offset.rt:45:22
 mul-extent : tie.Need-mul-extent Inv-loop μ-loop
 mul-extent c = search needs
 
--- src/offset.rt:45:22
 element-copy-out-extent : tie.Need-element-copy-out-extent Inv-loop μ-loop
 element-copy-out-extent c = search needs
 
--- src/offset.rt:46:22
 mul-stride : tie.Need-mul-stride Inv-loop μ-loop
 mul-stride c = search needs
 
--- src/offset.rt:46:22
 element-copy-out-stride : tie.Need-element-copy-out-stride Inv-loop μ-loop
 element-copy-out-stride c = search needs
 
--- src/offset.rt:47:17
 mul-x : tie.Need-mul-x Inv-loop μ-loop
 mul-x c = search needs
 
--- src/offset.rt:47:17
 shared-slice-read-x : tie.Need-shared-slice-read-x Inv-loop μ-loop
 shared-slice-read-x c = search needs
 
--- src/offset.rt:49:13
 returns : tie.Need-returns Inv-loop μ-loop
 returns c = let t = c .before in sym (here t ∙ indexed-bad (i t) (sum t) (axis t) (rest t) _ _ (c .if1 .taken))
 
--- src/offset.rt:51:35
 add-indexed-requires : tie.Need-add-indexed-requires Inv-loop μ-loop
 add-indexed-requires c κs = search needs
 
--- src/offset.rt:51:27
 enum-known-next : tie.Need-enum-known-next Inv-loop μ-loop
 enum-known-next c = search needs
 
--- src/offset.rt:52:37
 enum-told : tie.Need-enum-told Inv-loop μ-loop
 enum-told c = search needs
 
--- src/offset.rt:52:13
 returns-2 : tie.Need-returns-2 Inv-loop μ-loop
 returns-2 c =
     let a = c .before .before in
     let t = a .before .before in
     sym (here t ∙ indexed-over (i t) (sum t) (axis t) (rest t) (getD (vector t) (i t) 0) _ (a .before .if1 .left) (sym (added a) ∙ c .enum-told .given .1))
 
--- src/offset.rt:55:9
 add-i : tie.Need-add-i Inv-loop μ-loop
 add-i c = search needs
 
--- src/offset.rt:44:5
 loop-less : tie.Need-loop-less Inv-loop μ-loop
 loop-less c = omega arith
 
--- src/offset.rt:44:5
 loop-again : tie.Need-loop-again Inv-loop μ-loop
 loop-again c =
     let a = c .before .before .before in
@@ -132,7 +118,6 @@ loop-again c =
           ∙ rw (toZ-ofZ w64 n (record { sfits = c .known-told .given .0 .1 })),
     )
 
--- src/offset.rt:38:1
 returns-3 : tie.Need-returns-3 Inv-loop μ-loop
 returns-3 c =
     let l = c .before .loop in

@@ -1,7 +1,9 @@
+-- Refusals 1 and 3, then 4, then the sum over the axes.
 use mathlib.Core.Path.{_≡_, refl, sym, ap, _∙_}
 use Prim.Native.Nat.{_≤_}
 use native.Mathlib.Omega.{arith}
 use borrow.Author.Tests.{eq-eqb, ne-eqb}
+use borrow.Author.Needs.{needs}
 use Rattle.specification.specs.Outcome.{refuseIf, _>>_}
 use Rattle.specification.specs.Layout.{handed}
 use Rattle.specification.specs.Beside.{indexedOffset}
@@ -9,7 +11,6 @@ use Rattle.view.specs.Answers.{outcomeOf}
 use Rattle.view.specs.Model.{modelOf}
 use Rattle.view.proofs.ModelLaws.{length-axesIn}
 use Rattle.view.proofs.HandedLaws.{handed-passed}
-use borrow.Author.Needs.{needs}
 use Rattle.view.proofs.layout.Layout.indexed_offset.Statement.{statement}
 use Rattle.view.proofs.layout.Layout.indexed_offset.Tie as tie
 
@@ -21,28 +22,22 @@ few : (a : tie.After-enum-told) → a .before .before .before .before .args .sel
 few a = let l = a .before .before .before .before .args .self in
     omega (arith, length-axesIn (l .extents) (l .strides) (l .rank), handed-passed (modelOf l) _ (sym (handed-is (a .before .before)) ∙ ap outcomeOf (a .enum-told .given .1)))
 
--- src/offset.rt:65:13
 handed-refusal-requires : tie.Need-handed-refusal-requires
 handed-refusal-requires c κs = search needs
 
--- src/offset.rt:67:29
 enum-known-answer : tie.Need-enum-known-answer
 enum-known-answer c = search needs
 
--- src/offset.rt:69:21
 enum-told : tie.Need-enum-told
 enum-told c = search needs
 
--- src/offset.rt:73:21
 sum-indexed-requires : tie.Need-sum-indexed-requires
 sum-indexed-requires c κs = (few (c .before), c .if1 .left)
 
--- src/offset.rt:62:5
 returns : tie.Need-returns
 unfolding indexedOffset refuseIf _>>_
 returns c = rw (← handed-is (c .before .before .before), c .before .answer .given .1)
 
--- src/offset.rt:62:5
 returns-2 : tie.Need-returns-2
 unfolding indexedOffset refuseIf _>>_
 returns-2 c =
@@ -50,7 +45,6 @@ returns-2 c =
     let l = a .before .before .args .self in
     rw (← handed-is a, c .before .enum-told .given .1, length-axesIn (l .extents) (l .strides) (l .rank), ne-eqb _ _ (c .if1 .taken))
 
--- src/offset.rt:62:5
 returns-3 : tie.Need-returns-3
 unfolding indexedOffset refuseIf _>>_
 returns-3 c =

@@ -1,39 +1,33 @@
+-- What the bounds answer is what check-in answers; the layout beside it is filled from the lists, or empty.
 use mathlib.Core.Path.{sym, ap, _∙_}
+use borrow.Author.Needs.{needs}
 use Rattle.view.specs.Answers.{outcomeOf}
 use Rattle.view.proofs.CheckInLaws.{checked-refused, checked-done}
-use borrow.Author.Needs.{needs}
 use Rattle.view.proofs.layout.Layout.new.Statement.{statement}
 use Rattle.view.proofs.layout.Layout.new.Tie as tie
 
--- src/check_in.rt:50:13
 validate-bounds-requires : tie.Need-validate-bounds-requires
 validate-bounds-requires c κs = search needs
 
--- src/check_in.rt:52:29
 enum-known-answer : tie.Need-enum-known-answer
 enum-known-answer c = search needs
 
--- src/check_in.rt:53:21
 no-layout-requires : tie.Need-no-layout-requires
 no-layout-requires c κs = search needs
 
--- src/check_in.rt:60:21
 enum-told : tie.Need-enum-told
 enum-told c = search needs
 
--- src/check_in.rt:60:21
 filled-requires : tie.Need-filled-requires
 filled-requires c κs =
     let p = checked-done _ _ _ _ (sym (c .before .before .validate-bounds .ensures) ∙ ap outcomeOf (c .enum-told .given .1)) in
     (p .0, sym (p .1))
 
--- src/check_in.rt:47:5
 returns : tie.Need-returns
 returns c =
     let e = checked-refused _ _ _ _ (sym (c .before .before .before .before .validate-bounds .ensures) ∙ ap outcomeOf (c .before .before .answer .given .1)) in
     rw (e, c .no-layout .ensures)
 
--- src/check_in.rt:47:5
 returns-2 : tie.Need-returns-2
 returns-2 c =
     let e = checked-done _ _ _ _ (sym (c .before .before .before .validate-bounds .ensures) ∙ ap outcomeOf (c .before .enum-told .given .1)) .2 in

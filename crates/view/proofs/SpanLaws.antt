@@ -1,30 +1,26 @@
--- The sums of spans, one axis after another, and what they say of the reach.
+-- The two sums of spans, each with its limit, and one axis after another.
 use mathlib.Core.Path.{_≡_, refl, sym, _∙_}
-use mathlib.Core.Bool.{Bool, true, false, _&&_}
+use mathlib.Core.Bool.{Bool, true, false, _&&_, and-false}
+use mathlib.Core.List.{List, [], _∷_}
 use Prim.Native.Nat.{ℕ, _+_, _-_, _*_, _≤_, _<_}
 use native.Mathlib.Numerals.{add-one}
 use native.Mathlib.Omega.{arith}
-use mathlib.Core.List.{List, [], _∷_}
 use lib.IntN.{ℤ, pos}
 use lib.ListN.{length, drop, getD, drop-of-length-le}
 use lib.Seq.{drop-cons}
+use lib.Dec.{leb}
+use borrow.Author.Tests.{le-leb, lt-leb, leb-true}
 use Rattle.integer.specs.Parts.{posPart, negPart}
 use Rattle.integer.proofs.MultipleLaws.{posPart-·, negPart-·}
 use Rattle.specification.specs.Axis.{Axis, axesOf, span, upward, downward}
-use Rattle.view.specs.Model.{axisOf}
-use lib.Dec.{ltb, leb}
-use borrow.Author.Tests.{le-leb, lt-leb, leb-true, lt-ltb, le-ltb}
-use Rattle.integer.specs.Range.{mostSigned}
 use Rattle.specification.specs.Tests.{if_then_else_}
-use Rattle.view.specs.Reach.{spansUpTo, tooWideExtent}
+use Rattle.view.specs.Model.{axisOf}
+use Rattle.view.specs.Reach.{spansUpTo}
 use Rattle.view.specs.declared.bounds.Spans.{Spans}
 use Rattle.view.specs.declared.bounds.Spans.the-variants as spans
 
-and-false : (b : Bool) → (b && false) ≡ false
-and-false true = refl
-and-false false = refl
-
 -- ---- both sums, each with its limit
+
 pub spans-are : (above below : ℕ) (axes : List Axis) → upward axes ≤ above → downward axes ≤ below
     → spansUpTo above below axes ≡ spans.Of (upward axes) (downward axes)
 spans-are above below axes h k = rw (le-leb (upward axes) above h, le-leb (downward axes) below k)
@@ -52,14 +48,6 @@ pub spans-over : {r : Spans} (above below : ℕ) (axes : List Axis) → r ≡ sp
 spans-over above below axes e k u d =
     let q = sym (spans-are above below axes u d) ∙ sym e ∙ k in
     let n : _≡_ {A = ℕ} 0 1 = cc in omega arith
-
--- ---- an extent that is too wide
-
-pub wide-extent : (n : ℕ) → 9223372036854775808 < n → tooWideExtent n ≡ true
-wide-extent n h = rw (lt-ltb 1 n (omega arith), lt-ltb mostSigned (n - 1) (omega arith))
-
-pub narrow-extent : (n : ℕ) → n ≤ 9223372036854775808 → tooWideExtent n ≡ false
-narrow-extent n h = rw (le-ltb mostSigned (n - 1) (omega arith)) (and-false (ltb 1 n))
 
 -- ---- sums of spans, from axis i on
 
