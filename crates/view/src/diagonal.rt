@@ -84,7 +84,7 @@ fn place(mask: u16, root: usize) -> usize
 impl Ties {
     // One pair more: 5 with the larger axis outside the rank, then 5 for equal axes; else both classes get the lower of their roots.
     // After a refusal nothing changes.
-    pub fn tie(self, a: usize, b: usize) -> Self
+    fn tie(self, a: usize, b: usize) -> Self
         requires { ⌜ self .rank ≤ 16 ⌝ }
         ensures { λ r. ⌜ ((rank : ℕ) (pairs : List (ℕ × ℕ)) → TiesOf rank pairs self → TiesOf rank (pairs ++ ((a, b) ∷ [])) r) ⌝ }
     {
@@ -163,7 +163,7 @@ fn fused(l: Layout, t: Ties) -> Viewed
 
 impl Layout {
     // Each axis is a class of its own. A layout with too many axes has none: it is refused before its pairs.
-    pub fn untied(self) -> Ties
+    fn untied(self) -> Ties
         ensures { λ r. ⌜ TiesOf (rankTo16 (self .rank)) [] r ⌝ }
     {
         let rank = self.rank;
@@ -176,7 +176,7 @@ impl Layout {
     }
 
     // The layout after its pairs: the refusals in 01's order and the layout as it was, or the fused layout.
-    pub fn tied(self, t: Ties) -> Viewed
+    fn tied(self, t: Ties) -> Viewed
         requires { ⌜ SomeTies (rankTo16 (self .rank)) t ⌝ }
         ensures { λ r. ⌜ ((pairs : List (ℕ × ℕ)) → TiesOf (rankTo16 (self .rank)) pairs t → viewedOf r ≡ diagonalView (modelOf self) pairs) ⌝ }
     {
