@@ -1,6 +1,7 @@
 pub mod TwosLaws
 pub mod NumberLaws
 pub mod FieldLaws
+pub mod CallListLaws
 pub mod NormalAnswers
 pub mod MergeLaws
 pub mod WriterLaws
