@@ -4,3 +4,6 @@ pub mod FieldLaws
 pub mod FormLaws
 pub mod FormTested
 pub mod FrontLaws
+pub mod NormalAnswers
+pub mod MergeLaws
+pub mod WriterLaws

@@ -2,5 +2,6 @@
 pub mod bytes;
 pub mod fields;
 pub mod form;
+pub mod normal;
 pub mod reader;
 pub mod step;
