@@ -1,4 +1,4 @@
--- Laws of the parts of the reader's test for a normal form: merged axes one by one, the empty form, and the count of positions.
+-- Laws of the parts of the reader's test for a normal form: merged axes one by one, and the empty form.
 use mathlib.Core.Path.{_≡_, refl, sym, ap, subst, _∙_}
 use mathlib.Core.Bool.{Bool, true, false, not, _&&_}
 use mathlib.Core.List.{List, [], _∷_}
@@ -6,39 +6,24 @@ use Prim.Native.Nat.{ℕ, _+_, _≤_, _<_}
 use native.Mathlib.Omega.{arith}
 use lib.Dec.{T, eqb, ltb}
 use lib.IntN.{ℤ, pos}
-use lib.ListN.{length, take, drop, getD}
-use lib.Seq.{length-take-le}
+use lib.ListN.{length, drop, getD}
 use borrow.Author.Tests.{lt-ltb, le-ltb, ltb-true, eqb-true, ne-eqb}
 use mir.Syntax.{w64}
 use mir.Val.{SFits, ofZ}
 use Rattle.integer.specs.Multiple.{_·_, eqZ}
-use Rattle.integer.specs.Range.{fits}
-use Rattle.integer.proofs.CheckedLaws.{fits-of-sfits}
 use Rattle.integer.proofs.MachineInteger.{equal-tested}
-use Rattle.integer.proofs.MultipleLaws.{eqZ-yes}
 use Rattle.integer.proofs.PartLaws.{parts-fit}
 use Rattle.lists.specs.Table.{table}
 use Rattle.lists.proofs.TableLaws.{table-zero, drop-table-end}
-use Rattle.specification.specs.Tests.{if_then_else_, some}
-use Rattle.specification.specs.Axis.{Axis, extents, axesOf, isEmpty, positions}
+use Rattle.specification.specs.Tests.{some}
+use Rattle.specification.specs.Axis.{Axis, isEmpty}
 use Rattle.specification.specs.Layout.{LayoutM, rank}
-use Rattle.specification.specs.Normal.{continues, overfull}
+use Rattle.specification.specs.Normal.{continues}
 use Rattle.specification.specs.Record.{isMerged, isEmptyForm}
 use Rattle.specification.proofs.OutcomeLaws.{false-unless}
 use Rattle.specification.proofs.ReachLaws.{and-true}
-use Rattle.view.specs.Count.{countOf}
-use Rattle.view.specs.declared.count.Count.{Count}
-use Rattle.view.specs.declared.count.Count.the-variants.{Of, TooMany}
 use Rattle.view.specs.Model.{axisOf, axesIn}
-use Rattle.view.proofs.ModelLaws.{drop-axesIn, axesOf-take}
-
--- ---- a stride that equals a product
-
--- a product out of range equals no stride
-pub over-not-equal : (x z : ℤ) → SFits w64 x → fits z ≡ false → eqZ x z ≡ false
-over-not-equal x z f o = false-unless (eqZ x z) (λ e. e) (λ e.
-    let q : x ≡ z = eqZ-yes x z (subst T (sym e) tt) in
-    subst T (sym (fits-of-sfits x f) ∙ ap fits q ∙ o) tt)
+use Rattle.view.proofs.ModelLaws.{drop-axesIn}
 
 -- ---- merged axes, from axis i on
 
@@ -116,30 +101,3 @@ empty-form-empty l h = by (l .axes) h
     by (a ∷ rest) e =
         let p = and-true (eqZ (l .offset) (pos 0) && eqb (length rest) 0 && eqb (a .extent) 0) (eqZ (a .stride) (pos 0)) e in
         rw (and-true (eqZ (l .offset) (pos 0) && eqb (length rest) 0) (eqb (a .extent) 0) (p .0) .1)
-
--- ---- the count of positions
-
-extents-axesOf : (es : List ℕ) (ss : List ℤ) → length es ≡ length ss → extents (axesOf es ss) ≡ es
-unfolding axesOf
-extents-axesOf [] ss h = refl
-extents-axesOf (e ∷ es) [] h = absurd (omega arith)
-extents-axesOf (e ∷ es) (s ∷ ss) h = ap (λ (r : List ℕ). e ∷ r) (extents-axesOf es ss (omega arith))
-
--- the extents of the first n axes
-pub extents-axesIn : (es : List ℕ) (ss : List ℤ) (n : ℕ) → n ≤ length es → n ≤ length ss → extents (axesIn es ss n) ≡ take n es
-extents-axesIn es ss n h k =
-    ap extents (sym (axesOf-take es ss n h k)) ∙ extents-axesOf (take n es) (take n ss) (length-take-le n es h ∙ sym (length-take-le n ss k))
-
-pub counted-few : {r : Count} {k : ℕ} (axes : List Axis) → r ≡ countOf axes → r ≡ Of k → overfull axes ≡ false
-counted-few {k} axes e f = by (overfull axes) (sym f ∙ e)
-  where
-    by : (t : Bool) → Of k ≡ (if t then TooMany else Of (positions axes)) → t ≡ false
-    by true q = let z : _≡_ {A = ℕ} 0 1 = cc in absurd (omega arith)
-    by false q = refl
-
-pub counted-many : {r : Count} (axes : List Axis) → r ≡ countOf axes → r ≡ TooMany → overfull axes ≡ true
-counted-many axes e f = by (overfull axes) (sym f ∙ e)
-  where
-    by : (t : Bool) → TooMany ≡ (if t then TooMany else Of (positions axes)) → t ≡ true
-    by true q = refl
-    by false q = let z : _≡_ {A = ℕ} 0 1 = cc in absurd (omega arith)

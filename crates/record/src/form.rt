@@ -2,30 +2,17 @@
 ghost use mathlib.Core.Path.{_≡_};
 ghost use mathlib.Core.Bool.{true};
 ghost use Prim.Native.Nat.{_≤_};
-ghost use Rattle.integer.specs.Multiple.{_·_, eqZ};
 ghost use Rattle.specification.specs.Normal.{overfull};
 ghost use Rattle.specification.specs.Record.{isMerged, isEmptyForm, isNormal, withBuffer};
 ghost use Rattle.view.specs.Model.{modelOf};
 ghost use Rattle.view.specs.Reach.{reachOf};
 ghost use Rattle.record.specs.Reader.{inLongest};
-use integer::signed::Checked;
-use integer::signed::checked_mul;
+use crate::normal::continues;
+use crate::normal::layout_count;
 use view::accepted::layout_reach;
 use view::bounds::Reach;
 use view::count::Count;
-use view::count::checked_element_count;
 use view::layout::Layout;
-
-// Whether a stride is the extent times the stride of the axis before it. A product that no i64 holds equals no stride.
-fn continues(extent: u64, stride: i64, next: i64) -> bool
-    ensures { λ r. ⌜ r ≡ eqZ next (extent · stride) ⌝ }
-{
-    let product = checked_mul(stride, extent);
-    match product {
-        Checked::Over => false,
-        Checked::Fits(exact) => next == exact,
-    }
-}
 
 // Whether each extent is above 1 and no axis continues the one before it.
 fn is_merged(layout: Layout) -> bool
@@ -74,9 +61,7 @@ fn is_overfull(layout: Layout) -> bool
     requires { ⌜ layout .rank ≤ 16 ⌝ }
     ensures { λ r. ⌜ r ≡ overfull (modelOf layout .axes) ⌝ }
 {
-    let rank = layout.rank;
-    let extents = layout.extents;
-    let count = checked_element_count(&extents[..rank]);
+    let count = layout_count(layout);
     match count {
         Count::Of(_) => false,
         Count::TooMany => true,

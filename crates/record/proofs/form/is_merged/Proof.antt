@@ -62,7 +62,7 @@ returns-2 : tie.Need-returns-2 Inv-loop μ-loop
 returns-2 c =
     let p = c .before .before .before .before .before in
     let l = p .before .before .args .t1 in
-    sym (p .loop .inv .1 ∙ merged-short (l .extents) (l .strides) (l .rank) (p .loop .i) (omega arith) (c .if2 .taken))
+    sym (p .loop .inv .1 ∙ merged-short (l .extents) (l .strides) (l .rank) (p .loop .i) (omega arith) (omega arith))
 
 continues-requires : tie.Need-continues-requires Inv-loop μ-loop
 continues-requires c κs = search needs

@@ -18,7 +18,7 @@ part-result-end c = search needs
 
 returns : tie.Need-returns
 unfolding restOf
-returns c = rw (part-to-end, drop-length, lt-ltb _ _ (c .before .if1 .taken))
+returns c = rw (part-to-end, drop-length, lt-ltb _ 2 (c .before .if1 .taken))
 
 length-field-requires : tie.Need-length-field-requires
 length-field-requires c κs = search needs
@@ -36,7 +36,7 @@ returns-2 : tie.Need-returns-2
 unfolding restOf
 returns-2 c =
     let d = c .before .before in
-    rw (part-to-end, drop-length, le-ltb _ _ (d .before .if1 .left), ← d .length-field .ensures, lt-ltb _ _ (c .before .if2 .taken))
+    rw (part-to-end, drop-length, le-ltb _ 2 (d .before .if1 .left), ← d .length-field .ensures, lt-ltb _ 13 (c .before .if2 .taken))
 
 sub-result-3 : tie.Need-sub-result-3
 sub-result-3 c = search needs
@@ -51,7 +51,7 @@ returns-3 : tie.Need-returns-3
 unfolding restOf
 returns-3 c =
     let d = c .before .before .before in
-    rw (part-to-end, drop-length, le-ltb _ _ (d .before .if1 .left), ← d .length-field .ensures, le-ltb _ _ (c .before .before .if2 .left), lt-ltb _ _ (c .before .if3 .taken))
+    rw (part-to-end, drop-length, le-ltb _ 2 (d .before .if1 .left), ← d .length-field .ensures, le-ltb _ 13 (c .before .before .if2 .left), lt-ltb _ _ (c .before .if3 .taken))
 
 sub-result-4 : tie.Need-sub-result-4
 sub-result-4 c = search needs
@@ -66,7 +66,7 @@ returns-4 : tie.Need-returns-4
 unfolding restOf
 returns-4 c =
     let d = c .before .before .before in
-    rw (part-to-end, le-ltb _ _ (d .before .if1 .left), ← d .length-field .ensures, le-ltb _ _ (c .before .before .if2 .left), le-ltb _ _ (c .before .if3 .left))
+    rw (part-to-end, le-ltb _ 2 (d .before .if1 .left), ← d .length-field .ensures, le-ltb _ 13 (c .before .before .if2 .left), le-ltb _ _ (c .before .if3 .left))
 
 pub step-over-spec : {M : Type 1} → statement M
 step-over-spec =
