@@ -8,9 +8,3 @@ pub mod WriterLaws
 pub mod FormLaws
 pub mod FormTested
 pub mod FrontLaws
-pub mod FormLaws
-pub mod FormTested
-pub mod FrontLaws
-pub mod NormalAnswers
-pub mod MergeLaws
-pub mod WriterLaws
