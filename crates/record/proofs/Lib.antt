@@ -8,3 +8,5 @@ pub mod WriterLaws
 pub mod FormLaws
 pub mod FormTested
 pub mod FrontLaws
+pub mod JudgedLaws
+pub mod ReadLaws

@@ -6,3 +6,5 @@ pub mod form;
 pub mod normal;
 pub mod reader;
 pub mod step;
+pub mod read;
+pub mod writer;
