@@ -10,3 +10,4 @@ pub mod FormTested
 pub mod FrontLaws
 pub mod JudgedLaws
 pub mod ReadLaws
+pub mod RunningLaws
