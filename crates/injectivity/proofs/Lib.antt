@@ -1,0 +1,2 @@
+pub mod AxesLaws
+pub mod ActiveLaws
