@@ -1,2 +1,4 @@
+pub mod InputsLaws
+pub mod PlanLaws
 pub mod AxesLaws
 pub mod ActiveLaws
