@@ -1,4 +1,5 @@
--- What `checkedOf` gives, by the two parts of an integer, and what a caller knows in each arm of a `match` on such an answer.
+-- What `checkedOf` gives, by the two parts of an integer, and what a caller knows in each arm of a `match` on such an answer:
+--     let w = fits-arm (n · s) (checked-mul-is n s f (c .checked-mul .ensures)) (c .p .given .1) in rw (w .test) ..
 use mathlib.Core.Bool.{Bool, _&&_, cond, false, true}
 use mathlib.Core.Path.{_∙_, _≡_, ap, refl, subst, sym}
 use Prim.Native.Nat.{_*_, _+_, _<_, _^_, _≤_, ℕ}

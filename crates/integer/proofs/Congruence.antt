@@ -1,5 +1,4 @@
 -- Laws of congruence, each by two multiples that `omega` adds and cancels; and an inverse, by the coefficient that Euclid's remainders leave.
-use mathlib.Core.Option.{none}
 use mathlib.Core.Path.{_∙_, _≡_, ap, sym}
 use Prim.Native.Nat.{_%_, _*_, _+_, _-_, _/_, _<_, suc, zero, ℕ}
 use native.Mathlib.Nat.{add-mul-mod-self-right, div-add-mod', div-mul-cancel, eq-of-mul-eq-mul-right, mod-eq-of-lt, mod-lt}
@@ -40,7 +39,8 @@ pub congruent-cancel : (b x y z w : ℕ) → Congruent b (x + z) (y + w) → Con
 congruent-cancel b x y z w c d = record { p = c .p + d .q; q = c .q + d .p; eq = omega (arith, c .eq, d .eq) }
 
 -- A step of Euclid's with coefficients: where r₀ and r₁ are s₀ and s₁ times a, so is the remainder r₂ = r₀ - q r₁, with s₀ - q s₁.
-pub euclid-step : (b a r₀ r₁ r₂ s₀ s₁ s₂ q : ℕ) → Congruent b r₀ (s₀ * a) → Congruent b r₁ (s₁ * a) → r₂ + q * r₁ ≡ r₀ → Congruent b (s₂ + q * s₁) s₀ → Congruent b r₂ (s₂ * a)
+euclid-step : (b a r₀ r₁ r₂ s₀ s₁ s₂ q : ℕ) → Congruent b r₀ (s₀ * a) → Congruent b r₁ (s₁ * a) → r₂ + q * r₁ ≡ r₀ → Congruent b (s₂ + q * s₁) s₀
+    → Congruent b r₂ (s₂ * a)
 euclid-step b a r₀ r₁ r₂ s₀ s₁ s₂ q c₀ c₁ e d = congruent-cancel b r₂ (s₂ * a) (r₁ * q) (s₁ * a * q) top (congruent-mul q c₁)
   where
     top : Congruent b (r₂ + r₁ * q) (s₂ * a + s₁ * a * q)
@@ -62,7 +62,8 @@ coefficientWithin b (suc f) r₀ zero s₀ s₁ = s₀
 coefficientWithin b (suc f) r₀ (suc r₁) s₀ s₁ = coefficientWithin b f (suc r₁) (r₀ % suc r₁) s₁ (subMod b s₀ (r₀ / suc r₁ * s₁))
 
 -- So the answer times a is what `gcdWithin` gives.
-coefficientWithin-is : (a b f r₀ r₁ s₀ s₁ : ℕ) → 0 < b → Congruent b r₀ (s₀ * a) → Congruent b r₁ (s₁ * a) → Congruent b (gcdWithin f r₀ r₁) (coefficientWithin b f r₀ r₁ s₀ s₁ * a)
+coefficientWithin-is : (a b f r₀ r₁ s₀ s₁ : ℕ) → 0 < b → Congruent b r₀ (s₀ * a) → Congruent b r₁ (s₁ * a)
+    → Congruent b (gcdWithin f r₀ r₁) (coefficientWithin b f r₀ r₁ s₀ s₁ * a)
 unfolding coefficientWithin gcdWithin
 coefficientWithin-is a b zero r₀ r₁ s₀ s₁ h c₀ c₁ = c₀
 coefficientWithin-is a b (suc f) r₀ zero s₀ s₁ h c₀ c₁ = c₀
@@ -89,20 +90,26 @@ coefficient-is a b h = coefficientWithin-is a b b a b (1 % b) 0 h one none
 congruent-divided : (g a b s : ℕ) → 0 < g → Congruent (b * g) g (s * (a * g)) → Congruent b 1 (s * a)
 congruent-divided g a b s h c = record { p = c .p; q = c .q; eq = eq-of-mul-eq-mul-right g h (1 + c .p * b) (s * a + c .q * b) (omega (arith, c .eq)) }
 
--- Divided by the greatest common divisor, the coefficient is an inverse.
-pub coefficient-inverse : (a b : ℕ) → 0 < a → 0 < b → Congruent (b / gcd a b) 1 (coefficient a b * (a / gcd a b))
-coefficient-inverse a b ha hb =
+-- Where s times a is the greatest common divisor of a and b modulo b, s is an inverse of a / gcd modulo b / gcd.
+pub inverse-divided : (a b s : ℕ) → 0 < a → Congruent b (gcd a b) (s * a) → Congruent (b / gcd a b) 1 (s * (a / gcd a b))
+inverse-divided a b s h c =
     let ea : a / gcd a b * gcd a b ≡ a = div-mul-cancel (gcd a b) {m = a} (gcd-divides-left a b) in
     let eb : b / gcd a b * gcd a b ≡ b = div-mul-cancel (gcd a b) {m = b} (gcd-divides-right a b) in
-    congruent-divided (gcd a b) (a / gcd a b) (b / gcd a b) (coefficient a b) (gcd-pos a b ha) (retype (gcd a b) (coefficient a b) a b (a / gcd a b * gcd a b) (b / gcd a b * gcd a b) (coefficient-is a b hb) ea eb)
+    congruent-divided (gcd a b) (a / gcd a b) (b / gcd a b) s (gcd-pos a b h) (retype (gcd a b) a b (a / gcd a b * gcd a b) (b / gcd a b * gcd a b) c ea eb)
   where
-    retype : (g s a b a′ b′ : ℕ) → Congruent b g (s * a) → a′ ≡ a → b′ ≡ b → Congruent b′ g (s * a′)
-    retype g s a b a′ b′ c e f = rw (e, f) c
+    retype : (g a b x y : ℕ) → Congruent b g (s * a) → x ≡ a → y ≡ b → Congruent y g (s * x)
+    retype g a b x y c e f = rw (e, f) c
+
+pub coefficient-inverse : (a b : ℕ) → 0 < a → 0 < b → Congruent (b / gcd a b) 1 (coefficient a b * (a / gcd a b))
+coefficient-inverse a b ha hb = inverse-divided a b (coefficient a b) ha (coefficient-is a b hb)
 
 -- With an inverse s of a, the factor a cancels.
 pub congruent-by-inverse : (a b s u w : ℕ) → Congruent b 1 (s * a) → Congruent b (u * a) (w * a) → Congruent b u w
-congruent-by-inverse a b s u w i c = congruent-trans (mine u) (congruent-trans (let m = congruent-mul s c in record { p = m .p; q = m .q; eq = omega (arith, m .eq) }) (congruent-sym (mine w)))
+congruent-by-inverse a b s u w i c = congruent-trans (mine u) (congruent-trans times (congruent-sym (mine w)))
   where
+    times : Congruent b (u * s * a) (w * s * a)
+    times = let m = congruent-mul s c in record { p = m .p; q = m .q; eq = omega (arith, m .eq) }
+
     mine : (x : ℕ) → Congruent b x (x * s * a)
     mine x = let m = congruent-mul x i in record { p = m .p; q = m .q; eq = omega (arith, m .eq) }
 

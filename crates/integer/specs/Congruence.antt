@@ -1,4 +1,4 @@
--- Congruence modulo b, and an inverse modulo b.
+-- Congruence modulo b, and the greatest common divisor as a multiple modulo b.
 use mathlib.Core.Path.{_≡_}
 use Prim.Native.Nat.{ℕ, _+_, _*_, _<_}
 use Rattle.integer.specs.Gcd.{gcd}
@@ -9,7 +9,7 @@ pub record Congruent (b x y : ℕ) : Type 0 where
   pub q : ℕ
   pub eq : x + p * b ≡ y + q * b
 
--- g is the greatest common divisor of a and b, and it is inverse times a modulo b. So inverse is one of a / g modulo b / g.
+-- g is the greatest common divisor of a and b, and is inverse times a modulo b. So inverse times a / g is 1 modulo b / g.
 pub record IsGcdInverse (a b g inverse : ℕ) : Type 0 where
   pub is-gcd : g ≡ gcd a b
   pub below : inverse < b

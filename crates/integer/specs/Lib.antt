@@ -1,3 +1,4 @@
+-- The definitions that contracts and the specification cite.
 pub mod Range
 pub mod Parts
 pub mod Multiple

@@ -4,12 +4,12 @@ use Prim.Native.Nat.{ℕ}
 use lib.Dec.{eqb}
 use lib.IntN.{_*ℤ_, negsuc, pos, ℤ}
 
--- k times s
+-- k times s.
 infixl 75 _·_
 unfoldable pub _·_ : ℕ → ℤ → ℤ
 k · s = pos k *ℤ s
 
--- equality as a test that computes (`ℤ-discrete` of lib.IntN does not unfold outside its module)
+-- Equality as a test that computes: `ℤ-discrete` of lib.IntN does not unfold outside its module.
 unfoldable pub eqZ : ℤ → ℤ → Bool
 eqZ (pos a) (pos b) = eqb a b
 eqZ (pos a) (negsuc b) = false
