@@ -1,0 +1,10 @@
+mod Telling
+mod Rearranging
+mod Parting
+mod Halves
+mod BitLaws
+mod Walk
+mod Seen
+mod Listing
+mod BlockSums
+mod Answers
