@@ -1,3 +1,9 @@
 pub mod TwosLaws
 pub mod NumberLaws
 pub mod FieldLaws
+pub mod NormalAnswers
+pub mod MergeLaws
+pub mod WriterLaws
+pub mod FormLaws
+pub mod FormTested
+pub mod FrontLaws

@@ -13,7 +13,7 @@ use Rattle.specification.specs.Search.{ActiveAxis, lengths, spanSum, half, twoD
 use Rattle.specification.specs.Verdict.{Plan, answered, Distinct as isDistinct, Repeated as isRepeated, hit, placed, searched, lower, longer, byMany, pastSearch}
 use Rattle.specification.proofs.Digits.{PositiveExtents, none as no-extents, more}
 use Rattle.specification.proofs.AxisOrder.{Perm}
-use Rattle.specification.proofs.BlockLaws.{sort-perm}
+use Rattle.specification.proofs.Sorting.{sort-perm}
 use Rattle.odometer.specs.Odometer.{dot, strides}
 use Rattle.walk.specs.Walk.{axisWith, axesWith, middleOf, Small, Room, halfOf, hits, hitAfter, foundOf}
 use Rattle.walk.specs.declared.TwoAxes.{TwoAxes}

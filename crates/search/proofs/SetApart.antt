@@ -12,7 +12,7 @@ use Rattle.specification.specs.Tests.{sortBy}
 use Rattle.specification.specs.Search.{ActiveAxis, lengths}
 use Rattle.specification.specs.Verdict.{lower, longer, othersOf, pastSearch, byMany}
 use Rattle.specification.proofs.AxisOrder.{Perm, skip, swap, trans, perm-sym}
-use Rattle.specification.proofs.BlockLaws.{perm-refl, sort-perm}
+use Rattle.specification.proofs.Sorting.{perm-refl, sort-perm}
 use Rattle.odometer.specs.Odometer.{strides}
 use Rattle.walk.specs.Walk.{axisWith}
 use Rattle.search.specs.Longest.{FirstLongest, removeAt}

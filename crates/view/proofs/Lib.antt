@@ -13,3 +13,12 @@ pub mod ListedLaws
 pub mod CountLaws
 pub mod DenseLaws
 pub mod IndexedLaws
+pub mod ChainLaws
+pub mod RangeLaws
+pub mod RootLaws
+pub mod PairLaws
+pub mod TieLaws
+pub mod ClassLaws
+pub mod StrideSumLaws
+pub mod FusedLaws
+pub mod DiagonalLaws

@@ -6,3 +6,4 @@ pub mod Refusals
 pub mod Count
 pub mod Dense
 pub mod Indexed
+pub mod Ties

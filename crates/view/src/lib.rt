@@ -6,6 +6,7 @@ pub mod broadcast;
 pub mod check_in;
 pub mod count;
 pub mod dense;
+pub mod diagonal;
 pub mod layout;
 pub mod offset;
 pub mod permute;

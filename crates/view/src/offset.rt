@@ -20,7 +20,7 @@ pub enum Indexed {
     Refused(Refusal),
 }
 
-// sum + index * stride, where the index is below 2^63, and the product and the sum leave no 64 bits signed.
+// sum + index * stride, where the index is below 2^63 and neither the product nor the sum leaves 64 bits signed.
 fn add_indexed(sum: i64, index: u64, stride: i64) -> Checked
     ensures { λ r. ⌜ r ≡ addedOf sum index stride ⌝ }
 {
