@@ -2,3 +2,4 @@ pub mod InputsLaws
 pub mod PlanLaws
 pub mod AxesLaws
 pub mod ActiveLaws
+pub mod CoverLaws

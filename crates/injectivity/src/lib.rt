@@ -1,5 +1,6 @@
 // injectivity.rs: whether no two positions of a layout share an offset.
 pub mod axes;
+pub mod block;
 pub mod inputs;
 
 use view::layout::Refusal;

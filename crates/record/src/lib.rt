@@ -1,7 +1,7 @@
 // The record of a layout: its normal form with a verdict, written, read back and stepped over.
 pub mod bytes;
 pub mod fields;
-pub mod normal;
 pub mod form;
+pub mod normal;
 pub mod reader;
 pub mod step;
