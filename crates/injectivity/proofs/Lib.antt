@@ -3,3 +3,5 @@ pub mod PlanLaws
 pub mod AxesLaws
 pub mod ActiveLaws
 pub mod CoverLaws
+pub mod JudgeLaws
+pub mod SizeLaws

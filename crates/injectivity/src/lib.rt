@@ -2,6 +2,7 @@
 pub mod axes;
 pub mod block;
 pub mod inputs;
+pub mod judge;
 
 use view::layout::Refusal;
 
