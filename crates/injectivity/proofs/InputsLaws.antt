@@ -1,6 +1,6 @@
 -- Steps 1 and 2: a test of axes, one after another, and what is out of range.
 use mathlib.Core.Path.{_≡_, refl, sym, ap, _∙_}
-use mathlib.Core.Bool.{Bool, true, false, not, _&&_, _||_}
+use mathlib.Core.Bool.{Bool, true, false, not, _&&_, _||_, true≢false}
 use mathlib.Core.List.{List, [], _∷_}
 use Prim.Native.Nat.{ℕ, _+_, _-_, _*_, _^_, _≤_, _<_}
 use native.Mathlib.Decide.{decLt}
@@ -9,6 +9,7 @@ use lib.Dec.{ltb}
 use lib.IntN.{ℤ, pos, negsuc, negℤ}
 use lib.ListN.{length, drop, getD}
 use lib.Signed.{leZ}
+use borrow.Author.Tests.{not-false}
 use Rattle.integer.specs.Multiple.{eqZ}
 use Rattle.integer.specs.Parts.{posPart, negPart}
 use Rattle.integer.specs.Range.{fits, mostSigned}
@@ -139,3 +140,24 @@ spans-out {r} axes u e k = range-is axes ∙ rw u (by (decLt (upward axes) (2 ^ 
         let never : downward axes ≤ 2 ^ 63 → ⊥ = spans-over mostSigned (2 ^ 63) axes e k (omega arith) in
         rw (down-passes (downward axes) (omega arith)) (last (some (λ a. not (fits (span a))) axes) (not (fits (pos (upward axes)))))
     by (no h) = rw (up-passes (upward axes) (omega arith)) (second (some (λ a. not (fits (span a))) axes) (not (fits (negℤ (pos (downward axes))))))
+
+-- what is in range
+pub in-range : (axes : List Axis) → outOfRange axes ≡ false → (some unfit axes ≡ false) × (upward axes < 2 ^ 63) × (downward axes ≤ 2 ^ 63)
+unfolding spansOut
+in-range axes o =
+    let w = neither (some unfit axes) (spansOut axes) (sym (range-is axes) ∙ o) in
+    let v = neither (some (λ a. not (fits (span a))) axes || not (fits (pos (upward axes)))) (not (fits (negℤ (pos (downward axes))))) (w .1) in
+    let u = neither (some (λ a. not (fits (span a))) axes) (not (fits (pos (upward axes)))) (v .0) in
+    (w .0, up (decLt (upward axes) (2 ^ 63)) (not-false (fits (pos (upward axes))) (u .1)), down (decLt (2 ^ 63) (downward axes)) (not-false (fits (negℤ (pos (downward axes)))) (v .1)))
+  where
+    neither : (x y : Bool) → (x || y) ≡ false → (x ≡ false) × (y ≡ false)
+    neither true y e = absurd (true≢false e)
+    neither false y e = (refl, e)
+
+    up : Dec (upward axes < 2 ^ 63) → fits (pos (upward axes)) ≡ true → upward axes < 2 ^ 63
+    up (yes h) e = h
+    up (no h) e = absurd (true≢false (sym e ∙ up-passes (upward axes) (omega arith)))
+
+    down : Dec (2 ^ 63 < downward axes) → fits (negℤ (pos (downward axes))) ≡ true → downward axes ≤ 2 ^ 63
+    down (yes h) e = absurd (true≢false (sym e ∙ down-passes (downward axes) h))
+    down (no h) e = omega arith

@@ -5,3 +5,5 @@ pub mod ActiveLaws
 pub mod CoverLaws
 pub mod JudgeLaws
 pub mod SizeLaws
+pub mod LeftLaws
+pub mod ReadyLaws

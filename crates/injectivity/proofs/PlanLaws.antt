@@ -1,5 +1,5 @@
 -- What the verdict comes to at each end of steps 1 and 2.
-use mathlib.Core.Path.{_≡_, refl, sym, ap, _∙_}
+use mathlib.Core.Path.{_≡_, refl, sym, ap, subst, _∙_}
 use mathlib.Core.Bool.{Bool, true, false}
 use mathlib.Core.Logic.{_≢_, _⊎_}
 use mathlib.Core.List.{List, [], _∷_}
@@ -10,9 +10,11 @@ use lib.ListN.{length}
 use borrow.Author.Tests.{eq-eqb, ne-eqb}
 use Rattle.specification.specs.Tests.{if_then_else_, some}
 use Rattle.specification.specs.Axis.{Axis, axesOf, extents, positions, isEmpty}
-use Rattle.specification.specs.Outcome.{done, refused, refuseIf, _>>_, _>>=_}
+use Rattle.specification.specs.Outcome.{Outcome, done, refused, refuseIf, _>>_, _>>=_}
+use Rattle.specification.specs.Search.{ActiveAxis}
+use Rattle.specification.specs.BlockClaims.{inOrder}
 use Rattle.specification.specs.Normal.{overfull}
-use Rattle.specification.specs.Verdict.{Verdict, Distinct, Repeated, answered, blockOf, byBlock, still, outOfRange, planOf, carryOut, judge, verdict}
+use Rattle.specification.specs.Verdict.{Verdict, Judged, Distinct, Repeated, answered, blockOf, byBlock, still, outOfRange, planOf, carryOut, judge, verdict}
 use Rattle.specification.proofs.NormalAxes.{positions-pos}
 use Rattle.specification.proofs.NormalLaws.{empty-none, full-pos}
 use Rattle.specification.proofs.OutcomeLaws.{bind-done, bind-refused}
@@ -22,8 +24,15 @@ use Rattle.specification.proofs.VerdictRefusals.{plan-eight, plan-three}
 use Rattle.view.specs.Count.{Counted, countOf}
 use Rattle.view.specs.declared.count.Count.{Count}
 use Rattle.view.specs.declared.count.Count.the-variants.{Of, TooMany}
-use Rattle.injectivity.specs.Judgement.{toldOf}
-use Rattle.injectivity.specs.Inputs.{LeftToBlock}
+use Rattle.injectivity.specs.Axes.{axesIn}
+use Rattle.injectivity.specs.Block.{Interleaved}
+use Rattle.injectivity.specs.declared.block.InterleavedBlock.{InterleavedBlock}
+use Rattle.injectivity.specs.Judgement.{toldOf, JudgedAs}
+use Rattle.injectivity.specs.Inputs.{LeftToBlock, Validated}
+use Rattle.injectivity.specs.declared.Judgement.{Judgement}
+use Rattle.injectivity.specs.declared.inputs.Inputs.{Inputs}
+use Rattle.injectivity.specs.declared.inputs.Inputs.the-variants.{Settled, Valid}
+use Rattle.view.proofs.ModelLaws.{axesIn-axesOf, length-axesIn}
 
 -- ---- plans
 
@@ -84,10 +93,6 @@ module _ (es : List ℕ) (ss : List ℤ) (few : length es ≤ 16) (e : length es
   turned-down : {n : ℕ} {vs : List ℕ} → planOf (axesOf es ss) ≡ refused n vs → (words : ℕ) → refused n vs ≡ toldOf (verdict es ss words)
   turned-down p words = sym (ap toldOf (planned words ∙ bind-refused (carryOut words) p))
 
-  -- and where the block is judged
-  pub by-block : LeftToBlock es ss → (words : ℕ) → verdict es ss words ≡ carryOut words (byBlock (blockOf (axesOf es ss)))
-  by-block l words = planned words ∙ bind-done (carryOut words) (plan-block (axesOf es ss) (l .many) (l .to-block))
-
   -- ---- by the number of positions
   module _ (c : Count) (counted : Counted es c) where
     count-is : c ≡ countOf (axesOf es ss)
@@ -123,3 +128,27 @@ module _ (es : List ℕ) (ss : List ℤ) (few : length es ≤ 16) (e : length es
             let w = total-is total q in
             let m : 1 < positions (axesOf es ss) = omega arith in
             record { few = few; one-length = e; many = m; to-block = to-block (axesOf es ss) m (w .0) s r }
+
+-- ---- where the block is judged
+
+by-block : (es : List ℕ) (ss : List ℤ) → LeftToBlock es ss → (words : ℕ) → verdict es ss words ≡ carryOut words (byBlock (blockOf (axesOf es ss)))
+by-block es ss l words = planned es ss (l .few) (l .one-length) words ∙ bind-done (carryOut words) (plan-block (axesOf es ss) (l .many) (l .to-block))
+
+pub left-length : (es : List ℕ) (ss : List ℤ) → LeftToBlock es ss → length (axesOf es ss) ≤ 16
+left-length es ss l = omega (arith, ap (λ (z : List Axis). length z) (axesIn-axesOf es ss (length es) refl (sym (l .one-length))), length-axesIn es ss (length es), l .few)
+
+-- a refusal or an answer of steps 1 and 2 leaves the scratch alone
+pub judged-settled : (es : List ℕ) (ss : List ℤ) (inputs : Inputs) (r : Judgement) (before : List ℕ) → Validated es ss inputs → inputs ≡ Settled r
+    → JudgedAs (verdict es ss (length before)) before before r
+judged-settled es ss inputs r before v e = record { told = subst (Validated es ss) e v (length before); scratch = (refl, refl) }
+
+pub left-valid : (es : List ℕ) (ss : List ℤ) (inputs : Inputs) → Validated es ss inputs → inputs ≡ Valid → LeftToBlock es ss
+left-valid es ss inputs v e = subst (Validated es ss) e v
+
+pub judged-block : (es : List ℕ) (ss : List ℤ) → LeftToBlock es ss → (block : InterleavedBlock) → Interleaved (inOrder (axesOf es ss)) block
+    → (r : Judgement) (before after : List ℕ) → JudgedAs (carryOut (length before) (byBlock (axesIn (block .axes)))) before after r → JudgedAs (verdict es ss (length before)) before after r
+unfolding blockOf
+judged-block es ss l block i r before after j =
+    let e : carryOut (length before) (byBlock (axesIn (block .axes))) ≡ verdict es ss (length before) =
+    ap (λ (b : List ActiveAxis). carryOut (length before) (byBlock b)) (i .axes-are) ∙ sym (by-block es ss l (length before)) in
+    subst (λ (o : Outcome Judged). JudgedAs o before after r) e j
