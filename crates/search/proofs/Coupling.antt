@@ -2,13 +2,14 @@
 use mathlib.Core.Path.{_≡_, refl, sym, ap, _∙_, subst, subst⁻¹}
 use mathlib.Core.Bool.{Bool, true, false, _||_}
 use mathlib.Core.Logic.{_⊎_, inl, inr}
-use Prim.Native.Nat.{ℕ, suc, _+_, _*_, _-_, _/_, _<_, _≤_, _∣_}
+use Prim.Native.Nat.{ℕ, suc, _*_, _-_, _/_, _<_, _≤_, _∣_}
 use native.Mathlib.Omega.{arith}
-use native.Mathlib.Nat.{div-mul-cancel, mul-le-mul-left, eq-of-mul-eq-mul-right, dvd-antisymm}
+use native.Mathlib.Nat.{div-mul-cancel, mul-le-mul-left, dvd-antisymm}
 use lib.Dec.{T, leb}
 use borrow.Author.Tests.{leb-true, le-leb, lt-leb}
 use Rattle.integer.specs.Gcd.{gcd}
 use Rattle.integer.specs.Congruence.{Congruent, IsGcdInverse}
+use Rattle.integer.proofs.Congruence.{inverse-divided}
 use Rattle.integer.proofs.GcdLaws.{gcd-divides-left, gcd-divides-right, gcd-pos, gcd-is}
 use Rattle.specification.specs.Search.{twoDistinct}
 use Rattle.walk.specs.Equation.{Coupled}
@@ -52,9 +53,6 @@ gcd-turned a b = dvd-antisymm (into a b) (into b a)
 times-divisor : (a b g : ℕ) → g ≡ gcd a b → (a / g * g ≡ a) × (b / g * g ≡ b)
 times-divisor a b g e = subst⁻¹ (λ (z : ℕ). (a / z * z ≡ a) × (b / z * z ≡ b)) e (div-mul-cancel (gcd a b) {m = a} (gcd-divides-left a b), div-mul-cancel (gcd a b) {m = b} (gcd-divides-right a b))
 
-inverse-divided : (g a b s : ℕ) → 0 < g → Congruent (b * g) g (s * (a * g)) → Congruent b 1 (s * a)
-inverse-divided g a b s h c = record { p = c .p; q = c .q; eq = eq-of-mul-eq-mul-right g h (1 + c .p * b) (s * a + c .q * b) (omega (arith, c .eq)) }
-
 pub axis-back : (d s : ℕ) → 1 < d → axisWith (suc (d - 1)) s ≡ axisWith d s
 axis-back d s h = ap (λ (z : ℕ). axisWith z s) (omega arith)
 
@@ -68,13 +66,12 @@ module _ (d a b g inverse : ℕ) (k : IsGcdInverse a b g inverse) (l : 1 < d) (h
   pub coupled : 0 < a → Coupled a (d - 1) b g (a / g) inverse (g * (d - 1))
   coupled p =
       let e = times-divisor a b g (k .is-gcd) in
-      let g-above = divisor-above a b g (k .is-gcd) p in
       record {
         b = b / g;
-        g-above = g-above;
+        g-above = divisor-above a b g (k .is-gcd) p;
         a-times = e .0;
         b-times = e .1;
-        inverse-is = inverse-divided g (a / g) (b / g) inverse g-above (subst⁻¹ (λ (z : ℕ). Congruent z g (inverse * (a / g * g))) (e .1) (subst⁻¹ (λ (z : ℕ). Congruent b g (inverse * z)) (e .0) (k .multiple)));
+        inverse-is = subst⁻¹ (λ (z : ℕ). Congruent (b / z) 1 (inverse * (a / z))) (k .is-gcd) (inverse-divided a b inverse p (subst (λ (z : ℕ). Congruent b z (inverse * a)) (k .is-gcd) (k .multiple)));
         x-below = x-fits;
         w-is = refl;
       }

@@ -1,3 +1,4 @@
+-- The laws behind the search, lowest first.
 pub mod SortedAxes
 pub mod Orders
 pub mod SetApart

@@ -37,7 +37,7 @@ abbrev pub Sides : List ActiveAxis → Type 0
 Sides [] = Unit {0}
 Sides (a ∷ rest) = Side (a .extent) (a .stride) × Sides rest
 
--- and of a block: at most 16 such axes, their spans together within a word. Some are set apart, the others are two lists.
+-- and of a block: at most 16 such axes, their spans together within a word; `apart` are those set apart already
 pub record Blocked (apart : List ActiveAxis) (es ss : List ℕ) : Type 0 where
   pub one-length : length ss ≡ length es
   pub rank : length es ≤ 16
@@ -59,6 +59,7 @@ pub record InAxisOrder (block : List ActiveAxis) (es ss : List ℕ) : Type 0 whe
   pub extents-are : lengths (sortBy lower block) ≡ es
   pub strides-are : strides (sortBy lower block) ≡ ss
 
--- the answer is step 5's on each of them, in whatever order the block is
+-- the answer is step 5's on each of them, in whatever order the block is; `pastSearch` is no plan that a search ends in,
+-- so `PastBudget` is answered exactly where half is above the budget
 abbrev pub AnswersBlocks : List ℕ → List ℕ → Searched → Type 0
 AnswersBlocks es ss r = (block : List ActiveAxis) → InAxisOrder block es ss → planOf r (pastSearch block) ≡ byMany block (sortBy longer block)

@@ -1,3 +1,4 @@
+-- The definitions that the search's contracts cite.
 pub mod Longest
 pub mod Block
 pub mod SetUp

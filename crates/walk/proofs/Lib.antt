@@ -1,3 +1,4 @@
+-- The laws behind the walk, lowest first.
 pub mod AxisLaws
 pub mod Combinations
 pub mod PartSums

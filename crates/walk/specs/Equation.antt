@@ -17,8 +17,8 @@ pub record Combination (A X B Y t : ℕ) : Type 0 where
   pub v-most : v ≤ 2 * Y
   pub sum : u * A + v * B + t ≡ X * A + Y * B
 
--- what is worked out once for two axes: a divisor g of both strides, a = A / g, its inverse modulo B / g, and w = g X;
--- the differences of the first are fewer than B / g, so a residue leaves at most two of them
+-- what is worked out once for two axes: a divisor g of both strides, a = A / g, its inverse modulo b = B / g, and w = g X;
+-- X is below b, so that at most two differences of the first have one residue modulo b
 pub record Coupled (A X B g a inverse w : ℕ) : Type 0 where
   pub b : ℕ
   pub g-above : 0 < g

@@ -1,2 +1,3 @@
+-- The definitions that the walk's contracts cite.
 pub mod Equation
 pub mod Walk

@@ -1,4 +1,5 @@
 -- The walk of step 5: the axes it goes over, where it stands, and what it comes to.
+-- es and ss are the extents and absolute strides of the others, in axis order; x are digits, one for each of them.
 use mathlib.Core.Path.{_≡_}
 use mathlib.Core.Bool.{Bool, true, false}
 use mathlib.Core.Option.{Option, some, none}
@@ -34,7 +35,7 @@ first t = axisWith (suc (t .x)) (t .a)
 abbrev pub second : TwoAxes → ActiveAxis
 second t = axisWith (suc (t .y)) (t .b)
 
--- how many differences the others have, each
+-- how many differences each of the others has (the definitions' `widths`, of extents alone)
 abbrev pub widthsOf : List ℕ → List ℕ
 widthsOf [] = []
 widthsOf (e ∷ extents) = (2 * e - 1) ∷ widthsOf extents

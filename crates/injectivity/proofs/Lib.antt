@@ -1,0 +1,9 @@
+pub mod InputsLaws
+pub mod PlanLaws
+pub mod AxesLaws
+pub mod ActiveLaws
+pub mod CoverLaws
+pub mod JudgeLaws
+pub mod SizeLaws
+pub mod LeftLaws
+pub mod ReadyLaws

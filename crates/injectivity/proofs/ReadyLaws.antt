@@ -1,0 +1,143 @@
+-- What steps 1 and 2 leave of a layout is what the block and its judging ask for.
+use mathlib.Core.Path.{_≡_, refl, sym, ap, subst, _∙_}
+use mathlib.Core.Bool.{Bool, true, false, _||_}
+use mathlib.Core.Logic.{_≢_}
+use mathlib.Core.List.{List, [], _∷_, _++_}
+use Prim.Native.Nat.{ℕ, _*_, _^_, _≤_, _<_}
+use native.Mathlib.Omega.{arith}
+use lib.Dec.{T, ltb}
+use lib.IntN.{ℤ}
+use lib.ListN.{length, length-append}
+use borrow.Author.Tests.{ltb-true, ltb-false}
+use Rattle.lists.proofs.TableLaws.{length-table}
+use Rattle.integer.specs.Range.{mostUnsigned}
+use Rattle.specification.specs.Tests.{if_then_else_, sortBy}
+use Rattle.specification.specs.Axis.{Axis, product, positions}
+use Rattle.specification.specs.Normal.{overfull}
+use Rattle.specification.specs.Search.{ActiveAxis, lengths, total, spanSum}
+use Rattle.specification.specs.Verdict.{activeFrom, smaller, lower, upToLast, blockOf}
+use Rattle.specification.specs.BlockClaims.{inOrder}
+use Rattle.specification.proofs.AxisOrder.{Perm, nil, skip, swap, trans}
+use Rattle.specification.proofs.BlockEnds.{block-claims}
+use Rattle.specification.proofs.BlockLaws.{Live, Lives, last-each, last-each-two, still-no}
+use Rattle.specification.proofs.NormalAxes.{positions-pos}
+use Rattle.specification.proofs.NormalLaws.{full-pos}
+use Rattle.specification.proofs.PlanCases.{ToBlock}
+use Rattle.specification.proofs.Sorting.{Each, EachTwo, each-at, each-two-implies, perm-length, perm-each, perm-each-two, sort-perm, sort-sorted}
+use Rattle.search.specs.Block.{Ascending}
+use Rattle.injectivity.specs.Axes.{axisAt, axesIn}
+use Rattle.injectivity.specs.Block.{WithinWords, Interleaved, Judgeable}
+use Rattle.injectivity.specs.declared.axes.ActiveAxes.{ActiveAxes}
+use Rattle.injectivity.specs.declared.block.InterleavedBlock.{InterleavedBlock}
+use Rattle.injectivity.proofs.CoverLaws.{span-append}
+use Rattle.injectivity.proofs.InputsLaws.{in-range}
+use Rattle.injectivity.proofs.JudgeLaws.{Sided, span-perm, sides-of-each}
+use Rattle.injectivity.proofs.LeftLaws.{Low, active-length, active-total, active-span, active-low, numbers-differ}
+
+-- ---- any order
+
+total-perm : {l m : List ActiveAxis} → Perm l m → total l ≡ total m
+unfolding product
+total-perm nil = refl
+total-perm (skip {a} p) = ap (λ (k : ℕ). a .extent * k) (total-perm p)
+total-perm (swap {a} {b} {l}) = omega arith
+total-perm (trans p q) = total-perm p ∙ total-perm q
+
+-- a list of one
+only : (l : List ActiveAxis) → length l ≡ 1 → (a : ActiveAxis) × (l ≡ a ∷ [])
+only [] e = absurd (omega arith)
+only (a ∷ []) e = (a, refl)
+only (a ∷ b ∷ more) e = absurd (omega arith)
+
+-- axes that rise in number
+ascending : (l : List ActiveAxis) → EachTwo (λ a b. a .axis < b .axis) l → Ascending l
+ascending [] e = tt
+ascending (a ∷ []) e = tt
+ascending (a ∷ b ∷ rest) e = (e .0 .0, ascending (b ∷ rest) (e .1))
+
+by-axis : (l : List ActiveAxis) → EachTwo (λ a b. a .axis ≢ b .axis) l → Ascending (sortBy lower l)
+by-axis l d = ascending (sortBy lower l) (sort-sorted lower (λ a b. a .axis < b .axis) (λ a b c h k. omega arith) l (each-two-implies tells l d))
+  where
+    tells : (a b : ActiveAxis) → a .axis ≢ b .axis → (lower a b ≡ true → a .axis < b .axis) × (lower a b ≡ false → b .axis < a .axis)
+    tells a b n = (ltb-true (a .axis) (b .axis), λ e. omega (arith, ltb-false (a .axis) (b .axis) e))
+
+-- ---- the sorted axes of a layout that is left to the block
+
+module _ (axes : List Axis) (t : ToBlock axes) where
+  abbrev perm : Perm (activeFrom 0 axes) (inOrder axes)
+  perm = sort-perm smaller (activeFrom 0 axes)
+
+  lives : Lives (activeFrom 0 axes)
+  lives = still-no 0 axes (t .no-still-axis)
+
+  spans-low : spanSum (inOrder axes) < 2 ^ 64
+  spans-low = let r = in-range axes (t .not-three) in omega (arith, span-perm perm, active-span 0 axes, r .1, r .2)
+
+  count-low : positions axes < 2 ^ 64
+  unfolding overfull
+  count-low = let o : ltb mostUnsigned (positions axes) ≡ false = rw (t .no-zero-extent) at (t .not-eight) in omega (arith, ltb-false mostUnsigned (positions axes) o)
+
+  total-is : total (inOrder axes) ≡ positions axes
+  total-is = sym (total-perm perm) ∙ active-total 0 (full-pos axes (t .no-zero-extent))
+
+  pub sorted-within : WithinWords (inOrder axes)
+  sorted-within = record {
+    positive = omega (arith, total-is, positions-pos (full-pos axes (t .no-zero-extent)));
+    total-fits = omega (arith, total-is, count-low);
+    span-fits = spans-low;
+  }
+
+  sorted-length : length (inOrder axes) ≤ length axes
+  sorted-length = omega (arith, perm-length perm, active-length 0 axes)
+
+  pub sorted-few : (list : ActiveAxes) → axesIn list ≡ inOrder axes → length axes ≤ 16 → list .count ≤ 16
+  sorted-few list e h = omega (arith, length-table (axisAt list) (list .count), ap (λ (l : List ActiveAxis). length l) e, sorted-length)
+
+  -- ---- its block
+
+  sided : (l : List ActiveAxis) → Each Live l → Each Low l → Each Sided l
+  sided [] v w = tt
+  sided (a ∷ r) v w = (record { long = v .0 .long; low = w .0 .extent-low; moves = v .0 .moves; stride-low = w .0 .stride-low }, sided r (v .1) (w .1))
+
+  block-sided : Each Sided (blockOf axes)
+  unfolding blockOf
+  block-sided =
+      let r = in-range axes (t .not-three) in
+      last-each Sided 0 (inOrder axes) (perm-each Sided perm (sided (activeFrom 0 axes) lives (active-low 0 axes (r .0) (r .1) (r .2))))
+
+  block-numbered : Ascending (sortBy lower (blockOf axes))
+  unfolding blockOf
+  block-numbered = by-axis (upToLast 0 (inOrder axes)) (last-each-two (λ a b. a .axis ≢ b .axis) 0 (inOrder axes)
+      (perm-each-two (λ a b. a .axis ≢ b .axis) (λ a b n e. n (sym e)) perm (numbers-differ 0 axes)))
+
+  -- the first axis has no span before it
+  not-one : length (blockOf axes) ≢ 1
+  unfolding spanSum
+  not-one e =
+      let w = only (blockOf axes) e in
+      let s : Each Sided (w .0 ∷ []) = subst (Each Sided) (w .1) block-sided in
+      omega (arith, block-claims .last-of axes [] (w .0) (w .1), s .0 .moves)
+
+  block-front : (length (blockOf axes) ≤ length axes) × (spanSum (blockOf axes) < 2 ^ 64)
+  block-front =
+      let w = block-claims .in-front axes in (
+        omega (arith, length-append (blockOf axes) (w .0), ap (λ (l : List ActiveAxis). length l) (w .1), sorted-length),
+        omega (arith, span-append (blockOf axes) (w .0), ap spanSum (w .1), spans-low),
+      )
+
+  pub judgeable : (block : InterleavedBlock) → Interleaved (inOrder axes) block → length axes ≤ 16 → Judgeable block
+  unfolding blockOf
+  judgeable block i h =
+      let e : axesIn (block .axes) ≡ blockOf axes = i .axes-are in
+      let n : block .axes .count ≡ length (blockOf axes) = sym (length-table (axisAt (block .axes)) (block .axes .count)) ∙ ap (λ (l : List ActiveAxis). length l) e in
+      record {
+        searchable = record {
+          few = omega (arith, n, block-front .0);
+          numbered = rw e block-numbered;
+          sides = rw e (sides-of-each (blockOf axes) block-sided);
+          fits = rw e (block-front .1);
+        };
+        not-one = λ q. not-one (sym n ∙ q);
+        total-is = i .total-is;
+        span-is = i .span-is;
+      }
