@@ -25,7 +25,7 @@ use Rattle.view.specs.Reach.{spansUpTo}
 use Rattle.view.specs.declared.bounds.Spans.{Spans}
 use Rattle.view.specs.declared.bounds.Spans.the-variants.{Of, Over}
 use Rattle.view.proofs.ModelLaws.{axesIn-axesOf, length-axesIn}
-use Rattle.view.proofs.ReachLaws.{spans-of, spans-over}
+use Rattle.view.proofs.SpanLaws.{spans-of, spans-over}
 use Rattle.view.proofs.SomeLaws.{some-found, some-behind, some-end}
 use Rattle.injectivity.specs.Inputs.{unfit}
 

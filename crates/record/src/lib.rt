@@ -4,7 +4,7 @@ pub mod calls;
 pub mod fields;
 pub mod form;
 pub mod normal;
+pub mod read;
 pub mod reader;
 pub mod step;
-pub mod read;
 pub mod writer;

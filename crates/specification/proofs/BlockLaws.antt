@@ -59,7 +59,7 @@ perm-lives = perm-each Live
 
 -- ---- up to the last axis that is not separated
 
-last-each : (P : ActiveAxis → Type 0) (before : ℕ) (l : List ActiveAxis) → Each P l → Each P (upToLast before l)
+pub last-each : (P : ActiveAxis → Type 0) (before : ℕ) (l : List ActiveAxis) → Each P l → Each P (upToLast before l)
 unfolding upToLast
 last-each P before [] e = e
 last-each P before (a ∷ r) e = go (upToLast (before + (a .extent - 1) * a .stride) r) (leb (a .stride) before) (last-each P (before + (a .extent - 1) * a .stride) r (e .1))
