@@ -1,20 +1,19 @@
 -- What steps 1 and 2 leave of a layout is what the block and its judging ask for.
 use mathlib.Core.Path.{_≡_, refl, sym, ap, subst, _∙_}
-use mathlib.Core.Bool.{Bool, true, false, _||_}
+use mathlib.Core.Bool.{true, false}
 use mathlib.Core.Logic.{_≢_}
-use mathlib.Core.List.{List, [], _∷_, _++_}
+use mathlib.Core.List.{List, [], _∷_}
 use Prim.Native.Nat.{ℕ, _*_, _^_, _≤_, _<_}
 use native.Mathlib.Omega.{arith}
-use lib.Dec.{T, ltb}
-use lib.IntN.{ℤ}
+use lib.Dec.{ltb}
 use lib.ListN.{length, length-append}
 use borrow.Author.Tests.{ltb-true, ltb-false}
 use Rattle.lists.proofs.TableLaws.{length-table}
 use Rattle.integer.specs.Range.{mostUnsigned}
-use Rattle.specification.specs.Tests.{if_then_else_, sortBy}
+use Rattle.specification.specs.Tests.{sortBy}
 use Rattle.specification.specs.Axis.{Axis, product, positions}
 use Rattle.specification.specs.Normal.{overfull}
-use Rattle.specification.specs.Search.{ActiveAxis, lengths, total, spanSum}
+use Rattle.specification.specs.Search.{ActiveAxis, total, spanSum}
 use Rattle.specification.specs.Verdict.{activeFrom, smaller, lower, upToLast, blockOf}
 use Rattle.specification.specs.BlockClaims.{inOrder}
 use Rattle.specification.proofs.AxisOrder.{Perm, nil, skip, swap, trans}
@@ -23,7 +22,7 @@ use Rattle.specification.proofs.BlockLaws.{Live, Lives, last-each, last-each-tw
 use Rattle.specification.proofs.NormalAxes.{positions-pos}
 use Rattle.specification.proofs.NormalLaws.{full-pos}
 use Rattle.specification.proofs.PlanCases.{ToBlock}
-use Rattle.specification.proofs.Sorting.{Each, EachTwo, each-at, each-two-implies, perm-length, perm-each, perm-each-two, sort-perm, sort-sorted}
+use Rattle.specification.proofs.Sorting.{Each, EachTwo, each-two-implies, perm-length, perm-each, perm-each-two, sort-perm, sort-sorted}
 use Rattle.search.specs.Block.{Ascending}
 use Rattle.injectivity.specs.Axes.{axisAt, axesIn}
 use Rattle.injectivity.specs.Block.{WithinWords, Interleaved, Judgeable}

@@ -1,3 +1,4 @@
+-- `judge_valid`: the block of the layout is found and judged.
 use mathlib.Core.Path.{sym, subst}
 use mathlib.Core.List.{List}
 use Rattle.specification.specs.Axis.{axesOf}
@@ -9,11 +10,6 @@ use Rattle.injectivity.proofs.ReadyLaws.{sorted-few, sorted-within, jud
 use borrow.Author.Needs.{needs}
 use Rattle.injectivity.proofs.judge_valid.Statement.{statement}
 use Rattle.injectivity.proofs.judge_valid.Tie as tie
-use Rattle.injectivity.proofs.judge_valid.Reads as reads
-use Rattle.injectivity.proofs.judge_valid.Lts as lts
-use Rattle.injectivity.proofs.axes.sorted_by_stride.Reads as sorted-by-stride-reads
-use Rattle.injectivity.proofs.block.interleaved_block.Reads as interleaved-block-reads
-use Rattle.injectivity.proofs.judge.judge_block.Reads as judge-block-reads
 
 -- the block that was found is that of the layout
 module _ (t : tie.After-sorted-by-stride) where
@@ -23,11 +19,9 @@ module _ (t : tie.After-sorted-by-stride) where
 found : (i : tie.After-interleaved-block) → let s = start (i .before) in Interleaved (inOrder (axesOf (s .args .extents .now) (s .args .strides .now))) (i .interleaved-block .result)
 found i = subst (λ (l : List ActiveAxis). Interleaved l (i .interleaved-block .result)) (i .before .sorted-by-stride .ensures) (i .interleaved-block .ensures)
 
--- src/lib.rt:31:9
 sorted-by-stride-requires : tie.Need-sorted-by-stride-requires
 sorted-by-stride-requires c κs = search needs
 
--- src/lib.rt:32:9
 interleaved-block-requires : tie.Need-interleaved-block-requires
 interleaved-block-requires c κs =
     let r = c .sorted-by-stride in
@@ -36,17 +30,14 @@ interleaved-block-requires c κs =
       subst WithinWords (sym (r .ensures)) (sorted-within (axesOf (s .args .extents .now) (s .args .strides .now)) (s .pre .to-block)),
     )
 
--- src/lib.rt:33:5
 judge-block-requires : tie.Need-judge-block-requires
 judge-block-requires c κs =
     let s = start (c .before .before) in
     judgeable (axesOf (s .args .extents .now) (s .args .strides .now)) (s .pre .to-block) (c .before .interleaved-block .result) (found (c .before)) (left-length _ _ (s .pre))
 
--- src/lib.rt:27:1
 same-length : tie.Need-same-length
 same-length c = search needs
 
--- src/lib.rt:27:1
 returns : tie.Need-returns
 returns c =
     let i = c .before .before .before .before in

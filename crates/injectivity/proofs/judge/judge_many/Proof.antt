@@ -1,3 +1,4 @@
+-- `judge_many`: what the search answers, or what is past it.
 use mathlib.Core.Path.{refl, sym, ap, _∙_}
 use Rattle.specification.specs.Verdict.{pastSearch}
 use Rattle.search.specs.Block.{planOf}
@@ -7,48 +8,35 @@ use Rattle.injectivity.proofs.JudgeLaws.{judged-answered, judged-plan}
 use borrow.Author.Needs.{needs}
 use Rattle.injectivity.proofs.judge.judge_many.Statement.{statement}
 use Rattle.injectivity.proofs.judge.judge_many.Tie as tie
-use Rattle.injectivity.proofs.judge.judge_many.Reads as reads
-use Rattle.injectivity.proofs.judge.judge_many.Lts as lts
-use Rattle.injectivity.proofs.judge.block_differences.Reads as block-differences-reads
-use Rattle.injectivity.proofs.judge.judge_past_search.Reads as judge-past-search-reads
 
--- src/judge.rt:89:9
 block-differences-requires : tie.Need-block-differences-requires
 block-differences-requires c κs = search needs
 
--- src/judge.rt:91:28
 enum-known-found : tie.Need-enum-known-found
 enum-known-found c = search needs
 
--- src/judge.rt:92:28
 enum-known-found-2 : tie.Need-enum-known-found-2
 enum-known-found-2 c = search needs
 
--- src/judge.rt:93:58
 enum-told : tie.Need-enum-told
 enum-told c = search needs
 
--- src/judge.rt:93:33
 judge-past-search-requires : tie.Need-judge-past-search-requires
 judge-past-search-requires c κs = search needs
 
--- src/judge.rt:84:1
 returns : tie.Need-returns
 returns c =
     let s = c .before .before .before .before .before .before in
     judged-answered _ _ (sym (ap (λ (r : Searched). planOf r (pastSearch (axesIn (s .args .block .axes)))) (c .before .found .given .1)) ∙ c .before .before .before .block-differences .ensures) refl
 
--- src/judge.rt:84:1
 returns-2 : tie.Need-returns-2
 returns-2 c =
     let s = c .before .before .before .before .before .before in
     judged-answered _ _ (sym (ap (λ (r : Searched). planOf r (pastSearch (axesIn (s .args .block .axes)))) (c .before .found2 .given .1)) ∙ c .before .before .before .block-differences .ensures) refl
 
--- src/judge.rt:84:1
 same-length : tie.Need-same-length
 same-length c = search needs
 
--- src/judge.rt:84:1
 returns-3 : tie.Need-returns-3
 returns-3 c =
     let t = c .before .before .before .before in
