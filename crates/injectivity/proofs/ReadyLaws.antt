@@ -25,7 +25,7 @@ use Rattle.specification.proofs.PlanCases.{ToBlock}
 use Rattle.specification.proofs.Sorting.{Each, EachTwo, each-two-implies, perm-length, perm-each, perm-each-two, sort-perm, sort-sorted}
 use Rattle.search.specs.Block.{Ascending}
 use Rattle.injectivity.specs.Axes.{axisAt, axesIn}
-use Rattle.injectivity.specs.Block.{WithinWords, Interleaved, Judgeable}
+use Rattle.injectivity.specs.Block.{WithinWords, Interleaved, Judgeable, BlockOf}
 use Rattle.injectivity.specs.declared.axes.ActiveAxes.{ActiveAxes}
 use Rattle.injectivity.specs.declared.block.InterleavedBlock.{InterleavedBlock}
 use Rattle.injectivity.proofs.CoverLaws.{span-append}
@@ -124,7 +124,7 @@ module _ (axes : List Axis) (t : ToBlock axes) where
         omega (arith, span-append (blockOf axes) (w .0), ap spanSum (w .1), spans-low),
       )
 
-  pub judgeable : (block : InterleavedBlock) → Interleaved (inOrder axes) block → length axes ≤ 16 → Judgeable block
+  judgeable : (block : InterleavedBlock) → Interleaved (inOrder axes) block → length axes ≤ 16 → Judgeable block
   unfolding blockOf
   judgeable block i h =
       let e : axesIn (block .axes) ≡ blockOf axes = i .axes-are in
@@ -140,3 +140,7 @@ module _ (axes : List Axis) (t : ToBlock axes) where
         total-is = i .total-is;
         span-is = i .span-is;
       }
+
+  pub block-of : (block : InterleavedBlock) → Interleaved (inOrder axes) block → length axes ≤ 16 → BlockOf axes block
+  unfolding blockOf
+  block-of block i h = record { axes-are = i .axes-are; judgeable = judgeable block i h }

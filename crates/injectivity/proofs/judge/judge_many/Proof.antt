@@ -9,8 +9,8 @@ use borrow.Author.Needs.{needs}
 use Rattle.injectivity.proofs.judge.judge_many.Statement.{statement}
 use Rattle.injectivity.proofs.judge.judge_many.Tie as tie
 
-block-differences-requires : tie.Need-block-differences-requires
-block-differences-requires c κs = search needs
+block-differences-avoid-zero-requires : tie.Need-block-differences-avoid-zero-requires
+block-differences-avoid-zero-requires c κs = search needs
 
 enum-known-found : tie.Need-enum-known-found
 enum-known-found c = search needs
@@ -27,12 +27,12 @@ judge-past-search-requires c κs = search needs
 returns : tie.Need-returns
 returns c =
     let s = c .before .before .before .before .before .before in
-    judged-answered _ _ (sym (ap (λ (r : Searched). planOf r (pastSearch (axesIn (s .args .block .axes)))) (c .before .found .given .1)) ∙ c .before .before .before .block-differences .ensures) refl
+    judged-answered _ _ (sym (ap (λ (r : Searched). planOf r (pastSearch (axesIn (s .args .block .axes)))) (c .before .found .given .1)) ∙ c .before .before .before .block-differences-avoid-zero .ensures) refl
 
 returns-2 : tie.Need-returns-2
 returns-2 c =
     let s = c .before .before .before .before .before .before in
-    judged-answered _ _ (sym (ap (λ (r : Searched). planOf r (pastSearch (axesIn (s .args .block .axes)))) (c .before .found2 .given .1)) ∙ c .before .before .before .block-differences .ensures) refl
+    judged-answered _ _ (sym (ap (λ (r : Searched). planOf r (pastSearch (axesIn (s .args .block .axes)))) (c .before .found2 .given .1)) ∙ c .before .before .before .block-differences-avoid-zero .ensures) refl
 
 same-length : tie.Need-same-length
 same-length c = search needs
@@ -41,13 +41,13 @@ returns-3 : tie.Need-returns-3
 returns-3 c =
     let t = c .before .before .before .before in
     let s = t .before .before .before .before .before in
-    judged-plan _ _ _ (sym (ap (λ (r : Searched). planOf r (pastSearch (axesIn (s .args .block .axes)))) (t .enum-told .given .1)) ∙ t .before .before .block-differences .ensures) (c .before .before .judge-past-search .ensures)
+    judged-plan _ _ _ (sym (ap (λ (r : Searched). planOf r (pastSearch (axesIn (s .args .block .axes)))) (t .enum-told .given .1)) ∙ t .before .before .block-differences-avoid-zero .ensures) (c .before .before .judge-past-search .ensures)
 
 pub judge-many-spec : {M : Type 1} → statement M
 judge-many-spec =
     tie.close
     (tie.spec
-    block-differences-requires
+    block-differences-avoid-zero-requires
     enum-known-found
     enum-known-found-2
     enum-told

@@ -6,8 +6,8 @@ use borrow.Author.Needs.{needs}
 use Rattle.injectivity.proofs.judge.judge_past_search.Statement.{statement}
 use Rattle.injectivity.proofs.judge.judge_past_search.Tie as tie
 
-enumerate-block-requires : tie.Need-enumerate-block-requires
-enumerate-block-requires c κs = search needs
+block-offsets-unique-requires : tie.Need-block-offsets-unique-requires
+block-offsets-unique-requires c κs = search needs
 
 same-length : tie.Need-same-length
 same-length c = search needs
@@ -16,7 +16,7 @@ returns : tie.Need-returns
 returns c =
     let s = c .before .before .before .before .before .before .before in
     let t = c .before .before .before .before in
-    judged-plan _ _ _ (enumerable (s .args .block) (s .pre) (t .if1 .taken)) (c .before .before .enumerate-block .ensures)
+    judged-plan _ _ _ (enumerable (s .args .block) (s .pre) (t .if1 .taken)) (c .before .before .block-offsets-unique .ensures)
 
 returns-2 : tie.Need-returns-2
 returns-2 c =
@@ -25,4 +25,4 @@ returns-2 c =
 
 pub judge-past-search-spec : {M : Type 1} → statement M
 judge-past-search-spec =
-    tie.close (tie.spec enumerate-block-requires same-length returns returns-2)
+    tie.close (tie.spec block-offsets-unique-requires same-length returns returns-2)

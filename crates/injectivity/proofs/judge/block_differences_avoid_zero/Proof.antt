@@ -1,4 +1,4 @@
--- `block_differences` hands the axes to step 5 in axis order.
+-- `block_differences_avoid_zero` hands the axes to step 5 in axis order.
 use mathlib.Core.Path.{_≡_, sym}
 use native.Mathlib.Omega.{arith}
 use lib.ListN.{length}
@@ -7,8 +7,8 @@ use Rattle.injectivity.specs.Axes.{axesIn}
 use Rattle.injectivity.specs.declared.axes.ActiveAxes.{ActiveAxes}
 use Rattle.injectivity.proofs.JudgeLaws.{ordered-count, ordered-block, ordered-blocked}
 use borrow.Author.Needs.{needs}
-use Rattle.injectivity.proofs.judge.block_differences.Statement.{statement}
-use Rattle.injectivity.proofs.judge.block_differences.Tie as tie
+use Rattle.injectivity.proofs.judge.block_differences_avoid_zero.Statement.{statement}
+use Rattle.injectivity.proofs.judge.block_differences_avoid_zero.Tie as tie
 
 -- the axes in axis order
 module _ (t : tie.After-sorted-by-axis) where
@@ -53,8 +53,8 @@ returns c =
     let t = c .before .before .before .before .before in
     c .search-block .ensures (axesIn (axes t)) (ordered-block (axes t) (ordered t) (t .before .pre .0) (t .sorted-by-axis .ensures) (extents-16 t) (strides-16 t))
 
-pub block-differences-spec : {M : Type 1} → statement M
-block-differences-spec =
+pub block-differences-avoid-zero-spec : {M : Type 1} → statement M
+block-differences-avoid-zero-spec =
     tie.close
     (tie.spec
     sorted-by-axis-requires

@@ -1,4 +1,4 @@
--- `enumerate_block` hands the block to step 6 in the order of sorting, and tells its answer.
+-- `block_offsets_unique` hands the block to step 6 in the order of sorting, and tells its answer.
 use mathlib.Core.Path.{_≡_, refl, sym}
 use Prim.Native.Nat.{_≤_}
 use native.Mathlib.Omega.{arith}
@@ -9,8 +9,8 @@ use Rattle.injectivity.specs.Axes.{axesIn}
 use Rattle.injectivity.specs.declared.block.InterleavedBlock.{InterleavedBlock}
 use Rattle.injectivity.proofs.JudgeLaws.{block-described, block-handed, judged-enumerated}
 use borrow.Author.Needs.{needs}
-use Rattle.injectivity.proofs.judge.enumerate_block.Statement.{statement}
-use Rattle.injectivity.proofs.judge.enumerate_block.Tie as tie
+use Rattle.injectivity.proofs.judge.block_offsets_unique.Statement.{statement}
+use Rattle.injectivity.proofs.judge.block_offsets_unique.Tie as tie
 
 -- the block in its arrays
 module _ (t : tie.Start) where
@@ -74,8 +74,8 @@ same-length-3 c = search needs
 returns-3 : tie.Need-returns-3
 returns-3 c = let t = c .before .before .before .before .before in judged-enumerated _ (defined t) (c .before .answer .given .1) refl
 
-pub enumerate-block-spec : {M : Type 1} → statement M
-enumerate-block-spec =
+pub block-offsets-unique-spec : {M : Type 1} → statement M
+block-offsets-unique-spec =
     tie.close
     (tie.spec
     array-share-prefix-extents
