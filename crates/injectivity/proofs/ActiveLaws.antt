@@ -1,14 +1,14 @@
 -- The active axes of two lists, from axis i on: one more of them, or one that is passed over.
-use mathlib.Core.Path.{_≡_, refl}
+use mathlib.Core.Path.{_≡_}
 use mathlib.Core.List.{List, [], _∷_}
-use Prim.Native.Nat.{ℕ, suc, _+_, _≤_, _<_}
+use Prim.Native.Nat.{ℕ, _+_, _≤_, _<_}
 use native.Mathlib.Numerals.{add-one}
 use native.Mathlib.Nat.{le-refl}
 use lib.IntN.{ℤ, pos, natAbs}
 use lib.ListN.{length, drop, getD, drop-of-length-le}
 use lib.Seq.{drop-cons}
 use borrow.Author.Tests.{lt-ltb, le-ltb}
-use Rattle.specification.specs.Tests.{if_then_else_, sortBy}
+use Rattle.specification.specs.Tests.{sortBy}
 use Rattle.specification.specs.Axis.{axesOf}
 use Rattle.specification.specs.Search.{ActiveAxis}
 use Rattle.specification.specs.Verdict.{activeFrom, smaller}

@@ -2,16 +2,14 @@
 use mathlib.Core.Path.{_≡_, refl, sym, ap, _∙_}
 use mathlib.Core.Bool.{Bool, true, false, not, _&&_, _||_, true≢false}
 use mathlib.Core.List.{List, [], _∷_}
-use Prim.Native.Nat.{ℕ, _+_, _-_, _*_, _^_, _≤_, _<_}
+use Prim.Native.Nat.{ℕ, _+_, _-_, _^_, _≤_, _<_}
 use native.Mathlib.Decide.{decLt}
 use native.Mathlib.Omega.{arith}
 use lib.Dec.{ltb}
 use lib.IntN.{ℤ, pos, negsuc, negℤ}
 use lib.ListN.{length, drop, getD}
-use lib.Signed.{leZ}
 use borrow.Author.Tests.{not-false}
 use Rattle.integer.specs.Multiple.{eqZ}
-use Rattle.integer.specs.Parts.{posPart, negPart}
 use Rattle.integer.specs.Range.{fits, mostSigned}
 use Rattle.integer.proofs.PartLaws.{parts-fit, lt-leZ, posPart-neg, negPart-neg}
 use Rattle.integer.proofs.CheckedLaws.{fits-of-sfits}

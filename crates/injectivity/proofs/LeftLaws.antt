@@ -1,9 +1,9 @@
 -- The active axes of a layout that steps 1 and 2 leave to the block: their total, their span, and what holds of each.
-use mathlib.Core.Path.{_≡_, refl, sym, ap, subst, _∙_}
+use mathlib.Core.Path.{_≡_, refl, ap, subst}
 use mathlib.Core.Bool.{Bool, true, false, not, _&&_, _||_}
 use mathlib.Core.Logic.{_≢_}
 use mathlib.Core.List.{List, [], _∷_}
-use Prim.Native.Nat.{ℕ, zero, suc, _+_, _-_, _*_, _^_, _≤_, _<_}
+use Prim.Native.Nat.{ℕ, suc, _+_, _-_, _*_, _^_, _≤_, _<_}
 use native.Mathlib.Nat.{le-mul-of-pos-right, mul-comm}
 use native.Mathlib.Omega.{arith}
 use lib.Dec.{T, ltb, ltb→lt, nltb→le}
@@ -16,7 +16,7 @@ use Rattle.integer.specs.Range.{mostSigned}
 use Rattle.integer.proofs.MultipleLaws.{posPart-·, negPart-·, eqZ-no}
 use Rattle.integer.proofs.PartLaws.{natAbs-parts}
 use Rattle.specification.specs.Tests.{if_then_else_, some}
-use Rattle.specification.specs.Axis.{Axis, product, positions, active, span, upward, downward}
+use Rattle.specification.specs.Axis.{Axis, product, positions, span, upward, downward}
 use Rattle.specification.specs.Search.{ActiveAxis, total, spanSum}
 use Rattle.specification.specs.Verdict.{activeFrom}
 use Rattle.specification.proofs.NormalAxes.{AllPositive}

@@ -7,3 +7,5 @@ pub mod JudgeLaws
 pub mod SizeLaws
 pub mod LeftLaws
 pub mod ReadyLaws
+pub mod DueLaws
+pub mod MeaningProved

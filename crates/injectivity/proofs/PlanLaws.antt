@@ -12,7 +12,6 @@ use Rattle.specification.specs.Tests.{if_then_else_, some}
 use Rattle.specification.specs.Axis.{Axis, axesOf, extents, positions, isEmpty}
 use Rattle.specification.specs.Outcome.{Outcome, done, refused, refuseIf, _>>_, _>>=_}
 use Rattle.specification.specs.Search.{ActiveAxis}
-use Rattle.specification.specs.BlockClaims.{inOrder}
 use Rattle.specification.specs.Normal.{overfull}
 use Rattle.specification.specs.Verdict.{Verdict, Judged, Distinct, Repeated, answered, blockOf, byBlock, still, outOfRange, planOf, carryOut, judge, verdict}
 use Rattle.specification.proofs.NormalAxes.{positions-pos}
@@ -25,7 +24,7 @@ use Rattle.view.specs.Count.{Counted, countOf}
 use Rattle.view.specs.declared.count.Count.{Count}
 use Rattle.view.specs.declared.count.Count.the-variants.{Of, TooMany}
 use Rattle.injectivity.specs.Axes.{axesIn}
-use Rattle.injectivity.specs.Block.{Interleaved}
+use Rattle.injectivity.specs.Block.{BlockOf}
 use Rattle.injectivity.specs.declared.block.InterleavedBlock.{InterleavedBlock}
 use Rattle.injectivity.specs.Judgement.{toldOf, JudgedAs}
 use Rattle.injectivity.specs.Inputs.{LeftToBlock, Validated}
@@ -145,10 +144,9 @@ judged-settled es ss inputs r before v e = record { told = subst (Validated es s
 pub left-valid : (es : List ℕ) (ss : List ℤ) (inputs : Inputs) → Validated es ss inputs → inputs ≡ Valid → LeftToBlock es ss
 left-valid es ss inputs v e = subst (Validated es ss) e v
 
-pub judged-block : (es : List ℕ) (ss : List ℤ) → LeftToBlock es ss → (block : InterleavedBlock) → Interleaved (inOrder (axesOf es ss)) block
+pub judged-block : (es : List ℕ) (ss : List ℤ) → LeftToBlock es ss → (block : InterleavedBlock) → BlockOf (axesOf es ss) block
     → (r : Judgement) (before after : List ℕ) → JudgedAs (carryOut (length before) (byBlock (axesIn (block .axes)))) before after r → JudgedAs (verdict es ss (length before)) before after r
-unfolding blockOf
-judged-block es ss l block i r before after j =
+judged-block es ss l block b r before after j =
     let e : carryOut (length before) (byBlock (axesIn (block .axes))) ≡ verdict es ss (length before) =
-    ap (λ (b : List ActiveAxis). carryOut (length before) (byBlock b)) (i .axes-are) ∙ sym (by-block es ss l (length before)) in
+    ap (λ (a : List ActiveAxis). carryOut (length before) (byBlock a)) (b .axes-are) ∙ sym (by-block es ss l (length before)) in
     subst (λ (o : Outcome Judged). JudgedAs o before after r) e j

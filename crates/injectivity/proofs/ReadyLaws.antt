@@ -1,20 +1,19 @@
 -- What steps 1 and 2 leave of a layout is what the block and its judging ask for.
 use mathlib.Core.Path.{_≡_, refl, sym, ap, subst, _∙_}
-use mathlib.Core.Bool.{Bool, true, false, _||_}
+use mathlib.Core.Bool.{true, false}
 use mathlib.Core.Logic.{_≢_}
-use mathlib.Core.List.{List, [], _∷_, _++_}
+use mathlib.Core.List.{List, [], _∷_}
 use Prim.Native.Nat.{ℕ, _*_, _^_, _≤_, _<_}
 use native.Mathlib.Omega.{arith}
-use lib.Dec.{T, ltb}
-use lib.IntN.{ℤ}
+use lib.Dec.{ltb}
 use lib.ListN.{length, length-append}
 use borrow.Author.Tests.{ltb-true, ltb-false}
 use Rattle.lists.proofs.TableLaws.{length-table}
 use Rattle.integer.specs.Range.{mostUnsigned}
-use Rattle.specification.specs.Tests.{if_then_else_, sortBy}
+use Rattle.specification.specs.Tests.{sortBy}
 use Rattle.specification.specs.Axis.{Axis, product, positions}
 use Rattle.specification.specs.Normal.{overfull}
-use Rattle.specification.specs.Search.{ActiveAxis, lengths, total, spanSum}
+use Rattle.specification.specs.Search.{ActiveAxis, total, spanSum}
 use Rattle.specification.specs.Verdict.{activeFrom, smaller, lower, upToLast, blockOf}
 use Rattle.specification.specs.BlockClaims.{inOrder}
 use Rattle.specification.proofs.AxisOrder.{Perm, nil, skip, swap, trans}
@@ -23,10 +22,10 @@ use Rattle.specification.proofs.BlockLaws.{Live, Lives, last-each, last-each-tw
 use Rattle.specification.proofs.NormalAxes.{positions-pos}
 use Rattle.specification.proofs.NormalLaws.{full-pos}
 use Rattle.specification.proofs.PlanCases.{ToBlock}
-use Rattle.specification.proofs.Sorting.{Each, EachTwo, each-at, each-two-implies, perm-length, perm-each, perm-each-two, sort-perm, sort-sorted}
+use Rattle.specification.proofs.Sorting.{Each, EachTwo, each-two-implies, perm-length, perm-each, perm-each-two, sort-perm, sort-sorted}
 use Rattle.search.specs.Block.{Ascending}
 use Rattle.injectivity.specs.Axes.{axisAt, axesIn}
-use Rattle.injectivity.specs.Block.{WithinWords, Interleaved, Judgeable}
+use Rattle.injectivity.specs.Block.{WithinWords, Interleaved, Judgeable, BlockOf}
 use Rattle.injectivity.specs.declared.axes.ActiveAxes.{ActiveAxes}
 use Rattle.injectivity.specs.declared.block.InterleavedBlock.{InterleavedBlock}
 use Rattle.injectivity.proofs.CoverLaws.{span-append}
@@ -125,7 +124,7 @@ module _ (axes : List Axis) (t : ToBlock axes) where
         omega (arith, span-append (blockOf axes) (w .0), ap spanSum (w .1), spans-low),
       )
 
-  pub judgeable : (block : InterleavedBlock) → Interleaved (inOrder axes) block → length axes ≤ 16 → Judgeable block
+  judgeable : (block : InterleavedBlock) → Interleaved (inOrder axes) block → length axes ≤ 16 → Judgeable block
   unfolding blockOf
   judgeable block i h =
       let e : axesIn (block .axes) ≡ blockOf axes = i .axes-are in
@@ -141,3 +140,7 @@ module _ (axes : List Axis) (t : ToBlock axes) where
         total-is = i .total-is;
         span-is = i .span-is;
       }
+
+  pub block-of : (block : InterleavedBlock) → Interleaved (inOrder axes) block → length axes ≤ 16 → BlockOf axes block
+  unfolding blockOf
+  block-of block i h = record { axes-are = i .axes-are; judgeable = judgeable block i h }

@@ -1,14 +1,14 @@
 -- The block by its size: none, crowded, two axes, three or more.
-use mathlib.Core.Path.{_≡_, refl, sym, ap, _∙_}
+use mathlib.Core.Path.{_≡_, refl, _∙_}
 use mathlib.Core.Logic.{_≢_}
 use mathlib.Core.List.{List, [], _∷_}
-use Prim.Native.Nat.{ℕ, _-_, _≤_, _<_}
+use Prim.Native.Nat.{_-_, _≤_, _<_}
 use native.Mathlib.Omega.{arith}
 use lib.ListN.{length}
 use borrow.Author.Tests.{lt-ltb, le-ltb, le-leb, lt-leb}
 use Rattle.lists.proofs.TableLaws.{length-table}
-use Rattle.specification.specs.Tests.{if_then_else_, sortBy}
-use Rattle.specification.specs.Search.{ActiveAxis, lengths, total, spanSum}
+use Rattle.specification.specs.Tests.{sortBy}
+use Rattle.specification.specs.Search.{ActiveAxis, total, spanSum}
 use Rattle.specification.specs.Verdict.{answered, Distinct, Repeated, Undecided, enumerated, pastSearch, longer, byMany, bySize, byBlock}
 use Rattle.specification.proofs.Digits.{product-positive}
 use Rattle.injectivity.specs.Axes.{axisAt, axesIn}

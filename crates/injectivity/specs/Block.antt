@@ -4,8 +4,9 @@ use mathlib.Core.Logic.{_≢_}
 use mathlib.Core.Path.{_≡_}
 use Prim.Native.Nat.{_^_, _<_, _≤_}
 use Rattle.specification.specs.Tests.{sortBy}
+use Rattle.specification.specs.Axis.{Axis}
 use Rattle.specification.specs.Search.{ActiveAxis, total, spanSum}
-use Rattle.specification.specs.Verdict.{upToLast, lower}
+use Rattle.specification.specs.Verdict.{upToLast, blockOf, lower}
 use Rattle.search.specs.Block.{Sides, Ascending}
 use Rattle.injectivity.specs.Axes.{axesIn}
 use Rattle.injectivity.specs.declared.axes.ActiveAxes.{ActiveAxes}
@@ -36,3 +37,8 @@ pub record Judgeable (block : InterleavedBlock) : Type 0 where
   pub not-one : block .axes .count ≢ 1
   pub total-is : block .total ≡ total (axesIn (block .axes))
   pub span-is : block .span ≡ spanSum (axesIn (block .axes))
+
+-- the block of a layout's axes, ready to be judged
+pub record BlockOf (axes : List Axis) (block : InterleavedBlock) : Type 0 where
+  pub axes-are : axesIn (block .axes) ≡ blockOf axes
+  pub judgeable : Judgeable block

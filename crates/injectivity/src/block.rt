@@ -1,8 +1,13 @@
 // Step 3: the block of small-stride axes whose spans reach into each other.
-ghost use Prim.Native.Nat.{_≤_};
+ghost use mathlib.Core.Path.{_≡_};
+ghost use Prim.Native.Nat.{_-_, _<_, _≤_};
+ghost use lib.Dec.{leb};
+ghost use Rattle.specification.specs.Axis.{axesOf};
 ghost use Rattle.injectivity.specs.Axes.{axesIn};
-ghost use Rattle.injectivity.specs.Block.{WithinWords, Interleaved};
+ghost use Rattle.injectivity.specs.Block.{WithinWords, Interleaved, BlockOf};
+ghost use Rattle.injectivity.specs.Inputs.{LeftToBlock};
 use crate::axes::ActiveAxes;
+use crate::axes::sorted_by_stride;
 
 // The block in the order of sorting, the product of its extents, and the sum of its absolute spans.
 pub struct InterleavedBlock {
@@ -11,8 +16,18 @@ pub struct InterleavedBlock {
     pub span: u64,
 }
 
+impl InterleavedBlock {
+    // Sums go from 0 to the span: more positions than that are crowded, and some two of them share one.
+    pub fn may_be_injective(self) -> bool
+        requires { ⌜ 0 < self .total ⌝ }
+        ensures { λ r. ⌜ r ≡ leb (self .total - 1) (self .span) ⌝ }
+    {
+        self.total - 1 <= self.span
+    }
+}
+
 // Of sorted axes, those up to the last whose absolute stride is at most the sum of absolute spans before it.
-pub fn interleaved_block(sorted: ActiveAxes) -> InterleavedBlock
+fn up_to_last(sorted: ActiveAxes) -> InterleavedBlock
     requires { ⌜ (sorted .count ≤ 16) × WithinWords (axesIn sorted) ⌝ }
     ensures { λ r. ⌜ Interleaved (axesIn sorted) r ⌝ }
 {
@@ -44,4 +59,13 @@ pub fn interleaved_block(sorted: ActiveAxes) -> InterleavedBlock
         total: total,
         span: span,
     }
+}
+
+// The block of a layout that steps 1 and 2 leave to it; it has no axes where every axis is separated.
+pub fn interleaved_block(extents: &[u64], strides: &[i64]) -> InterleavedBlock
+    requires { ⌜ LeftToBlock (now extents) (now strides) ⌝ }
+    ensures { λ r. ⌜ BlockOf (axesOf (now (extents .entry)) (now (strides .entry))) r ⌝ }
+{
+    let sorted = sorted_by_stride(extents, strides);
+    up_to_last(sorted)
 }

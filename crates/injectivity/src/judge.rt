@@ -1,7 +1,6 @@
 // Steps 3 to 6 on a block.
 ghost use mathlib.Core.Path.{_≡_};
-ghost use Prim.Native.Nat.{_-_, _<_};
-ghost use lib.Dec.{leb};
+ghost use Prim.Native.Nat.{_<_};
 ghost use lib.ListN.{length};
 ghost use Rattle.specification.specs.Tests.{if_then_else_, sortBy};
 ghost use Rattle.specification.specs.Verdict.{answered, Distinct, Repeated, enumerated, longer, pastSearch, byMany, byBlock, bySize, carryOut};
@@ -20,6 +19,9 @@ use search::search_block;
 use search::two_axis_block_is_injective;
 use view::layout::Refusal;
 
+// The largest total that is enumerated. It bounds the words needed, by 16,777,217.
+const EXACT_BLOCK_BUDGET: u64 = 16777216;
+
 // Step 4.
 fn two_axes_are_apart(axes: ActiveAxes) -> bool
     requires { ⌜ Searchable axes × (axes .count ≡ 2) ⌝ }
@@ -34,7 +36,7 @@ fn two_axes_are_apart(axes: ActiveAxes) -> bool
 }
 
 // Step 5, on the axes in axis order.
-fn block_differences(axes: ActiveAxes) -> Searched
+fn block_differences_avoid_zero(axes: ActiveAxes) -> Searched
     requires { ⌜ Searchable axes × (1 < axes .count) ⌝ }
     ensures { λ r. ⌜ planOf r (pastSearch (axesIn axes)) ≡ byMany (axesIn axes) (sortBy longer (axesIn axes)) ⌝ }
 {
@@ -45,8 +47,8 @@ fn block_differences(axes: ActiveAxes) -> Searched
     search_block(&extents[..count], &strides[..count])
 }
 
-// Step 6 within its budget.
-fn enumerate_block(block: InterleavedBlock, scratch: &mut [u64]) -> Judgement
+// Step 6 within its budget, on the axes in the order of sorting.
+fn block_offsets_unique(block: InterleavedBlock, scratch: &mut [u64]) -> Judgement
     requires { ⌜ Judgeable block ⌝ }
     ensures { λ r. ⌜ JudgedAs (carryOut (length (now (scratch .entry))) (enumerated (axesIn (block .axes)))) (now (scratch .entry)) (now (scratch .exit)) r ⌝ }
 {
@@ -68,13 +70,13 @@ fn enumerate_block(block: InterleavedBlock, scratch: &mut [u64]) -> Judgement
     }
 }
 
-// Past the budget of step 5: total up to 16,777,216 is enumerated.
+// Past the budget of step 5.
 fn judge_past_search(block: InterleavedBlock, scratch: &mut [u64]) -> Judgement
     requires { ⌜ Judgeable block ⌝ }
     ensures { λ r. ⌜ JudgedAs (carryOut (length (now (scratch .entry))) (pastSearch (axesIn (block .axes)))) (now (scratch .entry)) (now (scratch .exit)) r ⌝ }
 {
-    if block.total <= 16777216 {
-        enumerate_block(block, scratch)
+    if block.total <= EXACT_BLOCK_BUDGET {
+        block_offsets_unique(block, scratch)
     } else {
         Judgement::Undecided
     }
@@ -86,20 +88,12 @@ fn judge_many(block: InterleavedBlock, scratch: &mut [u64]) -> Judgement
     ensures { λ r. ⌜ JudgedAs (carryOut (length (now (scratch .entry))) (byMany (axesIn (block .axes)) (sortBy longer (axesIn (block .axes))))) (now (scratch .entry)) (now (scratch .exit)) r ⌝ }
 {
     let axes = block.axes;
-    let found = block_differences(axes);
+    let found = block_differences_avoid_zero(axes);
     match found {
         Searched::Repeated(count) => Judgement::Repeated(count),
         Searched::Distinct(count) => Judgement::Distinct(count),
         Searched::PastBudget => judge_past_search(block, scratch),
     }
-}
-
-// Whether there are no more positions than sums.
-fn may_be_injective(block: InterleavedBlock) -> bool
-    requires { ⌜ 0 < block .total ⌝ }
-    ensures { λ r. ⌜ r ≡ leb (block .total - 1) (block .span) ⌝ }
-{
-    block.total - 1 <= block.span
 }
 
 // The block judged: none is Distinct, a crowded one is Repeated, two axes are step 4.
@@ -112,7 +106,7 @@ pub fn judge_block(block: InterleavedBlock, scratch: &mut [u64]) -> Judgement
     if count == 0 {
         return Judgement::Distinct(0);
     }
-    if !may_be_injective(block) {
+    if !block.may_be_injective() {
         return Judgement::Repeated(0);
     }
     if count == 2 {

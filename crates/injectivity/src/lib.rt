@@ -6,9 +6,7 @@ pub mod judge;
 
 ghost use lib.ListN.{length};
 ghost use Rattle.specification.specs.Verdict.{verdict};
-ghost use Rattle.injectivity.specs.Inputs.{LeftToBlock};
 ghost use Rattle.injectivity.specs.Judgement.{JudgedAs};
-use axes::sorted_by_stride;
 use block::interleaved_block;
 use inputs::Inputs;
 use inputs::validate_injective_layout_inputs;
@@ -23,16 +21,6 @@ pub enum Judgement {
     Refused(Refusal),
 }
 
-// Steps 3 to 6.
-fn judge_valid(extents: &[u64], strides: &[i64], scratch: &mut [u64]) -> Judgement
-    requires { ⌜ LeftToBlock (now extents) (now strides) ⌝ }
-    ensures { λ r. ⌜ JudgedAs (verdict (now (extents .entry)) (now (strides .entry)) (length (now (scratch .entry)))) (now (scratch .entry)) (now (scratch .exit)) r ⌝ }
-{
-    let sorted = sorted_by_stride(extents, strides);
-    let block = interleaved_block(sorted);
-    judge_block(block, scratch)
-}
-
 // The verdict. Step 6 works in the scratch words: it refuses fewer than it needs, and leaves those past them as they were.
 pub fn is_injective_layout(extents: &[u64], strides: &[i64], scratch: &mut [u64]) -> Judgement
     ensures { λ r. ⌜ JudgedAs (verdict (now (extents .entry)) (now (strides .entry)) (length (now (scratch .entry)))) (now (scratch .entry)) (now (scratch .exit)) r ⌝ }
@@ -40,6 +28,9 @@ pub fn is_injective_layout(extents: &[u64], strides: &[i64], scratch: &mut [u64]
     let inputs = validate_injective_layout_inputs(extents, strides);
     match inputs {
         Inputs::Settled(judgement) => judgement,
-        Inputs::Valid => judge_valid(extents, strides, scratch),
+        Inputs::Valid => {
+            let block = interleaved_block(extents, strides);
+            judge_block(block, scratch)
+        }
     }
 }

@@ -1,40 +1,30 @@
+-- `out_of_range`: the axes by themselves, then the two sums of spans.
 use mathlib.Core.Path.{sym, _∙_}
 use Rattle.injectivity.proofs.InputsLaws.{unfit-out, spans-in, spans-out}
 use borrow.Author.Needs.{needs}
 use Rattle.injectivity.proofs.inputs.out_of_range.Statement.{statement}
 use Rattle.injectivity.proofs.inputs.out_of_range.Tie as tie
-use Rattle.injectivity.proofs.inputs.out_of_range.Reads as reads
-use Rattle.injectivity.proofs.inputs.out_of_range.Lts as lts
-use Rattle.injectivity.proofs.inputs.some_unfit.Reads as some-unfit-reads
-use Rattle.view.proofs.bounds.sum_spans.Reads as sum-spans-reads
 
--- src/inputs.rt:85:8
 some-unfit-requires : tie.Need-some-unfit-requires
 some-unfit-requires c κs = search needs
 
--- src/inputs.rt:86:9
 returns : tie.Need-returns
 returns c = sym (unfit-out _ (sym (c .before .some-unfit .ensures) ∙ c .if1 .taken))
 
--- src/inputs.rt:88:9
 sum-spans-requires : tie.Need-sum-spans-requires
 sum-spans-requires c κs = search needs
 
--- src/inputs.rt:90:24
 enum-told : tie.Need-enum-told
 enum-told c = search needs
 
--- src/inputs.rt:91:28
 enum-told-2 : tie.Need-enum-told-2
 enum-told-2 c = search needs
 
--- src/inputs.rt:81:1
 returns-2 : tie.Need-returns-2
 returns-2 c =
     let m = c .before .before in
     sym (spans-out _ (sym (m .before .before .some-unfit .ensures) ∙ m .before .if1 .left) (m .sum-spans .ensures) (c .enum-told .given .1))
 
--- src/inputs.rt:81:1
 returns-3 : tie.Need-returns-3
 returns-3 c =
     let m = c .before .before in

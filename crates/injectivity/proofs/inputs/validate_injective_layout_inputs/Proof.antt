@@ -1,3 +1,4 @@
+-- `validate_injective_layout_inputs`: each end of steps 1 and 2 is the verdict there.
 use mathlib.Core.Logic.{inl, inr}
 use mathlib.Core.Path.{_≡_, sym, _∙_}
 use Prim.Native.Nat.{_≤_}
@@ -6,11 +7,6 @@ use Rattle.injectivity.proofs.PlanLaws.{too-many, unequal, overfull-tol
 use borrow.Author.Needs.{needs}
 use Rattle.injectivity.proofs.inputs.validate_injective_layout_inputs.Statement.{statement}
 use Rattle.injectivity.proofs.inputs.validate_injective_layout_inputs.Tie as tie
-use Rattle.injectivity.proofs.inputs.validate_injective_layout_inputs.Reads as reads
-use Rattle.injectivity.proofs.inputs.validate_injective_layout_inputs.Lts as lts
-use Rattle.injectivity.proofs.inputs.out_of_range.Reads as out-of-range-reads
-use Rattle.injectivity.proofs.inputs.some_still.Reads as some-still-reads
-use Rattle.view.proofs.count.checked_element_count.Reads as checked-element-count-reads
 
 -- both lists short and of one length
 module _ (t : tie.After-checked-element-count) where
@@ -20,54 +16,42 @@ module _ (t : tie.After-checked-element-count) where
   equal : length (t .before .before .before .before .before .args .extents .now) ≡ length (t .before .before .before .before .before .args .strides .now)
   equal = t .before .if3 .left
 
--- src/inputs.rt:100:9
 returns : tie.Need-returns
 returns c = too-many _ _ (inl (c .if1 .taken))
 
--- src/inputs.rt:103:9
 returns-2 : tie.Need-returns-2
 returns-2 c = too-many _ _ (inr (c .if2 .taken))
 
--- src/inputs.rt:106:9
 returns-3 : tie.Need-returns-3
 returns-3 c = unequal _ _ (c .before .before .if1 .left) (c .before .if2 .left) (c .if3 .taken)
 
--- src/inputs.rt:108:28
 checked-element-count-requires : tie.Need-checked-element-count-requires
 checked-element-count-requires c κs = search needs
 
--- src/inputs.rt:108:19
 enum-known-total : tie.Need-enum-known-total
 enum-known-total c = search needs
 
--- src/inputs.rt:109:51
 enum-told : tie.Need-enum-told
 enum-told c = search needs
 
--- src/inputs.rt:109:9
 returns-4 : tie.Need-returns-4
 returns-4 c = let t = c .before .before in overfull-told _ _ (short t) (equal t) _ (t .checked-element-count .ensures) (c .enum-told .given .1)
 
--- src/inputs.rt:112:9
 returns-5 : tie.Need-returns-5
 returns-5 c = let t = c .before .before .before .before in few-told _ _ (short t) (equal t) _ (t .checked-element-count .ensures) _ (c .before .before .total .given .1) (c .if4 .taken)
 
--- src/inputs.rt:114:8
 some-still-requires : tie.Need-some-still-requires
 some-still-requires c κs = search needs
 
--- src/inputs.rt:115:9
 returns-6 : tie.Need-returns-6
 returns-6 c =
     let m = c .before .before in
     let t = m .before .before .before .before in
     still-told _ _ (short t) (equal t) _ (t .checked-element-count .ensures) _ (m .before .before .total .given .1) (m .if4 .left) (sym (c .before .some-still .ensures) ∙ c .if5 .taken)
 
--- src/inputs.rt:117:8
 out-of-range-requires : tie.Need-out-of-range-requires
 out-of-range-requires c κs = search needs
 
--- src/inputs.rt:118:9
 returns-7 : tie.Need-returns-7
 returns-7 c =
     let n = c .before .before in
@@ -75,7 +59,6 @@ returns-7 c =
     let t = m .before .before .before .before in
     out-told _ _ (short t) (equal t) _ (t .checked-element-count .ensures) _ (m .before .before .total .given .1) (m .if4 .left) (sym (n .before .some-still .ensures) ∙ n .if5 .left) (sym (c .before .out-of-range .ensures) ∙ c .if6 .taken)
 
--- src/inputs.rt:96:1
 returns-8 : tie.Need-returns-8
 returns-8 c =
     let n = c .before .before in

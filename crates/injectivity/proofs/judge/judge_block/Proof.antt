@@ -1,3 +1,4 @@
+-- `judge_block`: no block, a crowded one, two axes, or more.
 use mathlib.Core.Path.{refl, sym, ap, _∙_}
 use mathlib.Core.Bool.{Bool}
 use mathlib.Core.Logic.{_≢_}
@@ -10,11 +11,6 @@ use Rattle.injectivity.proofs.SizeLaws.{total-above, no-block, crowded,
 use borrow.Author.Needs.{needs}
 use Rattle.injectivity.proofs.judge.judge_block.Statement.{statement}
 use Rattle.injectivity.proofs.judge.judge_block.Tie as tie
-use Rattle.injectivity.proofs.judge.judge_block.Reads as reads
-use Rattle.injectivity.proofs.judge.judge_block.Lts as lts
-use Rattle.injectivity.proofs.judge.judge_many.Reads as judge-many-reads
-use Rattle.injectivity.proofs.judge.may_be_injective.Reads as may-be-injective-reads
-use Rattle.injectivity.proofs.judge.two_axes_are_apart.Reads as two-axes-are-apart-reads
 
 -- a block that is not crowded
 module _ (m : tie.Else2) where
@@ -27,50 +23,41 @@ module _ (m : tie.Else2) where
   roomy : start .args .block .total - 1 ≤ start .args .block .span
   roomy = leb-true _ _ (sym (m .before .may-be-injective .ensures) ∙ not-false _ (m .if2 .left))
 
--- src/judge.rt:113:9
 returns : tie.Need-returns
 returns c =
     let s = c .before .before .before in
     judged-answered _ _ (no-block (s .args .block) (s .pre) (c .if1 .taken)) refl
 
--- src/judge.rt:115:9
 may-be-injective-requires : tie.Need-may-be-injective-requires
 may-be-injective-requires c κs = let s = c .before .before .before in total-above (s .args .block) (s .pre)
 
--- src/judge.rt:116:9
 returns-2 : tie.Need-returns-2
 returns-2 c =
     let e = c .before .before in
     let s = e .before .before .before in
     judged-answered _ _ (crowded (s .args .block) (s .pre) (e .if1 .left) (leb-false _ _ (sym (c .before .may-be-injective .ensures) ∙ not-true _ (c .if2 .taken)))) refl
 
--- src/judge.rt:119:12
 two-axes-are-apart-requires : tie.Need-two-axes-are-apart-requires
 two-axes-are-apart-requires c κs = search needs
 
--- src/judge.rt:120:13
 returns-3 : tie.Need-returns-3
 returns-3 c =
     let m = c .before .before .before in
     let s = start m in
     judged-answered _ _ (sym (ap (λ (t : Bool). if t then answered Distinct 0 else answered Repeated 0) (c .if4 .taken)) ∙ sym (c .before .two-axes-are-apart .ensures) ∙ sized (s .args .block) (s .pre) (some-axes m) (roomy m)) refl
 
--- src/judge.rt:122:9
 returns-4 : tie.Need-returns-4
 returns-4 c =
     let m = c .before .before .before in
     let s = start m in
     judged-answered _ _ (sym (ap (λ (t : Bool). if t then answered Distinct 0 else answered Repeated 0) (c .if4 .left)) ∙ sym (c .before .two-axes-are-apart .ensures) ∙ sized (s .args .block) (s .pre) (some-axes m) (roomy m)) refl
 
--- src/judge.rt:124:5
 judge-many-requires : tie.Need-judge-many-requires
 judge-many-requires c κs = search needs
 
--- src/judge.rt:106:1
 same-length : tie.Need-same-length
 same-length c = search needs
 
--- src/judge.rt:106:1
 returns-5 : tie.Need-returns-5
 returns-5 c =
     let e = c .before .before .before .before in

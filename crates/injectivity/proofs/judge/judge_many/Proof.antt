@@ -1,3 +1,4 @@
+-- `judge_many`: what the search answers, or what is past it.
 use mathlib.Core.Path.{refl, sym, ap, _∙_}
 use Rattle.specification.specs.Verdict.{pastSearch}
 use Rattle.search.specs.Block.{planOf}
@@ -7,59 +8,46 @@ use Rattle.injectivity.proofs.JudgeLaws.{judged-answered, judged-plan}
 use borrow.Author.Needs.{needs}
 use Rattle.injectivity.proofs.judge.judge_many.Statement.{statement}
 use Rattle.injectivity.proofs.judge.judge_many.Tie as tie
-use Rattle.injectivity.proofs.judge.judge_many.Reads as reads
-use Rattle.injectivity.proofs.judge.judge_many.Lts as lts
-use Rattle.injectivity.proofs.judge.block_differences.Reads as block-differences-reads
-use Rattle.injectivity.proofs.judge.judge_past_search.Reads as judge-past-search-reads
 
--- src/judge.rt:89:9
-block-differences-requires : tie.Need-block-differences-requires
-block-differences-requires c κs = search needs
+block-differences-avoid-zero-requires : tie.Need-block-differences-avoid-zero-requires
+block-differences-avoid-zero-requires c κs = search needs
 
--- src/judge.rt:91:28
 enum-known-found : tie.Need-enum-known-found
 enum-known-found c = search needs
 
--- src/judge.rt:92:28
 enum-known-found-2 : tie.Need-enum-known-found-2
 enum-known-found-2 c = search needs
 
--- src/judge.rt:93:58
 enum-told : tie.Need-enum-told
 enum-told c = search needs
 
--- src/judge.rt:93:33
 judge-past-search-requires : tie.Need-judge-past-search-requires
 judge-past-search-requires c κs = search needs
 
--- src/judge.rt:84:1
 returns : tie.Need-returns
 returns c =
     let s = c .before .before .before .before .before .before in
-    judged-answered _ _ (sym (ap (λ (r : Searched). planOf r (pastSearch (axesIn (s .args .block .axes)))) (c .before .found .given .1)) ∙ c .before .before .before .block-differences .ensures) refl
+    judged-answered _ _ (sym (ap (λ (r : Searched). planOf r (pastSearch (axesIn (s .args .block .axes)))) (c .before .found .given .1)) ∙ c .before .before .before .block-differences-avoid-zero .ensures) refl
 
--- src/judge.rt:84:1
 returns-2 : tie.Need-returns-2
 returns-2 c =
     let s = c .before .before .before .before .before .before in
-    judged-answered _ _ (sym (ap (λ (r : Searched). planOf r (pastSearch (axesIn (s .args .block .axes)))) (c .before .found2 .given .1)) ∙ c .before .before .before .block-differences .ensures) refl
+    judged-answered _ _ (sym (ap (λ (r : Searched). planOf r (pastSearch (axesIn (s .args .block .axes)))) (c .before .found2 .given .1)) ∙ c .before .before .before .block-differences-avoid-zero .ensures) refl
 
--- src/judge.rt:84:1
 same-length : tie.Need-same-length
 same-length c = search needs
 
--- src/judge.rt:84:1
 returns-3 : tie.Need-returns-3
 returns-3 c =
     let t = c .before .before .before .before in
     let s = t .before .before .before .before .before in
-    judged-plan _ _ _ (sym (ap (λ (r : Searched). planOf r (pastSearch (axesIn (s .args .block .axes)))) (t .enum-told .given .1)) ∙ t .before .before .block-differences .ensures) (c .before .before .judge-past-search .ensures)
+    judged-plan _ _ _ (sym (ap (λ (r : Searched). planOf r (pastSearch (axesIn (s .args .block .axes)))) (t .enum-told .given .1)) ∙ t .before .before .block-differences-avoid-zero .ensures) (c .before .before .judge-past-search .ensures)
 
 pub judge-many-spec : {M : Type 1} → statement M
 judge-many-spec =
     tie.close
     (tie.spec
-    block-differences-requires
+    block-differences-avoid-zero-requires
     enum-known-found
     enum-known-found-2
     enum-told

@@ -1,36 +1,28 @@
+-- `two_axes_are_apart` asks step 4 of the two axes.
 use Rattle.injectivity.proofs.JudgeLaws.{two-move, two-plan}
 use borrow.Author.Needs.{needs}
 use Rattle.injectivity.proofs.judge.two_axes_are_apart.Statement.{statement}
 use Rattle.injectivity.proofs.judge.two_axes_are_apart.Tie as tie
-use Rattle.injectivity.proofs.judge.two_axes_are_apart.Reads as reads
-use Rattle.injectivity.proofs.judge.two_axes_are_apart.Lts as lts
-use Rattle.search.proofs.two_axis_block_is_injective.Reads as two-axis-block-is-injective-reads
 
--- src/judge.rt:29:9
 element-copy-out-two-axis-block-is-injective :
     tie.Need-element-copy-out-two-axis-block-is-injective
 element-copy-out-two-axis-block-is-injective c = search needs
 
--- src/judge.rt:30:9
 element-copy-out-two-axis-block-is-injective-2 :
     tie.Need-element-copy-out-two-axis-block-is-injective-2
 element-copy-out-two-axis-block-is-injective-2 c = search needs
 
--- src/judge.rt:31:9
 element-copy-out-two-axis-block-is-injective-3 :
     tie.Need-element-copy-out-two-axis-block-is-injective-3
 element-copy-out-two-axis-block-is-injective-3 c = search needs
 
--- src/judge.rt:32:9
 element-copy-out-two-axis-block-is-injective-4 :
     tie.Need-element-copy-out-two-axis-block-is-injective-4
 element-copy-out-two-axis-block-is-injective-4 c = search needs
 
--- src/judge.rt:28:5
 two-axis-block-is-injective-requires : tie.Need-two-axis-block-is-injective-requires
 two-axis-block-is-injective-requires c κs = let s = c .before .before .before .before in two-move (s .args .t1) (s .pre .1) (s .pre .0)
 
--- src/judge.rt:24:1
 returns : tie.Need-returns
 returns c = let s = c .before .before .before .before .before in two-plan (s .args .t1) (s .pre .1) _ (c .two-axis-block-is-injective .ensures)
 

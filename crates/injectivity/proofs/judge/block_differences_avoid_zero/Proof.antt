@@ -1,3 +1,4 @@
+-- `block_differences_avoid_zero` hands the axes to step 5 in axis order.
 use mathlib.Core.Path.{_≡_, sym}
 use native.Mathlib.Omega.{arith}
 use lib.ListN.{length}
@@ -6,12 +7,8 @@ use Rattle.injectivity.specs.Axes.{axesIn}
 use Rattle.injectivity.specs.declared.axes.ActiveAxes.{ActiveAxes}
 use Rattle.injectivity.proofs.JudgeLaws.{ordered-count, ordered-block, ordered-blocked}
 use borrow.Author.Needs.{needs}
-use Rattle.injectivity.proofs.judge.block_differences.Statement.{statement}
-use Rattle.injectivity.proofs.judge.block_differences.Tie as tie
-use Rattle.injectivity.proofs.judge.block_differences.Reads as reads
-use Rattle.injectivity.proofs.judge.block_differences.Lts as lts
-use Rattle.injectivity.proofs.axes.sorted_by_axis.Reads as sorted-by-axis-reads
-use Rattle.search.proofs.search_block.Reads as search-block-reads
+use Rattle.injectivity.proofs.judge.block_differences_avoid_zero.Statement.{statement}
+use Rattle.injectivity.proofs.judge.block_differences_avoid_zero.Tie as tie
 
 -- the axes in axis order
 module _ (t : tie.After-sorted-by-axis) where
@@ -30,41 +27,34 @@ module _ (t : tie.After-sorted-by-axis) where
   count-is : ordered .count ≡ axes .count
   count-is = ordered-count axes ordered (t .before .pre .0) (t .sorted-by-axis .ensures) extents-16 strides-16
 
--- src/judge.rt:41:9
 sorted-by-axis-requires : tie.Need-sorted-by-axis-requires
 sorted-by-axis-requires c κs = search needs
 
--- src/judge.rt:45:18
 array-share-prefix-extents : tie.Need-array-share-prefix-extents
 array-share-prefix-extents c = let t = c .before .before in omega (arith, count-is t, extents-16 t, t .before .pre .0 .few)
 
--- src/judge.rt:45:18
 slice-aggregate-search-block : tie.Need-slice-aggregate-search-block
 slice-aggregate-search-block c = let t = c .before .before .before in sym (length-take-le _ _ (omega (arith, count-is t, extents-16 t, t .before .pre .0 .few)))
 
--- src/judge.rt:45:37
 array-share-prefix-strides : tie.Need-array-share-prefix-strides
 array-share-prefix-strides c = let t = c .before .before .before in omega (arith, count-is t, strides-16 t, t .before .pre .0 .few)
 
--- src/judge.rt:45:37
 slice-aggregate-search-block-2 : tie.Need-slice-aggregate-search-block-2
 slice-aggregate-search-block-2 c = let t = c .before .before .before .before in sym (length-take-le _ _ (omega (arith, count-is t, strides-16 t, t .before .pre .0 .few)))
 
--- src/judge.rt:45:5
 search-block-requires : tie.Need-search-block-requires
 search-block-requires c κs =
     let t = c .before .before .before .before in
     let l = length-take-le (ordered t .count) (ordered t .extents) (omega (arith, count-is t, extents-16 t, t .before .pre .0 .few)) in
     (omega (arith, l, count-is t, t .before .pre .1), ordered-blocked (axes t) (ordered t) (t .before .pre .0) (t .sorted-by-axis .ensures) (extents-16 t) (strides-16 t))
 
--- src/judge.rt:37:1
 returns : tie.Need-returns
 returns c =
     let t = c .before .before .before .before .before in
     c .search-block .ensures (axesIn (axes t)) (ordered-block (axes t) (ordered t) (t .before .pre .0) (t .sorted-by-axis .ensures) (extents-16 t) (strides-16 t))
 
-pub block-differences-spec : {M : Type 1} → statement M
-block-differences-spec =
+pub block-differences-avoid-zero-spec : {M : Type 1} → statement M
+block-differences-avoid-zero-spec =
     tie.close
     (tie.spec
     sorted-by-axis-requires

@@ -1,3 +1,4 @@
+-- `block_offsets_unique` hands the block to step 6 in the order of sorting, and tells its answer.
 use mathlib.Core.Path.{_≡_, refl, sym}
 use Prim.Native.Nat.{_≤_}
 use native.Mathlib.Omega.{arith}
@@ -8,11 +9,8 @@ use Rattle.injectivity.specs.Axes.{axesIn}
 use Rattle.injectivity.specs.declared.block.InterleavedBlock.{InterleavedBlock}
 use Rattle.injectivity.proofs.JudgeLaws.{block-described, block-handed, judged-enumerated}
 use borrow.Author.Needs.{needs}
-use Rattle.injectivity.proofs.judge.enumerate_block.Statement.{statement}
-use Rattle.injectivity.proofs.judge.enumerate_block.Tie as tie
-use Rattle.injectivity.proofs.judge.enumerate_block.Reads as reads
-use Rattle.injectivity.proofs.judge.enumerate_block.Lts as lts
-use Rattle.enumeration.proofs.enumerate.Reads as enumerate-reads
+use Rattle.injectivity.proofs.judge.block_offsets_unique.Statement.{statement}
+use Rattle.injectivity.proofs.judge.block_offsets_unique.Tie as tie
 
 -- the block in its arrays
 module _ (t : tie.Start) where
@@ -34,64 +32,50 @@ defined : (t : tie.After-enumerate) → let s = t .before .before .before .befor
 defined t = let s = t .before .before .before .before .before .before .before .before in
     t .enumerate .ensures (axesIn (block s .axes)) (block-described (block s) (s .pre) (extents-16 s) (strides-16 s))
 
--- src/judge.rt:58:9
 array-share-prefix-extents : tie.Need-array-share-prefix-extents
 array-share-prefix-extents c = let s = c .before .before .before .before in omega (arith, few s, extents-16 s)
 
--- src/judge.rt:58:9
 slice-aggregate-enumerate : tie.Need-slice-aggregate-enumerate
 slice-aggregate-enumerate c = let s = c .before .before .before .before .before in sym (length-take-le _ _ (omega (arith, few s, extents-16 s)))
 
--- src/judge.rt:59:9
 array-share-prefix-strides : tie.Need-array-share-prefix-strides
 array-share-prefix-strides c = let s = c .before .before .before .before .before in omega (arith, few s, strides-16 s)
 
--- src/judge.rt:59:9
 slice-aggregate-enumerate-2 : tie.Need-slice-aggregate-enumerate-2
 slice-aggregate-enumerate-2 c = let s = c .before .before .before .before .before .before in sym (length-take-le _ _ (omega (arith, few s, strides-16 s)))
 
--- src/judge.rt:57:9
 enumerate-requires : tie.Need-enumerate-requires
 enumerate-requires c κs = let s = c .before .before .before .before .before .before .before in block-handed (block s) (s .pre) (extents-16 s) (strides-16 s)
 
--- src/judge.rt:65:29
 enum-told : tie.Need-enum-told
 enum-told c = search needs
 
--- src/judge.rt:66:29
 enum-told-2 : tie.Need-enum-told-2
 enum-told-2 c = search needs
 
--- src/judge.rt:67:23
 enum-known-answer : tie.Need-enum-known-answer
 enum-known-answer c = search needs
 
--- src/judge.rt:49:1
 same-length : tie.Need-same-length
 same-length c = search needs
 
--- src/judge.rt:49:1
 returns : tie.Need-returns
 returns c = let t = c .before .before .before .before in judged-enumerated _ (defined t) (c .enum-told .given .1) refl
 
--- src/judge.rt:49:1
 same-length-2 : tie.Need-same-length-2
 same-length-2 c = search needs
 
--- src/judge.rt:49:1
 returns-2 : tie.Need-returns-2
 returns-2 c = let t = c .before .before .before .before in judged-enumerated _ (defined t) (c .enum-told2 .given .1) refl
 
--- src/judge.rt:49:1
 same-length-3 : tie.Need-same-length-3
 same-length-3 c = search needs
 
--- src/judge.rt:49:1
 returns-3 : tie.Need-returns-3
 returns-3 c = let t = c .before .before .before .before .before in judged-enumerated _ (defined t) (c .before .answer .given .1) refl
 
-pub enumerate-block-spec : {M : Type 1} → statement M
-enumerate-block-spec =
+pub block-offsets-unique-spec : {M : Type 1} → statement M
+block-offsets-unique-spec =
     tie.close
     (tie.spec
     array-share-prefix-extents
