@@ -14,7 +14,7 @@ pub record Told : Type 0 where
   pub answer : Verdict
   pub count : ℕ
 
--- what is told of an outcome: all but how many words are free, which 01 leaves to the words needed
+-- what is told of an outcome: all but how many words it frees
 abbrev pub toldOf : Outcome Judged → Outcome Told
 toldOf (done j) = done (record { answer = j .answer; count = j .count })
 toldOf (refused number values) = refused number values
@@ -26,7 +26,7 @@ outcomeOf (Repeated count) = done (record { answer = verdict.Repeated; count = c
 outcomeOf Undecided = done (record { answer = verdict.Undecided; count = 0 })
 outcomeOf (Refused why) = refused (numberOf why) (valuesOf why)
 
--- answer and scratch are those of an outcome
+-- answer and scratch of the call are those of an outcome: the scratch is `before` it and `after` it
 pub record JudgedAs (outcome : Outcome Judged) (before after : List ℕ) (answer : Judgement) : Type 0 where
   pub told : outcomeOf answer ≡ toldOf outcome
   pub scratch : ScratchAfter (freedBy outcome) before after

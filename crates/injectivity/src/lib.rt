@@ -1,8 +1,8 @@
 // injectivity.rs: whether no two positions of a layout share an offset, said of its extents and strides.
-pub mod axes;
-pub mod block;
-pub mod inputs;
-pub mod judge;
+mod axes;
+mod block;
+mod inputs;
+mod judge;
 
 ghost use lib.ListN.{length};
 ghost use Rattle.specification.specs.Verdict.{verdict};
@@ -21,7 +21,7 @@ pub enum Judgement {
     Refused(Refusal),
 }
 
-// The verdict. Step 6 works in the scratch words: it refuses fewer than it needs, and leaves those past them as they were.
+// The verdict. Only step 6 works in the scratch: it refuses fewer words than it needs, and leaves those past them as they were.
 pub fn is_injective_layout(extents: &[u64], strides: &[i64], scratch: &mut [u64]) -> Judgement
     ensures { λ r. ⌜ JudgedAs (verdict (now (extents .entry)) (now (strides .entry)) (length (now (scratch .entry)))) (now (scratch .entry)) (now (scratch .exit)) r ⌝ }
 {
