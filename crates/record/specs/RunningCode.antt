@@ -1,10 +1,15 @@
--- Demand 3 said of running code: what any two runs of `run_calls` and two calls of `write_record` come to.
+-- Demand 3 and the round trip said of running code: what any two runs of `run_calls` and any calls of `write_record` and `read_record` come to.
 -- `Ran` and `Wrote` are what the functions hand back; the premises are their contracts, word for word.
 use mathlib.Core.List.{List}
 use mathlib.Core.Path.{_≡_}
-use Prim.Native.Nat.{ℕ}
-use Rattle.specification.specs.Layout.{Accepted}
-use Rattle.specification.specs.Record.{Writing}
+use Prim.Native.Nat.{ℕ, _≤_}
+use lib.ListN.{length, take}
+use Rattle.specification.specs.Outcome.{Outcome, done, pass}
+use Rattle.specification.specs.Layout.{LayoutM, Accepted}
+use Rattle.specification.specs.Normal.{normalOf}
+use Rattle.specification.specs.Views.{After}
+use Rattle.specification.specs.Record.{Writing, withBuffer, numberFrom}
+use Rattle.specification.specs.RecordClaims.{Bytes}
 use Rattle.specification.specs.Calls.{endOf}
 use Rattle.specification.specs.Demand3.{Demand3}
 use Rattle.view.specs.declared.layout.Layout.{Layout}
@@ -13,6 +18,7 @@ use Rattle.record.specs.declared.calls.Ran.{Ran}
 use Rattle.record.specs.declared.writer.Wrote.{Wrote}
 use Rattle.record.specs.CallList.{callsOf, endedOf}
 use Rattle.record.specs.Writer.{wroteOf}
+use Rattle.record.specs.Reading.{Reading}
 
 -- what `run_calls` ensures of a run
 abbrev pub RunOf : Layout → List ℕ → Ran → Type 0
@@ -25,3 +31,16 @@ RunningDemand3 = (a b : Layout) → Accepted (modelOf a) → Accepted (modelOf b
     → Writing (modelOf (ran .layout)) output scratch (wroteOf wrote) output-then scratch-then
     → Writing (modelOf (ran′ .layout)) output′ scratch′ (wroteOf wrote′) output-then′ scratch-then′
     → Demand3 (modelOf a) (modelOf b) (callsOf cs) (callsOf ds) output scratch output-then scratch-then output′ scratch′ output-then′ scratch-then′ (wroteOf wrote) (wroteOf wrote′)
+
+-- the round trip, both ways, of any calls of writer and reader
+pub record RunningRoundTrip : Type 0 where
+  -- write then read: the output after the writer is read as the normal form, whatever stands behind the record
+  pub write-read : (l : Layout) (output scratch output-then scratch-then : List ℕ) (wrote : Wrote) (n : ℕ) → Accepted (modelOf l)
+      → Writing (modelOf l) output scratch (wroteOf wrote) output-then scratch-then → wroteOf wrote ≡ done n
+      → (scratch′ scratch-then′ : List ℕ) (answer : After) → length scratch′ ≡ length scratch → Reading output-then scratch′ answer scratch-then′
+      → answer ≡ record { answer = pass; layout = withBuffer (normalOf (modelOf l)) }
+  -- read then write: the bytes of the front again
+  pub read-write : (bytes scratch scratch-then : List ℕ) (l : LayoutM) → Bytes bytes → Reading bytes scratch (record { answer = pass; layout = l }) scratch-then
+      → (output scratch′ output-then scratch-then′ : List ℕ) (answer : Outcome ℕ) → length scratch′ ≡ length scratch → numberFrom bytes 0 2 ≤ length output
+      → Writing l output scratch′ answer output-then scratch-then′
+      → take (numberFrom bytes 0 2) output-then ≡ take (numberFrom bytes 0 2) bytes
