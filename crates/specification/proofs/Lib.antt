@@ -61,6 +61,7 @@ pub mod PermuteAnswers
 pub mod BroadcastAnswers
 pub mod DiagonalAnswers
 pub mod AnswerLaws
+pub mod CheckInLaws
 pub mod RangeLaws
 pub mod ClassLaws
 pub mod NewLayoutLaws

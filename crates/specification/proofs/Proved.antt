@@ -1,6 +1,7 @@
 -- Every claim of specs/, with its proof: one record that the check has to build.
 use Rattle.specification.specs.TestClaims.{TestClaims}
 use Rattle.specification.specs.ReachClaims.{ReachClaims}
+use Rattle.specification.specs.CheckInClaims.{CheckInClaims, NormalCallClaims}
 use Rattle.specification.specs.ViewClaims.{AnswerClaims, AcceptedClaims, RangeClaims, NewLayoutClaims, ClassClaims, ViewClaims}
 use Rattle.specification.specs.NormalClaims.{NormalClaims}
 use Rattle.specification.specs.BlockClaims.{BlockClaims}
@@ -13,6 +14,7 @@ use Rattle.specification.specs.Starred.{Starred}
 use Rattle.specification.specs.Cases.{Cases}
 use Rattle.specification.proofs.TestsTold.{test-claims}
 use Rattle.specification.proofs.ReachClaimed.{reach-claims}
+use Rattle.specification.proofs.CheckInLaws.{check-in-claims, normal-call-claims}
 use Rattle.specification.proofs.AnswerLaws.{answer-claims}
 use Rattle.specification.proofs.ReaderLaws.{accepted-claims}
 use Rattle.specification.proofs.RangeLaws.{range-claims}
@@ -43,6 +45,7 @@ demand3 = demand3-from answer-claims
 pub record Proved : Type 0 where
   pub tests : TestClaims
   pub reach : ReachClaims
+  pub check-in : CheckInClaims
   pub answers : AnswerClaims
   pub accepted : AcceptedClaims
   pub ranges : RangeClaims
@@ -50,6 +53,7 @@ pub record Proved : Type 0 where
   pub classes : ClassClaims
   pub views : ViewClaims
   pub normal : NormalClaims
+  pub normal-call : NormalCallClaims
   pub block : BlockClaims
   pub verdict : VerdictClaims
   pub words : WordsClaims
@@ -71,6 +75,7 @@ pub proved : Proved
 proved = record {
   tests = test-claims;
   reach = reach-claims;
+  check-in = check-in-claims;
   answers = answer-claims;
   accepted = accepted-claims;
   ranges = range-claims;
@@ -78,6 +83,7 @@ proved = record {
   classes = class-claims;
   views = view-claims;
   normal = normal-claims;
+  normal-call = normal-call-claims;
   block = block-claims;
   verdict = verdict-claims;
   words = words-claims;

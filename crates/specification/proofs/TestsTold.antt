@@ -29,7 +29,7 @@ use Rattle.specification.proofs.TestLaws.{true-not-false}
 
 -- ---- tests on tests
 
-or-holds : (s t : Bool) {P Q : Type 0} → ((s ≡ true) ↔ P) → ((t ≡ true) ↔ Q) → ((s || t) ≡ true) ↔ (P ⊎ Q)
+pub or-holds : (s t : Bool) {P Q : Type 0} → ((s ≡ true) ↔ P) → ((t ≡ true) ↔ Q) → ((s || t) ≡ true) ↔ (P ⊎ Q)
 or-holds true t h k = (λ e. inl (h .0 refl), λ w. refl)
 or-holds false t {P} {Q} h k = (λ e. inr (k .0 e), λ w. second w)
   where
@@ -40,7 +40,7 @@ or-holds false t {P} {Q} h k = (λ e. inr (k .0 e), λ w. second w)
 and-holds : {P Q : Type 0} (s t : Bool) → ((s ≡ true) ↔ P) → ((t ≡ true) ↔ Q) → ((s && t) ≡ true) ↔ (P × Q)
 and-holds s t h k = (λ e. let w = and-true s t e in (h .0 (w .0), k .0 (w .1)), λ w. rw (h .1 (w .0), k .1 (w .1)))
 
-not-holds : {P : Type 0} (t : Bool) → ((t ≡ true) ↔ P) → (not t ≡ true) ↔ (¬ P)
+pub not-holds : {P : Type 0} (t : Bool) → ((t ≡ true) ↔ P) → (not t ≡ true) ↔ (¬ P)
 not-holds true h = (λ e p. true-not-false e refl, λ f. absurd (f (h .0 refl)))
 not-holds false h = (λ e p. true-not-false (h .1 p) refl, λ f. refl)
 
@@ -54,12 +54,12 @@ eqZ-holds x y = (λ e. eqZ-yes x y (subst T (sym e) tt), λ e. by (eqZ x y) (eqZ
     by true f e = refl
     by false f e = absurd (f tt e)
 
-in-range : (z : ℤ) → (fits z ≡ true) ↔ SFits w64 z
+pub in-range : (z : ℤ) → (fits z ≡ true) ↔ SFits w64 z
 in-range z = (sfits-of-fits z, fits-of-sfits z)
 
 -- ---- some axis
 
-some-axis : (test : Axis → Bool) {So : Axis → Type 0} → ((a : Axis) → (test a ≡ true) ↔ So a) → (axes : List Axis) → (some test axes ≡ true) ↔ SomeAxis axes So
+pub some-axis : (test : Axis → Bool) {So : Axis → Type 0} → ((a : Axis) → (test a ≡ true) ↔ So a) → (axes : List Axis) → (some test axes ≡ true) ↔ SomeAxis axes So
 unfolding some
 some-axis test h [] = (λ e. absurd (true-not-false e refl), λ w. absurd (omega (arith, w .in-rank)))
 some-axis test {So} h (a ∷ rest) =
@@ -78,7 +78,7 @@ empty : (axes : List Axis) → (isEmpty axes ≡ true) ↔ SomeAxis axes (λ a. 
 unfolding isEmpty
 empty = some-axis (λ a. eqb (a .extent) 0) (λ a. (eqb-true (a .extent) 0, eq-eqb (a .extent) 0))
 
-too-wide : (axes : List Axis) → (some tooWide axes ≡ true) ↔ SomeAxis axes (λ a. (1 < a .extent) × (mostSigned < a .extent - 1))
+pub too-wide : (axes : List Axis) → (some tooWide axes ≡ true) ↔ SomeAxis axes (λ a. (1 < a .extent) × (mostSigned < a .extent - 1))
 too-wide = some-axis tooWide (λ a. and-holds (active a) (ltb mostSigned (a .extent - 1)) (ltb-holds 1 (a .extent)) (ltb-holds mostSigned (a .extent - 1)))
 
 -- an active axis of stride s

@@ -16,6 +16,7 @@ pub mod Calls
 pub mod ViewRules
 pub mod TestClaims
 pub mod ReachClaims
+pub mod CheckInClaims
 pub mod NormalClaims
 pub mod ViewClaims
 pub mod VerdictClaims
