@@ -8,6 +8,7 @@ ghost use Rattle.view.specs.Model.{modelOf, viewedOf};
 ghost use Rattle.record.specs.CallList.{callOf, callsOf, endedOf};
 use view::layout::Layout;
 use view::layout::Viewed;
+use view::numbers::diagonal_by_numbers;
 
 // The whole list was run, or it is ill-formed from a place on.
 pub enum Ended {
@@ -58,7 +59,7 @@ fn run_call(layout: Layout, kind: usize, numbers: &[usize]) -> Viewed
         return layout.permute(numbers);
     }
     if kind == 2 {
-        return layout.diagonal_view(numbers);
+        return diagonal_by_numbers(layout, numbers);
     }
     broadcast_to(layout, numbers)
 }

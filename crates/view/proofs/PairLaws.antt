@@ -1,12 +1,14 @@
--- Flat numbers read as pairs: pair i has the numbers 2i and 2i + 1.
+-- Pairs one after another: in flat numbers, where pair i has the numbers 2i and 2i + 1, and in structs.
 use mathlib.Core.Path.{_≡_, refl}
 use mathlib.Core.List.{List, [], _∷_, _++_}
 use Prim.Native.Nat.{ℕ, zero, suc, _+_, _*_, _/_, _≤_, _<_}
 use native.Mathlib.Numerals.{add-one}
 use native.Mathlib.Omega.{arith}
-use lib.ListN.{length, take, getD}
+use lib.ListN.{length, take, getD, length-map, List·getD-map}
 use lib.Seq.{take-suc, take-all}
 use Rattle.specification.specs.Views.{pairsOf}
+use Rattle.view.specs.Model.{pairOf, pairsIn}
+use Rattle.view.specs.declared.diagonal.AxisPair.{AxisPair}
 
 length-pairs : (flat : List ℕ) → length (pairsOf flat) ≡ length flat / 2
 unfolding pairsOf
@@ -33,3 +35,18 @@ module _ (flat : List ℕ) (i : ℕ) where
 
   pub pairs-all : length flat / 2 ≤ i → take i (pairsOf flat) ≡ pairsOf flat
   pairs-all h = take-all i (pairsOf flat) (omega (arith, length-pairs flat))
+
+-- ---- in structs
+
+-- what `getD` answers past the end
+abbrev pub no-pair : AxisPair
+no-pair = record { 0 = 0; 1 = 0 }
+
+module _ (pairs : List AxisPair) (i : ℕ) where
+  pub structs-more : i < length pairs → take (i + 1) (pairsIn pairs) ≡ take i (pairsIn pairs) ++ (pairOf (getD pairs i no-pair) ∷ [])
+  structs-more h =
+      let k : i < length (pairsIn pairs) = rw (length-map pairs pairOf) h in
+      rw (add-one i, take-suc (pairsIn pairs) i (0, 0) k, List·getD-map pairOf pairs i no-pair)
+
+  pub structs-all : length pairs ≤ i → take i (pairsIn pairs) ≡ pairsIn pairs
+  structs-all h = take-all i (pairsIn pairs) (rw (length-map pairs pairOf) h)

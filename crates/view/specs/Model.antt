@@ -1,5 +1,5 @@
 -- What a layout means: as many axes as the rank says, also above 16; places past the rank are no part of it.
-use mathlib.Core.List.{List, [], _∷_}
+use mathlib.Core.List.{List, [], _∷_, map}
 use Prim.Native.Nat.{ℕ, _<_}
 use lib.IntN.{ℤ, pos}
 use lib.ListN.{length, getD}
@@ -10,6 +10,7 @@ use Rattle.specification.specs.Outcome.{Outcome, done, refused, pass}
 use Rattle.specification.specs.CheckIn.{checkIn}
 use Rattle.specification.specs.Views.{After}
 use Rattle.view.specs.Answers.{outcomeOf}
+use Rattle.view.specs.declared.diagonal.AxisPair.{AxisPair}
 use Rattle.view.specs.declared.layout.Layout.{Layout}
 use Rattle.view.specs.declared.layout.Viewed.{Viewed}
 
@@ -28,6 +29,14 @@ modelOf l = record { buffer = l .len; offset = l .offset .0; axes = axesIn (l .e
 -- an answer with the layout after it
 abbrev pub viewedOf : Viewed → After
 viewedOf v = record { answer = outcomeOf (v .answer); layout = modelOf (v .layout) }
+
+-- a pair of axes by its two numbers
+abbrev pub pairOf : AxisPair → ℕ × ℕ
+pairOf pair = (pair .0, pair .1)
+
+-- the pairs that a list of structs holds
+abbrev pub pairsIn : List AxisPair → List (ℕ × ℕ)
+pairsIn pairs = map pairOf pairs
 
 -- each entry of a list is below n
 abbrev pub AllBelow : ℕ → List ℕ → Type 0

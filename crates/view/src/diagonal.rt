@@ -4,8 +4,8 @@ ghost use mathlib.Core.List.{List, [], _∷_, _++_, map};
 ghost use Prim.Native.Nat.{ℕ, _%_, _^_, _≤_, _<_, max, min};
 ghost use lib.Count.{ones};
 ghost use Rattle.specification.specs.Layout.{rank};
-ghost use Rattle.specification.specs.Views.{pairsOf, kept, sumFaults, diagonalAxes, diagonalView, unlessRefused, withAxes};
-ghost use Rattle.view.specs.Model.{modelOf, viewedOf};
+ghost use Rattle.specification.specs.Views.{kept, sumFaults, diagonalAxes, diagonalView, unlessRefused, withAxes};
+ghost use Rattle.view.specs.Model.{modelOf, viewedOf, pairsIn};
 ghost use Rattle.view.specs.Ties.{TiesOf, SomeTies, rankTo16, renamed, maskOf};
 use crate::accepted::handed_refusal;
 use crate::accepted::layout_bounds;
@@ -15,6 +15,9 @@ use crate::layout::Refusal;
 use crate::layout::Viewed;
 use integer::signed::Checked;
 use integer::signed::checked_add;
+
+// Two axes that are to be one.
+pub struct AxisPair(pub usize, pub usize);
 
 // The root of each axis, which is the lowest axis of its class, and the first refusal of a pair.
 pub struct Ties {
@@ -84,7 +87,7 @@ fn place(mask: u16, root: usize) -> usize
 impl Ties {
     // One pair more: 5 with the larger axis outside the rank, then 5 for equal axes; else both classes get the lower of their roots.
     // After a refusal nothing changes.
-    fn tie(self, a: usize, b: usize) -> Self
+    pub(crate) fn tie(self, a: usize, b: usize) -> Self
         requires { ⌜ self .rank ≤ 16 ⌝ }
         ensures { λ r. ⌜ ((rank : ℕ) (pairs : List (ℕ × ℕ)) → TiesOf rank pairs self → TiesOf rank (pairs ++ ((a, b) ∷ [])) r) ⌝ }
     {
@@ -163,7 +166,7 @@ fn fused(l: Layout, t: Ties) -> Viewed
 
 impl Layout {
     // Each axis is a class of its own. A layout with too many axes has none: it is refused before its pairs.
-    fn untied(self) -> Ties
+    pub(crate) fn untied(self) -> Ties
         ensures { λ r. ⌜ TiesOf (rankTo16 (self .rank)) [] r ⌝ }
     {
         let rank = self.rank;
@@ -176,7 +179,7 @@ impl Layout {
     }
 
     // The layout after its pairs: the refusals in 01's order and the layout as it was, or the fused layout.
-    fn tied(self, t: Ties) -> Viewed
+    pub(crate) fn tied(self, t: Ties) -> Viewed
         requires { ⌜ SomeTies (rankTo16 (self .rank)) t ⌝ }
         ensures { λ r. ⌜ ((pairs : List (ℕ × ℕ)) → TiesOf (rankTo16 (self .rank)) pairs t → viewedOf r ≡ diagonalView (modelOf self) pairs) ⌝ }
     {
@@ -210,15 +213,15 @@ impl Layout {
         view
     }
 
-    // Tied axes as one axis, for flat numbers of which two are a pair; or the refusal, and the layout as it was.
-    pub fn diagonal_view(self, pairs: &[usize]) -> Viewed
-        ensures { λ r. ⌜ viewedOf r ≡ diagonalView (modelOf self) (pairsOf (now (pairs .entry))) ⌝ }
+    // Tied axes as one axis, for pairs in order; or the refusal, and the layout as it was.
+    pub fn diagonal_view(self, pairs: &[AxisPair]) -> Viewed
+        ensures { λ r. ⌜ viewedOf r ≡ diagonalView (modelOf self) (pairsIn (now (pairs .entry))) ⌝ }
     {
-        let count = pairs.len() / 2;
         let mut t = self.untied();
         let mut i = 0;
-        while i < count {
-            t = t.tie(pairs[2 * i], pairs[2 * i + 1]);
+        while i < pairs.len() {
+            let pair = pairs[i];
+            t = t.tie(pair.0, pair.1);
             i += 1;
         }
         self.tied(t)

@@ -8,5 +8,6 @@ pub mod count;
 pub mod dense;
 pub mod diagonal;
 pub mod layout;
+pub mod numbers;
 pub mod offset;
 pub mod permute;

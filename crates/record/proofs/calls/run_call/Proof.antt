@@ -13,12 +13,12 @@ returns : tie.Need-returns
 unfolding afterCall
 returns c = c .permute .ensures ∙ rw (eq-eqb _ _ (c .before .if1 .taken))
 
-diagonal-view-requires : tie.Need-diagonal-view-requires
-diagonal-view-requires c κs = search needs
+diagonal-by-numbers-requires : tie.Need-diagonal-by-numbers-requires
+diagonal-by-numbers-requires c κs = search needs
 
 returns-2 : tie.Need-returns-2
 unfolding afterCall
-returns-2 c = c .diagonal-view .ensures ∙ rw (ne-eqb _ _ (c .before .before .if1 .left), eq-eqb _ _ (c .before .if2 .taken))
+returns-2 c = c .diagonal-by-numbers .ensures ∙ rw (ne-eqb _ _ (c .before .before .if1 .left), eq-eqb _ _ (c .before .if2 .taken))
 
 broadcast-to-requires : tie.Need-broadcast-to-requires
 broadcast-to-requires c κs = search needs
@@ -33,7 +33,7 @@ run-call-spec =
     (tie.spec
     permute-requires
     returns
-    diagonal-view-requires
+    diagonal-by-numbers-requires
     returns-2
     broadcast-to-requires
     returns-3)
