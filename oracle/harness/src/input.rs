@@ -43,7 +43,7 @@ pub fn joined<T: std::fmt::Display>(items: &[T]) -> String {
 }
 
 /// A layout as anybody can make one: the rank may be above 16, the lists then hold the first 16 places.
-#[derive(Clone, Copy)]
+#[derive(Clone, Copy, Debug)]
 pub struct Layout {
     pub len: u64,
     pub offset: i64,

@@ -147,9 +147,17 @@ fn enumerated_distinct(random: &mut Random) -> Axes {
     dressed(random, (extents, strides))
 }
 
+pub fn enumerated_any(random: &mut Random) -> Axes {
+    if random.once_in(2) {
+        enumerated(random)
+    } else {
+        enumerated_distinct(random)
+    }
+}
+
 /// An enumeration that a few words of scratch are enough for, or nearly.
 pub fn enumerable(random: &mut Random) -> Input {
-    let (extents, strides) = if random.once_in(2) { enumerated(random) } else { enumerated_distinct(random) };
+    let (extents, strides) = enumerated_any(random);
     let needed = words_needed(extents.slice(), strides.slice()).unwrap_or(0);
     let words = if random.once_in(2) { needed } else { random.below(needed.clamp(1, 65_536)) };
     Input::Injective { extents, strides, words: words as usize }
@@ -223,8 +231,7 @@ pub fn injective(random: &mut Random) -> Input {
     let (mut extents, mut strides) = match random.below(100_000) {
         0 | 1 => long_search(random, 700),
         2..=11 => long_search(random, 40),
-        12..=17 => enumerated(random),
-        18..=23 => enumerated_distinct(random),
+        12..=23 => enumerated_any(random),
         _ => shape(random),
     };
     match random.below(100) {

@@ -106,6 +106,7 @@ fn fits(input: &Input) -> bool {
 }
 
 fn main() {
+    harness::examples::check();
     std::panic::set_hook(Box::new(|_| {}));
     let words: Vec<String> = std::env::args().skip(1).collect();
     let mut random = Random::new(words[0].parse().expect("a seed"));

@@ -28,6 +28,7 @@ struct Tally {
 }
 
 fn main() {
+    harness::examples::check();
     std::panic::set_hook(Box::new(|_| {}));
     let words: Vec<String> = std::env::args().skip(1).collect();
     let number = |place: usize| words[place].parse::<u64>().expect("a number");
