@@ -3,10 +3,10 @@
 use std::hint::black_box;
 use std::time::Instant;
 
-/// A run is repeated until it takes this long, so that the clock's grain does not count.
-const LEAST_NANOSECONDS: u128 = 5_000_000;
-/// Slow calls are run fewer times.
-const SLOW_NANOSECONDS: u128 = 100_000_000;
+/// A run has as many calls as take this long, so that the clock's grain does not count, and no more, so that some runs are left alone by other programs.
+const LEAST_NANOSECONDS: u128 = 100_000;
+/// Runs of both sides go on for this long.
+const TOGETHER_NANOSECONDS: u128 = 600_000_000;
 
 fn time<T>(calls: u64, call: &mut impl FnMut() -> T) -> u128 {
     let start = Instant::now();
@@ -25,12 +25,15 @@ fn calls_for<T>(call: &mut impl FnMut() -> T) -> u64 {
     calls
 }
 
-/// Nanoseconds a call of each side.
+/// Nanoseconds a call of each side: the least of three to 500 runs.
 fn both<A, B>(ours: &mut impl FnMut() -> A, rust: &mut impl FnMut() -> B) -> (f64, f64) {
     let (our_calls, rust_calls) = (calls_for(ours), calls_for(rust));
-    let slow = time(our_calls, ours).max(time(rust_calls, rust)) > SLOW_NANOSECONDS;
+    let start = Instant::now();
     let (mut our_least, mut rust_least) = (u128::MAX, u128::MAX);
-    for _ in 0..if slow { 3 } else { 15 } {
+    for run in 0..500 {
+        if run >= 3 && start.elapsed().as_nanos() > TOGETHER_NANOSECONDS {
+            break;
+        }
         our_least = our_least.min(time(our_calls, ours));
         rust_least = rust_least.min(time(rust_calls, rust));
     }
@@ -44,6 +47,6 @@ pub fn line<A, B>(case: &str, mut ours: impl FnMut() -> A, mut rust: impl FnMut(
 
 /// A call that the Rust does not have.
 pub fn line_alone<A>(case: &str, mut ours: impl FnMut() -> A) {
-    let (ours, _) = both(&mut ours, &mut || std::thread::sleep(std::time::Duration::from_millis(6)));
+    let (ours, _) = both(&mut ours, &mut || std::thread::sleep(std::time::Duration::from_millis(1)));
     println!("{case}\t{ours:.1}\t-\t-");
 }

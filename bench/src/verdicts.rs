@@ -31,11 +31,13 @@ fn verdict(case: &str, extents: &[u64], strides: &[i64]) {
     let answer = ours(extents, strides, &mut scratch);
     let distinct = is_injective_layout(unsigned(extents), signed(strides));
     assert_eq!(answer == 1, distinct, "{case}: ours {answer}, the Rust {distinct}");
+    // What is hidden from the compiler are thin pointers: a hidden slice goes through memory and stalls.
+    let (extents, strides) = (extents.to_vec(), strides.to_vec());
     let words = ["?", "distinct", "repeated", "undecided"];
     line(
         &format!("verdict, {case}, {}", words.get(answer as usize).unwrap_or(&"refused")),
-        || ours(black_box(extents), black_box(strides), &mut scratch),
-        || is_injective_layout(black_box(unsigned(extents)), black_box(signed(strides))),
+        || ours(black_box(&extents), black_box(&strides), &mut scratch),
+        || is_injective_layout(unsigned(black_box(&extents)), signed(black_box(&strides))),
     );
 }
 
@@ -62,10 +64,10 @@ pub fn few_axes() {
     verdict("rank 4, strides near 2^60", &[2, 2, 2, 2], &[(1 << 60) + 1, (1 << 60) + 77, (1 << 60) + 1234567, (1 << 60) + 99]);
 }
 
-/// Strides of about 2^50, the first two multiples of g: no two positions meet.
+/// Strides of about 2^47, those of the two set apart multiples of g: no two positions meet.
 fn strides(seed: u64, count: usize, apart: [usize; 2], g: i64) -> Vec<i64> {
     let mut random = Random::new(seed);
-    let mut strides: Vec<i64> = (0..count).map(|_| (1 << 50) + random.below(1 << 50) as i64).collect();
+    let mut strides: Vec<i64> = (0..count).map(|_| (1 << 47) + random.below(1 << 47) as i64).collect();
     if g > 1 {
         apart.iter().for_each(|&axis| strides[axis] = strides[axis] / g * g);
     } else {

@@ -5,7 +5,7 @@ use harness::input::Layout;
 use harness::ours::{strided_broadcast, strided_diagonal_view, strided_new, strided_permute};
 use harness::rust::{buffer, signed, unsigned, view};
 use std::hint::black_box;
-use strided_view::StridedView;
+use strided_view::{Result, StridedView};
 
 type Flat = ([u64; 18], [i64; 17]);
 type Call = unsafe extern "C" fn(*mut u64, usize, *mut i64, usize, *const u64, usize, *mut u64, usize) -> u8;
@@ -20,23 +20,28 @@ fn flat(layout: &Layout) -> Flat {
     (numbers, steps)
 }
 
-fn ours(from: &Flat, list: &[u64], call: Call) -> Flat {
-    let (mut numbers, mut steps) = *from;
+/// The view of a layout, made in the two buffers `to`, which first take the layout over.
+fn ours(from: &Flat, to: &mut Flat, list: &[u64], call: Call) -> u8 {
+    *to = *from;
     let mut values = [0; 2];
     // SAFETY: each pointer has so many words behind it.
-    let number = unsafe { call(numbers.as_mut_ptr(), 18, steps.as_mut_ptr(), 17, list.as_ptr(), list.len(), values.as_mut_ptr(), 2) };
-    assert_eq!(number, 0);
-    (numbers, steps)
+    let number = unsafe { call(to.0.as_mut_ptr(), 18, to.1.as_mut_ptr(), 17, list.as_ptr(), list.len(), values.as_mut_ptr(), 2) };
+    black_box(to);
+    number
 }
 
-fn checked_in(extents: &[u64], strides: &[i64], len: u64) -> Flat {
-    let (mut numbers, mut steps) = ([0; 18], [0; 17]);
+fn checked_in(to: &mut Flat, extents: &[u64], strides: &[i64], len: u64) -> u8 {
     // SAFETY: as above.
     let number = unsafe {
-        strided_new(numbers.as_mut_ptr(), 18, steps.as_mut_ptr(), 17, len, 0, extents.as_ptr(), extents.len(), strides.as_ptr(), strides.len())
+        strided_new(to.0.as_mut_ptr(), 18, to.1.as_mut_ptr(), 17, len, 0, extents.as_ptr(), extents.len(), strides.as_ptr(), strides.len())
     };
-    assert_eq!(number, 0);
-    (numbers, steps)
+    black_box(to);
+    number
+}
+
+/// The Rust's view stays where it was made.
+fn made(result: &Result<StridedView<'static, ()>>) -> bool {
+    black_box(result).is_ok()
 }
 
 /// A dense layout whose last axis has extent 1.
@@ -52,43 +57,44 @@ fn dense(rank: usize) -> Layout {
 }
 
 fn check_in(rank: usize, layout: &Layout) {
-    let (extents, strides) = (layout.extents(), layout.strides());
+    let (extents, strides) = (layout.extents().to_vec(), layout.strides().to_vec());
+    let mut to = flat(layout);
     line(
         &format!("check-in, rank {rank}"),
-        || checked_in(black_box(extents), black_box(strides), layout.len),
-        || StridedView::<()>::new(buffer(layout.len), black_box(unsigned(extents)), black_box(signed(strides)), 0),
+        || checked_in(&mut to, black_box(&extents), black_box(&strides), layout.len),
+        || made(&StridedView::new(buffer(layout.len), unsigned(black_box(&extents)), signed(black_box(&strides)), 0)),
     );
 }
 
 fn permute(rank: usize, layout: &Layout) {
     let axes: Vec<u64> = (0..rank as u64).rev().collect();
-    let (from, view) = (flat(layout), view(layout));
+    let (from, mut to, view) = (flat(layout), flat(layout), view(layout));
     line(
         &format!("permute, rank {rank}"),
-        || ours(black_box(&from), black_box(&axes), strided_permute),
-        || black_box(&view).permute(black_box(unsigned(&axes))),
+        || ours(black_box(&from), &mut to, black_box(&axes), strided_permute),
+        || made(&black_box(&view).permute(unsigned(black_box(&axes)))),
     );
 }
 
 fn broadcast(rank: usize, layout: &Layout) {
     let mut target = layout.extents().to_vec();
     target[rank - 1] = 100;
-    let (from, view) = (flat(layout), view(layout));
+    let (from, mut to, view) = (flat(layout), flat(layout), view(layout));
     line(
         &format!("broadcast, rank {rank}"),
-        || ours(black_box(&from), black_box(&target), strided_broadcast),
-        || black_box(&view).broadcast(black_box(unsigned(&target))),
+        || ours(black_box(&from), &mut to, black_box(&target), strided_broadcast),
+        || made(&black_box(&view).broadcast(unsigned(black_box(&target)))),
     );
 }
 
 fn diagonal(rank: usize, layout: &Layout) {
     let pairs: Vec<(usize, usize)> = (0..rank / 2).map(|axis| (axis, rank - 1 - axis)).collect();
     let numbers: Vec<u64> = pairs.iter().flat_map(|&(one, other)| [one as u64, other as u64]).collect();
-    let (from, view) = (flat(layout), view(layout));
+    let (from, mut to, view) = (flat(layout), flat(layout), view(layout));
     line(
         &format!("diagonal_view, rank {rank}, {} pairs", pairs.len()),
-        || ours(black_box(&from), black_box(&numbers), strided_diagonal_view),
-        || black_box(&view).diagonal_view(black_box(&pairs)),
+        || ours(black_box(&from), &mut to, black_box(&numbers), strided_diagonal_view),
+        || made(&black_box(&view).diagonal_view(black_box(&pairs))),
     );
 }
 
