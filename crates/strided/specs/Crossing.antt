@@ -9,7 +9,7 @@ use lib.ListN.{length, drop}
 use Rattle.specification.specs.Outcome.{Outcome, Check, done, refused}
 use Rattle.specification.specs.Layout.{LayoutM}
 use Rattle.specification.specs.Views.{After}
-use Rattle.strided.specs.Flat.{Stored}
+use Rattle.strided.specs.Flat.{holdsLayout, holdsView, modelOfFlat, Stored}
 
 -- the outcome where there is room, else 255
 abbrev pub ifRoom : {A : Type 0} → Bool → Outcome A → Outcome A
@@ -58,3 +58,12 @@ pub record Crossed (outcome : Outcome LayoutM) (numbers : List ℕ) (steps : Lis
 pub record CrossedWithValues (outcome : Outcome LayoutM) (numbers : List ℕ) (steps : List ℤ) (values : List ℕ) (numbers-then : List ℕ) (steps-then : List ℤ) (values-then : List ℕ) (answer : ℕ) : Type 0 where
   pub crossed : Crossed outcome numbers steps numbers-then steps-then answer
   pub values-are : values-then ≡ valuesAfter outcome values
+
+-- a view of the layout that two buffers hold: what crosses, by the definition of the view
+abbrev pub Viewing : (LayoutM → After) → List ℕ → List ℤ → List ℕ → List ℕ → List ℤ → List ℕ → ℕ → Type 0
+Viewing view numbers steps values numbers-then steps-then values-then answer =
+    CrossedWithValues (ifRoom (holdsView (length numbers) (length steps) (length values)) (layoutOf (view (modelOfFlat numbers steps)))) numbers steps values numbers-then steps-then values-then answer
+
+-- a call without values that makes a layout
+abbrev pub Making : Outcome LayoutM → List ℕ → List ℤ → List ℕ → List ℤ → ℕ → Type 0
+Making outcome numbers steps numbers-then steps-then answer = Crossed (ifRoom (holdsLayout (length numbers) (length steps)) outcome) numbers steps numbers-then steps-then answer

@@ -5,8 +5,8 @@ ghost use Rattle.specification.specs.CheckIn.{checkIn};
 ghost use Rattle.specification.specs.Normal.{normalForm};
 ghost use Rattle.specification.specs.Views.{permute, pairsOf, diagonalView, broadcast};
 ghost use Rattle.view.specs.Model.{viewedOf};
-ghost use Rattle.strided.specs.Flat.{holdsLayout, holdsView, modelOfFlat};
-ghost use Rattle.strided.specs.Crossing.{ifRoom, layoutOf, Crossed, CrossedWithValues};
+ghost use Rattle.strided.specs.Flat.{modelOfFlat};
+ghost use Rattle.strided.specs.Crossing.{layoutOf, Crossed, CrossedWithValues, Viewing, Making};
 use crate::flat::holds_layout;
 use crate::flat::holds_view;
 use crate::flat::layout_in;
@@ -65,7 +65,7 @@ pub extern "C" fn strided_new(
     extents: &[u64],
     strides: &[i64],
 ) -> u8
-    ensures { λ r. ⌜ Crossed (ifRoom (holdsLayout (length (now (numbers .entry))) (length (now (steps .entry)))) (checkIn len offset (now (extents .entry)) (now (strides .entry)))) (now (numbers .entry)) (now (steps .entry)) (now (numbers .exit)) (now (steps .exit)) r ⌝ }
+    ensures { λ r. ⌜ Making (checkIn len offset (now (extents .entry)) (now (strides .entry))) (now (numbers .entry)) (now (steps .entry)) (now (numbers .exit)) (now (steps .exit)) r ⌝ }
 {
     if !holds_layout(numbers.len(), steps.len()) {
         return 255;
@@ -82,7 +82,7 @@ pub extern "C" fn strided_permute(
     axes: &[usize],
     values: &mut [u64],
 ) -> u8
-    ensures { λ r. ⌜ CrossedWithValues (ifRoom (holdsView (length (now (numbers .entry))) (length (now (steps .entry))) (length (now (values .entry)))) (layoutOf (permute (modelOfFlat (now (numbers .entry)) (now (steps .entry))) (now (axes .entry))))) (now (numbers .entry)) (now (steps .entry)) (now (values .entry)) (now (numbers .exit)) (now (steps .exit)) (now (values .exit)) r ⌝ }
+    ensures { λ r. ⌜ Viewing (λ layout. permute layout (now (axes .entry))) (now (numbers .entry)) (now (steps .entry)) (now (values .entry)) (now (numbers .exit)) (now (steps .exit)) (now (values .exit)) r ⌝ }
 {
     if !holds_view(numbers.len(), steps.len(), values.len()) {
         return 255;
@@ -100,7 +100,7 @@ pub extern "C" fn strided_diagonal_view(
     pairs: &[usize],
     values: &mut [u64],
 ) -> u8
-    ensures { λ r. ⌜ CrossedWithValues (ifRoom (holdsView (length (now (numbers .entry))) (length (now (steps .entry))) (length (now (values .entry)))) (layoutOf (diagonalView (modelOfFlat (now (numbers .entry)) (now (steps .entry))) (pairsOf (now (pairs .entry)))))) (now (numbers .entry)) (now (steps .entry)) (now (values .entry)) (now (numbers .exit)) (now (steps .exit)) (now (values .exit)) r ⌝ }
+    ensures { λ r. ⌜ Viewing (λ layout. diagonalView layout (pairsOf (now (pairs .entry)))) (now (numbers .entry)) (now (steps .entry)) (now (values .entry)) (now (numbers .exit)) (now (steps .exit)) (now (values .exit)) r ⌝ }
 {
     if !holds_view(numbers.len(), steps.len(), values.len()) {
         return 255;
@@ -118,7 +118,7 @@ pub extern "C" fn strided_broadcast(
     extents: &[u64],
     values: &mut [u64],
 ) -> u8
-    ensures { λ r. ⌜ CrossedWithValues (ifRoom (holdsView (length (now (numbers .entry))) (length (now (steps .entry))) (length (now (values .entry)))) (layoutOf (broadcast (modelOfFlat (now (numbers .entry)) (now (steps .entry))) (now (extents .entry))))) (now (numbers .entry)) (now (steps .entry)) (now (values .entry)) (now (numbers .exit)) (now (steps .exit)) (now (values .exit)) r ⌝ }
+    ensures { λ r. ⌜ Viewing (λ layout. broadcast layout (now (extents .entry))) (now (numbers .entry)) (now (steps .entry)) (now (values .entry)) (now (numbers .exit)) (now (steps .exit)) (now (values .exit)) r ⌝ }
 {
     if !holds_view(numbers.len(), steps.len(), values.len()) {
         return 255;
@@ -131,7 +131,7 @@ pub extern "C" fn strided_broadcast(
 // The normal form, or refusal 1, 3 or 8.
 #[no_mangle]
 pub extern "C" fn strided_normal_form(numbers: &mut [u64], steps: &mut [i64]) -> u8
-    ensures { λ r. ⌜ Crossed (ifRoom (holdsLayout (length (now (numbers .entry))) (length (now (steps .entry)))) (normalForm (modelOfFlat (now (numbers .entry)) (now (steps .entry))))) (now (numbers .entry)) (now (steps .entry)) (now (numbers .exit)) (now (steps .exit)) r ⌝ }
+    ensures { λ r. ⌜ Making (normalForm (modelOfFlat (now (numbers .entry)) (now (steps .entry)))) (now (numbers .entry)) (now (steps .entry)) (now (numbers .exit)) (now (steps .exit)) r ⌝ }
 {
     if !holds_layout(numbers.len(), steps.len()) {
         return 255;
