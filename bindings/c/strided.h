@@ -2,7 +2,8 @@
  *
  * Every call answers with one number:
  *   0         done
- *   1 to 11   a refusal, by its number (STRIDED_* below); all that was handed over is as it was
+ *   1 to 11   a refusal, by its number (STRIDED_* below); but for `values`, all that was handed over is as it was
+ *             (where strided_read meets a false verdict, 11, the scratch words that the verdict needed may have changed)
  *   255       a buffer is too short for its part; nothing was written
  *
  * A slice is a pointer and a length. What the calls assume of their caller: each pointer is true for its length, and no

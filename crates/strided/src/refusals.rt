@@ -9,7 +9,7 @@ use view::layout::Answer;
 use view::layout::Refusal;
 
 // One value in the first place.
-pub fn put_one(values: &mut [u64], first: usize)
+fn put_one(values: &mut [u64], first: usize)
     requires { ⌜ 2 ≤ length (now values) ⌝ }
     ensures { λ _. ⌜ now (values .exit) ≡ first ∷ drop 1 (now (values .entry)) ⌝ }
 {
@@ -17,7 +17,7 @@ pub fn put_one(values: &mut [u64], first: usize)
 }
 
 // Two values.
-pub fn put_two(values: &mut [u64], first: usize, second: usize)
+fn put_two(values: &mut [u64], first: usize, second: usize)
     requires { ⌜ 2 ≤ length (now values) ⌝ }
     ensures { λ _. ⌜ now (values .exit) ≡ first ∷ second ∷ drop 2 (now (values .entry)) ⌝ }
 {
@@ -26,7 +26,7 @@ pub fn put_two(values: &mut [u64], first: usize, second: usize)
 }
 
 // The values of a refusal into the first places; the others stay.
-pub fn put_values(why: Refusal, values: &mut [u64])
+fn put_values(why: Refusal, values: &mut [u64])
     requires { ⌜ 2 ≤ length (now values) ⌝ }
     ensures { λ _. ⌜ now (values .exit) ≡ valuesOf why ++ drop (length (valuesOf why)) (now (values .entry)) ⌝ }
 {
