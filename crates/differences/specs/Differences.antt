@@ -1,0 +1,45 @@
+-- Differences of two index vectors over extents es and absolute strides ss, in their order, and the distances of their sums.
+use mathlib.Core.Bool.{Bool, true, false}
+use mathlib.Core.List.{List, [], _∷_}
+use mathlib.Core.Logic.{_≢_}
+use mathlib.Core.Path.{_≡_}
+use Prim.Native.Nat.{ℕ, _+_, _*_, _-_}
+use Rattle.specification.proofs.Positions.{IndexVector}
+use Rattle.odometer.specs.Odometer.{dot}
+
+-- how many difference vectors there are: 2 × extent - 1 differences on each axis
+unfoldable pub box : List ℕ → ℕ
+box [] = 1
+box (e ∷ es) = (2 * e - 1) * box es
+
+-- the number of the difference x - y: the digits are difference + extent - 1, that of the first axis the lowest
+unfoldable pub number : List ℕ → List ℕ → List ℕ → ℕ
+number [] x y = 0
+number (e ∷ es) [] y = 0
+number (e ∷ es) (i ∷ x) [] = 0
+number (e ∷ es) (i ∷ x) (k ∷ y) = i + (e - 1) - k + (2 * e - 1) * number es x y
+
+-- how far two numbers are apart
+abbrev pub gap : ℕ → ℕ → ℕ
+gap m n = m - n + (n - m)
+
+-- two index vectors that differ and whose sums are n apart
+pub record Distance (es ss : List ℕ) (n : ℕ) : Type 0 where
+  pub x : List ℕ
+  pub y : List ℕ
+  pub bx : IndexVector es x
+  pub by : IndexVector es y
+  pub other : x ≢ y
+  pub is : dot ss x ≡ dot ss y + n
+
+-- a difference above - below, and the sums of the two
+pub record Stands (es ss above below : List ℕ) (up down : ℕ) : Type 0 where
+  pub above-within : IndexVector es above
+  pub below-within : IndexVector es below
+  pub up-is : up ≡ dot ss above
+  pub down-is : down ≡ dot ss below
+
+-- from the difference x - y to x′ - y′, the one of the next number; where there is no more, x - y was the last
+pub record Stepped (es x y x′ y′ : List ℕ) (more : Bool) : Type 0 where
+  pub on : more ≡ true → number es x′ y′ ≡ number es x y + 1
+  pub ended : more ≡ false → number es x y + 1 ≡ box es
