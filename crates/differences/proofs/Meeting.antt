@@ -1,15 +1,15 @@
 -- Meeting halves: where axes are split into two parts, two vectors have one sum exactly if two of a part have, or one distance is one of both parts.
 use mathlib.Core.List.{List, [], _∷_, _++_}
-use mathlib.Core.Logic.{_≢_, _⊎_, inl, inr}
+use mathlib.Core.Logic.{_≢_}
 use mathlib.Core.Path.{_≡_, refl, sym, ap, ap₂, _∙_}
-use Prim.Native.Nat.{ℕ, suc, _+_, _*_, _-_, _^_, _<_, _≤_}
+use Prim.Native.Nat.{ℕ, _+_, _-_, _<_, _≤_}
 use native.Mathlib.Decide.{ℕ-discrete, decLe}
 use native.Mathlib.Omega.{arith}
 use lib.ListN.{length}
 use Rattle.specification.specs.Axis.{indexAt, product}
 use Rattle.specification.proofs.Pigeonhole.{Clash}
 use Rattle.specification.proofs.Positions.{IndexVector, empty, _and_, place}
-use Rattle.specification.proofs.Digits.{PositiveExtents, none, more, indexAt-within, place-indexAt, indexAt-place, place-lt, place-inj}
+use Rattle.specification.proofs.Digits.{PositiveExtents, indexAt-within, place-indexAt, indexAt-place, place-lt, place-inj}
 use Rattle.odometer.specs.Odometer.{dot, SumsFit}
 use Rattle.odometer.proofs.OrderLaws.{digits-within}
 use Rattle.differences.specs.Differences.{Distance}
@@ -113,11 +113,19 @@ module _ (eu su ev sv : List ℕ) (lu : length su ≡ length eu) (pu : PositiveE
           pick : Dec (place eu (s .x) ≡ place eu (t .x)) → Dec (place ev (s .y) ≡ place ev (t .y)) → Dec (dot su (t .x) ≤ dot su (s .x)) → Meets eu su ev sv
           pick (yes p) (yes q) l = absurd (d .other (s .is ∙ ap₂ (λ (u v : List ℕ). u ++ v) (place-inj (s .bx) (t .bx) p) (place-inj (s .by) (t .by) q) ∙ sym (t .is)))
           pick (yes p) (no q) l = second (record {
-            x = s .y; y = t .y; bx = s .by; by = t .by; other = apart-second q;
+            x = s .y;
+            y = t .y;
+            bx = s .by;
+            by = t .by;
+            other = apart-second q;
             is = omega (arith, sums, ap (dot su) (place-inj (s .bx) (t .bx) p));
           })
           pick (no p) (yes q) l = first (record {
-            x = s .x; y = t .x; bx = s .bx; by = t .bx; other = apart-first p;
+            x = s .x;
+            y = t .x;
+            bx = s .bx;
+            by = t .bx;
+            other = apart-first p;
             is = omega (arith, sums, ap (dot sv) (place-inj (s .by) (t .by) q));
           })
           pick (no p) (no q) (yes l) = both (dot su (s .x) - dot su (t .x))
