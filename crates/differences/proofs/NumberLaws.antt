@@ -1,13 +1,26 @@
 -- The numbers of differences: each below the box, x - y and y - x as far from the two ends, and differences of one number have one sum.
 use mathlib.Core.List.{List, [], _∷_}
 use mathlib.Core.Path.{_≡_, refl, sym, ap, ap₂, _∙_}
-use Prim.Native.Nat.{ℕ, _+_, _*_, _-_, _/_, _%_, _<_}
-use native.Mathlib.Nat.{mul-le-mul-left}
+use Prim.Native.Nat.{ℕ, zero, suc, _+_, _*_, _-_, _/_, _%_, _<_}
+use native.Mathlib.Nat.{mul-le-mul-left, mul-pos}
+use native.Mathlib.Numerals.{add-one}
 use native.Mathlib.Omega.{arith}
 use lib.Arith.{digits-div, digits-mod}
+use lib.ListN.{length, getD, take}
 use Rattle.specification.proofs.Positions.{IndexVector, empty, _and_}
+use Rattle.specification.proofs.Digits.{PositiveExtents, none, more}
 use Rattle.odometer.specs.Odometer.{dot}
 use Rattle.differences.specs.Differences.{box, number}
+
+-- one axis more
+box-suc : (es : List ℕ) (j : ℕ) → j < length es → box (take (suc j) es) ≡ box (take j es) * (2 * getD es j 0 - 1)
+unfolding box
+box-suc [] j h = absurd (omega arith)
+box-suc (e ∷ es) zero h = omega arith
+box-suc (e ∷ es) (suc j) h = let z = ap (λ (n : ℕ). (2 * e - 1) * n) (box-suc es j (omega arith)) in omega arith
+
+pub box-more : (es : List ℕ) (j : ℕ) → j < length es → box (take (j + 1) es) ≡ box (take j es) * (2 * getD es j 0 - 1)
+box-more es j h = ap (λ (n : ℕ). box (take n es)) (add-one j) ∙ box-suc es j h
 
 -- a lowest digit and what is above it
 digits-one : (w d q d′ q′ : ℕ) → d < w → d′ < w → d + w * q ≡ d′ + w * q′ → (d ≡ d′) × (q ≡ q′)
@@ -16,6 +29,11 @@ digits-one w d q d′ q′ h h′ e =
       sym (digits-mod q h) ∙ ap (λ (z : ℕ). z % w) p ∙ digits-mod q′ h′,
       sym (digits-div q h) ∙ ap (λ (z : ℕ). z / w) p ∙ digits-div q′ h′,
     )
+
+pub box-positive : {es : List ℕ} → PositiveExtents es → 0 < box es
+unfolding box
+box-positive none = omega arith
+box-positive (more {e} h t) = let z : 0 < 2 * e - 1 = omega arith in mul-pos z (box-positive t)
 
 pub number-below : {es x y : List ℕ} → IndexVector es x → IndexVector es y → number es x y < box es
 unfolding number box

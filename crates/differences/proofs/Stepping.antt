@@ -1,9 +1,8 @@
 -- The loop of `step`: the axes before j went from their last difference to their first, and the sums are those of the vectors as they are now.
 use mathlib.Core.Bool.{true, false}
-use mathlib.Core.List.{List, [], _∷_}
+use mathlib.Core.List.{List}
 use mathlib.Core.Path.{_≡_, refl, sym, ap, _∙_}
 use Prim.Native.Nat.{ℕ, zero, suc, _+_, _*_, _-_, _^_, _<_, _≤_}
-use native.Mathlib.Numerals.{add-one}
 use native.Mathlib.Omega.{arith}
 use lib.ListN.{length, getD, set, take, length-set}
 use lib.Seq.{take-all, getD-set-same}
@@ -11,7 +10,7 @@ use Rattle.specification.proofs.Positions.{IndexVector, empty, _and_}
 use Rattle.odometer.specs.Odometer.{dot, SumsFit}
 use Rattle.odometer.proofs.VectorLaws.{index-length, index-below, index-set, dot-set}
 use Rattle.differences.specs.Differences.{box, number, Stands, Stepped}
-use Rattle.differences.proofs.NumberLaws.{number-below}
+use Rattle.differences.proofs.NumberLaws.{number-below, box-more}
 
 -- ---- one place of a difference, and its number
 
@@ -29,15 +28,6 @@ module _ (v : ℕ) where
   number-under empty empty j h = absurd (omega arith)
   number-under (_and_ a bx) (_and_ c by) zero h = omega arith
   number-under (_and_ {e = e} a bx) (_and_ c by) (suc j) h = let z = ap (λ (n : ℕ). (2 * e - 1) * n) (number-under bx by j (omega arith)) in omega arith
-
-box-suc : (es : List ℕ) (j : ℕ) → j < length es → box (take (suc j) es) ≡ box (take j es) * (2 * getD es j 0 - 1)
-unfolding box
-box-suc [] j h = absurd (omega arith)
-box-suc (e ∷ es) zero h = omega arith
-box-suc (e ∷ es) (suc j) h = let z = ap (λ (n : ℕ). (2 * e - 1) * n) (box-suc es j (omega arith)) in omega arith
-
-box-more : (es : List ℕ) (j : ℕ) → j < length es → box (take (j + 1) es) ≡ box (take j es) * (2 * getD es j 0 - 1)
-box-more es j h = ap (λ (n : ℕ). box (take n es)) (add-one j) ∙ box-suc es j h
 
 -- ---- the loop
 
@@ -98,12 +88,12 @@ module _ (es ss x₀ y₀ x y : List ℕ) (up down j : ℕ) (f : SumsFit es ss) 
         down-is = omega (arith, near-sum);
       }
 
-      pub near-stepped : Stepped es x₀ y₀ x (set y j (getD y j 0 - 1)) true
+      pub near-stepped : Stepped es x₀ y₀ x (set y j (getD y j 0 - 1)) false
       near-stepped =
           let d : getD x j 0 + (getD es j 0 - 1) - (getD y j 0 - 1) ≡ getD x j 0 + (getD es j 0 - 1) - getD y j 0 + 1 = omega (arith, below-at) in
           record {
             on = λ e. omega (arith, t .counted, number-under (getD y j 0 - 1) (t .stands .above-within) (t .stands .below-within) j h, ap (λ (n : ℕ). n * box (take j es)) d);
-            ended = λ e. absurd (let z : _≡_ {A = ℕ} 0 1 = cc in omega arith);
+            last = λ e. absurd (let z : _≡_ {A = ℕ} 0 1 = cc in omega arith);
           }
 
     module _ (z : getD y j 0 ≡ 0) where
@@ -121,12 +111,12 @@ module _ (es ss x₀ y₀ x y : List ℕ) (up down j : ℕ) (f : SumsFit es ss) 
         pub far-stands : Stands es ss (set x j (getD x j 0 + 1)) y (up + getD ss j 0) down
         far-stands = record { above-within = far-within; below-within = t .stands .below-within; up-is = far-sum; down-is = t .stands .down-is }
 
-        pub far-stepped : Stepped es x₀ y₀ (set x j (getD x j 0 + 1)) y true
+        pub far-stepped : Stepped es x₀ y₀ (set x j (getD x j 0 + 1)) y false
         far-stepped =
             let d : getD x j 0 + 1 + (getD es j 0 - 1) - getD y j 0 ≡ getD x j 0 + (getD es j 0 - 1) - getD y j 0 + 1 = omega arith in
             record {
               on = λ e. omega (arith, t .counted, number-above (getD x j 0 + 1) (t .stands .above-within) (t .stands .below-within) j h, ap (λ (n : ℕ). n * box (take j es)) d);
-              ended = λ e. absurd (let z : _≡_ {A = ℕ} 0 1 = cc in omega arith);
+              last = λ e. absurd (let z : _≡_ {A = ℕ} 0 1 = cc in omega arith);
             }
 
       -- the last one goes back to the first
@@ -177,8 +167,8 @@ module _ (es ss x₀ y₀ x y : List ℕ) (up down j : ℕ) (f : SumsFit es ss) 
               start-below = t .start-below;
             }
 
-  pub stepping-end : length es ≤ j → Stepped es x₀ y₀ x y false
+  pub stepping-end : length es ≤ j → Stepped es x₀ y₀ x y true
   stepping-end h = record {
     on = λ e. absurd (let z : _≡_ {A = ℕ} 0 1 = cc in omega arith);
-    ended = λ e. omega (arith, t .counted, t .start-below, ap box (take-all j es h));
+    last = λ e. omega (arith, t .counted, t .start-below, ap box (take-all j es h));
   }

@@ -1,5 +1,6 @@
 -- A walk over the differences behind the middle, those of equal vectors: whatever holds of the distance at each of them holds of every distance,
 -- since of x - y and y - x one stands behind the middle, and both have one distance.
+use mathlib.Core.Bool.{Bool, false}
 use mathlib.Core.List.{List}
 use mathlib.Core.Logic.{_⊎_, inl, inr}
 use mathlib.Core.Path.{_≡_, sym, ap, subst, _∙_}
@@ -8,7 +9,7 @@ use native.Mathlib.Decide.{decLt, decLe}
 use native.Mathlib.Omega.{arith}
 use Rattle.specification.proofs.Positions.{IndexVector}
 use Rattle.odometer.specs.Odometer.{dot}
-use Rattle.differences.specs.Differences.{box, number, gap, Distance, Stands}
+use Rattle.differences.specs.Differences.{box, number, gap, Distance, Stands, Stepped}
 use Rattle.differences.proofs.NumberLaws.{number-below, number-opposite, number-sum, number-none}
 
 -- P holds of the distance of each difference behind the middle, up to number n
@@ -65,3 +66,7 @@ stands-distance es ss a b up down s h = go (decLe down up)
     go : Dec (down ≤ up) → Distance es ss (gap up down)
     go (yes l) = record { x = a; y = b; bx = s .above-within; by = s .below-within; other = differ; is = omega (arith, s .up-is, s .down-is) }
     go (no l) = record { x = b; y = a; bx = s .below-within; by = s .above-within; other = λ e. differ (sym e); is = omega (arith, s .up-is, s .down-is) }
+
+-- each step leaves fewer differences to walk
+pub stepped-less : (es ss a b a′ b′ : List ℕ) (up down : ℕ) (r : Bool) → Stepped es a b a′ b′ r → Stands es ss a′ b′ up down → r ≡ false → box es - number es a′ b′ < box es - number es a b
+stepped-less es ss a b a′ b′ up down r s w e = omega (arith, s .on e, number-below (w .above-within) (w .below-within))

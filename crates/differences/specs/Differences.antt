@@ -39,7 +39,7 @@ pub record Stands (es ss above below : List ℕ) (up down : ℕ) : Type 0 where
   pub up-is : up ≡ dot ss above
   pub down-is : down ≡ dot ss below
 
--- from the difference x - y to x′ - y′, the one of the next number; where there is no more, x - y was the last
-pub record Stepped (es x y x′ y′ : List ℕ) (more : Bool) : Type 0 where
-  pub on : more ≡ true → number es x′ y′ ≡ number es x y + 1
-  pub ended : more ≡ false → number es x y + 1 ≡ box es
+-- from the difference x - y to x′ - y′, the one of the next number, unless x - y was the last
+pub record Stepped (es x y x′ y′ : List ℕ) (ended : Bool) : Type 0 where
+  pub on : ended ≡ false → number es x′ y′ ≡ number es x y + 1
+  pub last : ended ≡ true → number es x y + 1 ≡ box es

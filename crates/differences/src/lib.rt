@@ -3,11 +3,11 @@
 ghost use Rattle.odometer.specs.Odometer.{SumsFit};
 ghost use Rattle.differences.specs.Differences.{Stands, Stepped};
 
-// Where a step leads: the two sums there, and whether there was a difference to go on to.
+// Where a step leads: the two sums there, and whether the difference before was the last.
 pub struct Sums {
     pub up: u64,
     pub down: u64,
-    pub more: bool,
+    pub ended: bool,
 }
 
 // Sets `above` and `below` to the next difference, the first axis fastest; after the last, to the first.
@@ -20,7 +20,7 @@ pub fn step(
     down: u64,
 ) -> Sums
     requires { ⌜ SumsFit (now extents) (now strides) × Stands (now extents) (now strides) (now above) (now below) up down ⌝ }
-    ensures { λ r. ⌜ Stands (now (extents .entry)) (now (strides .entry)) (now (above .exit)) (now (below .exit)) (r .up) (r .down) × Stepped (now (extents .entry)) (now (above .entry)) (now (below .entry)) (now (above .exit)) (now (below .exit)) (r .more) ⌝ }
+    ensures { λ r. ⌜ Stands (now (extents .entry)) (now (strides .entry)) (now (above .exit)) (now (below .exit)) (r .up) (r .down) × Stepped (now (extents .entry)) (now (above .entry)) (now (below .entry)) (now (above .exit)) (now (below .exit)) (r .ended) ⌝ }
 {
     let mut rise = up;
     let mut fall = down;
@@ -32,7 +32,7 @@ pub fn step(
             return Sums {
                 up: rise,
                 down: fall - strides[j],
-                more: true,
+                ended: false,
             };
         }
         let high = above[j];
@@ -42,7 +42,7 @@ pub fn step(
             return Sums {
                 up: rise + strides[j],
                 down: fall,
-                more: true,
+                ended: false,
             };
         }
         above[j] = 0;
@@ -55,6 +55,6 @@ pub fn step(
     Sums {
         up: rise,
         down: fall,
-        more: false,
+        ended: true,
     }
 }

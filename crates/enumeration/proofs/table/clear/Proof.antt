@@ -3,9 +3,9 @@ use borrow.Author.Needs.{needs}
 use Prim.Native.Nat.{_-_}
 use native.Mathlib.Omega.{arith}
 use lib.ListN.{length, length-set}
-use Rattle.enumeration.proofs.BitLaws.{Clearing, clearing-start, clearing-more}
-use Rattle.enumeration.proofs.bitmap.clear.Statement.{statement}
-use Rattle.enumeration.proofs.bitmap.clear.Tie as tie
+use Rattle.enumeration.proofs.TableLaws.{Clearing, clearing-start, clearing-more}
+use Rattle.enumeration.proofs.table.clear.Statement.{statement}
+use Rattle.enumeration.proofs.table.clear.Tie as tie
 
 abbrev Inv-loop : tie.InvT-loop
 Inv-loop words₀ i₀ words i = Clearing words₀ words i

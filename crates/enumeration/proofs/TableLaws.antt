@@ -1,0 +1,165 @@
+-- The table: words cleared one by one, and a number put into it.
+use mathlib.Core.List.{List}
+use mathlib.Core.Logic.{_≢_, _⊎_, inl, inr}
+use mathlib.Core.Path.{_≡_, refl, sym, ap, _∙_}
+use Prim.Native.Nat.{ℕ, _+_, _*_, _/_, _%_, _^_, _<_, _≤_}
+use native.Mathlib.Decide.{ℕ-discrete, decLt}
+use native.Mathlib.Nat.{mod-lt}
+use native.Mathlib.Omega.{arith}
+use lib.ListN.{length, set, length-set, List·getD-eq-default}
+use lib.Seq.{getD-set-same, getD-set-other}
+use Rattle.specification.proofs.Digits.{quotient-below}
+use Rattle.enumeration.specs.Words.{at}
+use Rattle.enumeration.specs.Table.{homeOf, Clear, Taken, Holds, Free, Put}
+
+-- ---- the loop of `clear`: the first i words are 0
+pub record Clearing (l m : List ℕ) (i : ℕ) : Type 0 where
+  pub one-length : length m ≡ length l
+  pub le : i ≤ length m
+  pub zeros : (j : ℕ) → j < i → at m j ≡ 0
+
+pub clearing-start : (l : List ℕ) → Clearing l l 0
+clearing-start l = record { one-length = refl; le = omega arith; zeros = λ j h. absurd (omega arith) }
+
+pub clearing-more : (l m : List ℕ) (i : ℕ) → Clearing l m i → i < length m → Clearing l (set m i 0) (i + 1)
+clearing-more l m i g h = record {
+  one-length = length-set m i 0 ∙ g .one-length;
+  le = omega (arith, length-set m i 0);
+  zeros = λ j k. go j k (ℕ-discrete j i);
+}
+  where
+    go : (j : ℕ) → j < i + 1 → Dec (j ≡ i) → at (set m i 0) j ≡ 0
+    go j k (yes e) = ap (at (set m i 0)) e ∙ getD-set-same m i 0 0 h
+    go j k (no e) = getD-set-other m i j 0 0 e ∙ g .zeros j (omega arith)
+
+-- a clear table is 0 at every place, past its end too
+pub clear-at : (l : List ℕ) → Clear l → (i : ℕ) → at l i ≡ 0
+clear-at l z i = go (decLt i (length l))
+  where
+    go : Dec (i < length l) → at l i ≡ 0
+    go (yes h) = z i h
+    go (no h) = List·getD-eq-default l 0 (omega arith)
+
+pub home-below : (homes n : ℕ) → 0 < homes → homeOf homes n < homes
+unfolding homeOf
+home-below homes n h = mod-lt _ h
+
+-- the two products of the home fit a word together
+spread-most : (a b : ℕ) → a < 4294967296 → b < 4294967296 → a * 2654435769 + b * 1597334677 < 2 ^ 64
+spread-most a b h k = omega arith
+
+pub spread-fits : (n : ℕ) → n < 2 ^ 64 → n % 4294967296 * 2654435769 + n / 4294967296 * 1597334677 < 2 ^ 64
+spread-fits n h = spread-most (n % 4294967296) (n / 4294967296) (mod-lt n (omega arith)) (quotient-below n 4294967296 4294967296 (omega arith) h)
+
+-- ---- the loop of `put`: no word from the home up to i is free
+pub record Probing (homes : ℕ) (l : List ℕ) (n i : ℕ) : Type 0 where
+  pub free : Free homes l
+  pub from : homeOf homes n ≤ i
+  pub upto : i ≤ free .place
+  pub taken : Taken homes l n i
+
+pub probing-start : (homes : ℕ) (l : List ℕ) (n i : ℕ) → Free homes l → i ≡ homeOf homes n → i < homes → Probing homes l n i
+probing-start homes l n i f e h = record { free = f; from = omega arith; upto = omega (arith, f .behind); taken = λ k p q. absurd (omega arith) }
+
+-- one word more that is not free
+taken-more : (homes : ℕ) (l : List ℕ) (n i : ℕ) → Taken homes l n i → at l i ≢ 0 → Taken homes l n (i + 1)
+taken-more homes l n i t h k p q = go (ℕ-discrete k i)
+  where
+    go : Dec (k ≡ i) → at l k ≢ 0
+    go (yes e) = λ z. h (ap (at l) (sym e) ∙ z)
+    go (no e) = t k p (omega arith)
+
+pub probing-more : (homes : ℕ) (l : List ℕ) (n i : ℕ) → Probing homes l n i → 0 < at l i → Probing homes l n (i + 1)
+probing-more homes l n i g h = record {
+  free = g .free;
+  from = omega (arith, g .from);
+  upto = let o : i ≢ g .free .place = λ e. omega (arith, ap (at l) e, g .free .is) in omega (arith, g .upto);
+  taken = taken-more homes l n i (g .taken) (λ z. omega arith);
+}
+
+pub probing-end : (homes : ℕ) (l : List ℕ) (n i : ℕ) → Probing homes l n i → at l i ≤ 0 → Put homes l (set l i n) n
+probing-end homes l n i g h = record { place = i; from = g .from; inside = omega (arith, g .upto, g .free .inside); free = omega arith; taken = g .taken; is = refl }
+
+-- ---- what a number put changes
+
+module _ (homes : ℕ) (l m : List ℕ) (n : ℕ) (p : Put homes l m n) where
+  here : at m (p .place) ≡ n
+  here = ap (λ (z : List ℕ). at z (p .place)) (p .is) ∙ getD-set-same l (p .place) n 0 (p .inside)
+
+  pub elsewhere : (k : ℕ) → k ≢ p .place → at m k ≡ at l k
+  elsewhere k e = ap (λ (z : List ℕ). at z k) (p .is) ∙ getD-set-other l (p .place) k n 0 e
+
+  pub put-length : length m ≡ length l
+  put-length = ap length (p .is) ∙ length-set l (p .place) n
+
+  -- every word is as it was, or holds n
+  pub entry : (k : ℕ) → at m k ≢ 0 → (at m k ≡ n) ⊎ ((at l k ≢ 0) × (at m k ≡ at l k))
+  entry k h = go (ℕ-discrete k (p .place))
+    where
+      go : Dec (k ≡ p .place) → (at m k ≡ n) ⊎ ((at l k ≢ 0) × (at m k ≡ at l k))
+      go (yes e) = inl (ap (at m) e ∙ here)
+      go (no e) = inr (λ z. h (elsewhere k e ∙ z), elsewhere k e)
+
+  module _ (above : n ≢ 0) where
+    still-taken : (k : ℕ) → at l k ≢ 0 → at m k ≢ 0
+    still-taken k h = go (ℕ-discrete k (p .place))
+      where
+        go : Dec (k ≡ p .place) → at m k ≢ 0
+        go (yes e) = λ z. above (sym here ∙ ap (at m) (sym e) ∙ z)
+        go (no e) = λ z. h (sym (elsewhere k e) ∙ z)
+
+    -- n stands in it
+    pub put-holds : Holds homes m n
+    put-holds = record { place = p .place; from = p .from; inside = omega (arith, p .inside, put-length); is = here; taken = λ k a b. still-taken k (p .taken k a b) }
+
+    -- and what stood in it still does
+    pub put-keeps : (v : ℕ) → v ≢ 0 → Holds homes l v → Holds homes m v
+    put-keeps v w h = record {
+      place = h .place;
+      from = h .from;
+      inside = omega (arith, h .inside, put-length);
+      is = elsewhere (h .place) (λ e. w (sym (h .is) ∙ ap (at l) e ∙ p .free)) ∙ h .is;
+      taken = λ k a b. still-taken k (h .taken k a b);
+    }
+
+-- the free words of a table are behind the place that was taken, where one before them is free
+pub put-before : (homes : ℕ) (l m : List ℕ) (n : ℕ) (p : Put homes l m n) (i : ℕ) → homeOf homes n ≤ i → at l i ≡ 0 → p .place ≤ i
+put-before homes l m n p i h z = go (decLt i (p .place))
+  where
+    go : Dec (i < p .place) → p .place ≤ i
+    go (yes l) = absurd (p .taken i h l z)
+    go (no l) = omega arith
+
+-- ---- the loop of `holds`: no word from the home up to i is free, or n
+pub record Looking (homes : ℕ) (l : List ℕ) (n i : ℕ) : Type 0 where
+  pub from : homeOf homes n ≤ i
+  pub taken : Taken homes l n i
+  pub missed : (k : ℕ) → homeOf homes n ≤ k → k < i → at l k ≢ n
+
+pub looking-start : (homes : ℕ) (l : List ℕ) (n i : ℕ) → i ≡ homeOf homes n → Looking homes l n i
+looking-start homes l n i e = record { from = omega arith; taken = λ k p q. absurd (omega arith); missed = λ k p q. absurd (omega arith) }
+
+module _ (homes : ℕ) (l : List ℕ) (n i : ℕ) (g : Looking homes l n i) where
+  pub looking-found : i < length l → at l i ≡ n → Holds homes l n
+  looking-found h e = record { place = i; from = g .from; inside = h; is = e; taken = g .taken }
+
+  pub looking-more : at l i ≢ n → at l i ≢ 0 → Looking homes l n (i + 1)
+  looking-more e z = record { from = omega (arith, g .from); taken = taken-more homes l n i (g .taken) z; missed = more }
+    where
+      more : (k : ℕ) → homeOf homes n ≤ k → k < i + 1 → at l k ≢ n
+      more k p q = go (ℕ-discrete k i)
+        where
+          go : Dec (k ≡ i) → at l k ≢ n
+          go (yes r) = λ s. e (ap (at l) (sym r) ∙ s)
+          go (no r) = g .missed k p (omega arith)
+
+  pub looking-free : at l i ≢ n → at l i ≡ 0 → Holds homes l n → ⊥
+  looking-free e z h = go (decLt (h .place) i) (ℕ-discrete (h .place) i)
+    where
+      go : Dec (h .place < i) → Dec (h .place ≡ i) → ⊥
+      go (yes p) d = g .missed (h .place) (h .from) p (h .is)
+      go (no p) (yes q) = e (ap (at l) (sym q) ∙ h .is)
+      go (no p) (no q) = h .taken i (g .from) (omega arith) z
+
+  pub looking-end : length l ≤ i → Holds homes l n → ⊥
+  looking-end e h = g .missed (h .place) (h .from) (omega (arith, h .inside)) (h .is)
