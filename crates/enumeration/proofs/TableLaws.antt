@@ -10,7 +10,7 @@ use lib.ListN.{length, set, length-set, List·getD-eq-default}
 use lib.Seq.{getD-set-same, getD-set-other}
 use Rattle.specification.proofs.Digits.{quotient-below}
 use Rattle.enumeration.specs.Words.{at}
-use Rattle.enumeration.specs.Table.{homeOf, Clear, Taken, Holds, Free, Put}
+use Rattle.enumeration.specs.Table.{homeOf, Clear, AtMost, Taken, Holds, Free, Put}
 
 -- ---- the loop of `clear`: the first i words are 0
 pub record Clearing (l m : List ℕ) (i : ℕ) : Type 0 where
@@ -100,6 +100,14 @@ module _ (homes : ℕ) (l m : List ℕ) (n : ℕ) (p : Put homes l m n) where
       go (yes e) = inl (ap (at m) e ∙ here)
       go (no e) = inr (λ z. h (elsewhere k e ∙ z), elsewhere k e)
 
+  -- no word is above what it was at most, or n
+  pub put-low : (most most′ : ℕ) → most ≤ most′ → n ≤ most′ → AtMost most l → AtMost most′ m
+  put-low most most′ a b g k = go (ℕ-discrete k (p .place))
+    where
+      go : Dec (k ≡ p .place) → at m k ≤ most′
+      go (yes e) = omega (arith, ap (at m) e, here)
+      go (no e) = omega (arith, elsewhere k e, g k)
+
   module _ (above : n ≢ 0) where
     still-taken : (k : ℕ) → at l k ≢ 0 → at m k ≢ 0
     still-taken k h = go (ℕ-discrete k (p .place))
@@ -135,6 +143,10 @@ pub record Looking (homes : ℕ) (l : List ℕ) (n i : ℕ) : Type 0 where
   pub from : homeOf homes n ≤ i
   pub taken : Taken homes l n i
   pub missed : (k : ℕ) → homeOf homes n ≤ k → k < i → at l k ≢ n
+
+-- a number above all words is not there
+pub above-missing : (homes : ℕ) (l : List ℕ) (most n : ℕ) → AtMost most l → most < n → Holds homes l n → ⊥
+above-missing homes l most n g h w = omega (arith, g (w .place), w .is)
 
 pub looking-start : (homes : ℕ) (l : List ℕ) (n i : ℕ) → i ≡ homeOf homes n → Looking homes l n i
 looking-start homes l n i e = record { from = omega arith; taken = λ k p q. absurd (omega arith); missed = λ k p q. absurd (omega arith) }

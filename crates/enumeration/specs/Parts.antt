@@ -8,7 +8,7 @@ use lib.ListN.{length, take}
 use Rattle.odometer.specs.Odometer.{SumsFit}
 use Rattle.differences.specs.Differences.{box, Distance, Stands}
 use Rattle.enumeration.specs.Words.{at}
-use Rattle.enumeration.specs.Table.{Holds}
+use Rattle.enumeration.specs.Table.{Holds, AtMost}
 
 -- the first part: the axes before `place`, with so many difference vectors, all of which have room in so many words
 pub record SplitFor (extents : List ℕ) (words place vectors : ℕ) : Type 0 where
@@ -22,11 +22,12 @@ pub record AtMiddle (extents strides above below : List ℕ) : Type 0 where
   pub stands : Stands extents strides above below 0 0
   pub equal : above ≡ below
 
--- either some distance is 0, or the table holds every distance and nothing else
-pub record Filled (extents strides : List ℕ) (homes : ℕ) (table : List ℕ) (found : Bool) : Type 0 where
-  pub zero : found ≡ true → Distance extents strides 0
-  pub all : found ≡ false → (n : ℕ) → Distance extents strides n → (n ≢ 0) × Holds homes table n
-  pub only : found ≡ false → (i : ℕ) → at table i ≢ 0 → Distance extents strides (at table i)
+-- either some distance is 0, or the table holds every distance and nothing else, none above `most`
+pub record Filled (extents strides : List ℕ) (homes : ℕ) (table : List ℕ) (zero : Bool) (most : ℕ) : Type 0 where
+  pub nothing : zero ≡ true → Distance extents strides 0
+  pub all : zero ≡ false → (n : ℕ) → Distance extents strides n → (n ≢ 0) × Holds homes table n
+  pub only : zero ≡ false → (i : ℕ) → at table i ≢ 0 → Distance extents strides (at table i)
+  pub low : zero ≡ false → AtMost most table
 
 -- some distance is 0, or one that the table holds
 abbrev pub MeetsTable : List ℕ → List ℕ → ℕ → List ℕ → Type 0

@@ -19,6 +19,10 @@ Clear words = (i : ℕ) → i < length words → at words i ≡ 0
 abbrev pub Taken : ℕ → List ℕ → ℕ → ℕ → Type 0
 Taken homes table n i = (k : ℕ) → homeOf homes n ≤ k → k < i → at table k ≢ 0
 
+-- no word is above `most`
+abbrev pub AtMost : ℕ → List ℕ → Type 0
+AtMost most words = (i : ℕ) → at words i ≤ most
+
 -- n stands in the table
 pub record Holds (homes : ℕ) (table : List ℕ) (n : ℕ) : Type 0 where
   pub place : ℕ

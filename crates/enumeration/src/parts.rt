@@ -8,13 +8,19 @@ ghost use Rattle.specification.proofs.Digits.{PositiveExtents};
 ghost use Rattle.differences.specs.Differences.{box, gap};
 ghost use Rattle.differences.proofs.Meeting.{Meets};
 ghost use Rattle.enumeration.specs.Words.{Tells};
-ghost use Rattle.enumeration.specs.Table.{Clear};
+ghost use Rattle.enumeration.specs.Table.{Clear, AtMost};
 ghost use Rattle.enumeration.specs.Parts.{SplitFor, AtMiddle, Filled, MeetsTable, Part};
 
 // How many axes the first part has, and how many difference vectors.
 pub struct Split {
     pub place: usize,
     pub vectors: u64,
+}
+
+// What a part leaves in the table: whether a distance is 0, and what no other is above.
+pub struct Distances {
+    pub zero: bool,
+    pub most: u64,
 }
 
 // Whether the axes from j on have at least `goal` difference vectors.
@@ -83,7 +89,13 @@ fn distance(up: u64, down: u64) -> u64
     if up < down { down - up } else { up - down }
 }
 
-// Puts each distance of the part into the table, which is clear; true if one of them is 0.
+fn larger(x: u64, y: u64) -> u64
+    ensures { λ r. ⌜ (x ≤ r) × (y ≤ r) ⌝ }
+{
+    if x < y { y } else { x }
+}
+
+// Puts each distance of the part into the table, which is clear, unless one of them is 0.
 fn fill(
     extents: &[u64],
     strides: &[u64],
@@ -91,24 +103,32 @@ fn fill(
     below: &mut [u64],
     table: &mut [u64],
     homes: u64,
-) -> bool
+) -> Distances
     requires { ⌜ AtMiddle (now extents) (now strides) (now above) (now below) × Clear (now table) × (homes ≡ box (now extents)) × (2 * box (now extents) ≤ length (now table) + 1) ⌝ }
-    ensures { λ r. ⌜ Filled (now (extents .entry)) (now (strides .entry)) homes (now (table .exit)) r ⌝ }
+    ensures { λ r. ⌜ Filled (now (extents .entry)) (now (strides .entry)) homes (now (table .exit)) (r .zero) (r .most) ⌝ }
 {
     let mut up: u64 = 0;
     let mut down: u64 = 0;
+    let mut most: u64 = 0;
     loop {
         let next = differences::step(extents, strides, above, below, up, down);
         if next.ended {
-            return false;
+            return Distances {
+                zero: false,
+                most: most,
+            };
         }
         up = next.up;
         down = next.down;
         let size = distance(up, down);
         if size == 0 {
-            return true;
+            return Distances {
+                zero: true,
+                most: most,
+            };
         }
         table::put(table, homes, size);
+        most = larger(most, size);
     }
 }
 
@@ -120,8 +140,9 @@ fn meets(
     below: &mut [u64],
     table: &[u64],
     homes: u64,
+    most: u64,
 ) -> bool
-    requires { ⌜ AtMiddle (now extents) (now strides) (now above) (now below) × (0 < homes) ⌝ }
+    requires { ⌜ AtMiddle (now extents) (now strides) (now above) (now below) × (0 < homes) × AtMost most (now table) ⌝ }
     ensures { λ r. ⌜ Tells r (MeetsTable (now (extents .entry)) (now (strides .entry)) homes (now (table .entry))) ⌝ }
 {
     let mut up: u64 = 0;
@@ -137,16 +158,16 @@ fn meets(
         if size == 0 {
             return true;
         }
-        if table::holds(table, homes, size) {
+        if table::holds(table, homes, most, size) {
             return true;
         }
     }
 }
 
 // Puts the distances of the part, whatever the words hold before.
-fn fill_table(extents: &[u64], strides: &[u64], table: &mut [u64], homes: u64) -> bool
+fn fill_table(extents: &[u64], strides: &[u64], table: &mut [u64], homes: u64) -> Distances
     requires { ⌜ Part (now extents) (now strides) × (homes ≡ box (now extents)) × (2 * box (now extents) ≤ length (now table) + 1) ⌝ }
-    ensures { λ r. ⌜ Filled (now (extents .entry)) (now (strides .entry)) homes (now (table .exit)) r ⌝ }
+    ensures { λ r. ⌜ Filled (now (extents .entry)) (now (strides .entry)) homes (now (table .exit)) (r .zero) (r .most) ⌝ }
 {
     let rank = extents.len();
     let mut above = [0u64; 16];
@@ -162,8 +183,8 @@ fn fill_table(extents: &[u64], strides: &[u64], table: &mut [u64], homes: u64) -
     )
 }
 
-fn meets_table(extents: &[u64], strides: &[u64], table: &[u64], homes: u64) -> bool
-    requires { ⌜ Part (now extents) (now strides) × (0 < homes) ⌝ }
+fn meets_table(extents: &[u64], strides: &[u64], table: &[u64], homes: u64, most: u64) -> bool
+    requires { ⌜ Part (now extents) (now strides) × (0 < homes) × AtMost most (now table) ⌝ }
     ensures { λ r. ⌜ Tells r (MeetsTable (now (extents .entry)) (now (strides .entry)) homes (now (table .entry))) ⌝ }
 {
     let rank = extents.len();
@@ -176,6 +197,7 @@ fn meets_table(extents: &[u64], strides: &[u64], table: &[u64], homes: u64) -> b
         &mut below[..rank],
         table,
         homes,
+        most,
     )
 }
 
@@ -191,8 +213,10 @@ pub fn meet(
     requires { ⌜ Part (now «first_extents») (now «first_strides») × Part (now «second_extents») (now «second_strides») × (vectors ≡ box (now «first_extents»)) × (2 * box (now «first_extents») ≤ length (now table) + 1) ⌝ }
     ensures { λ r. ⌜ Tells r (Meets (now («first_extents» .entry)) (now («first_strides» .entry)) (now («second_extents» .entry)) (now («second_strides» .entry))) ⌝ }
 {
-    if fill_table(first_extents, first_strides, table, vectors) {
+    let first = fill_table(first_extents, first_strides, table, vectors);
+    if first.zero {
         return true;
     }
-    meets_table(second_extents, second_strides, table, vectors)
+    let most = first.most;
+    meets_table(second_extents, second_strides, table, vectors, most)
 }

@@ -3,7 +3,7 @@
 ghost use mathlib.Core.Path.{_≡_};
 ghost use Prim.Native.Nat.{_<_};
 ghost use Rattle.enumeration.specs.Words.{Tells};
-ghost use Rattle.enumeration.specs.Table.{homeOf, Clear, Holds, Free, Put};
+ghost use Rattle.enumeration.specs.Table.{homeOf, Clear, AtMost, Holds, Free, Put};
 
 pub fn clear(words: &mut [u64])
     ensures { λ _. ⌜ Clear (now (words .exit)) ⌝ }
@@ -37,10 +37,14 @@ pub fn put(table: &mut [u64], homes: u64, n: u64)
     table[i] = n;
 }
 
-pub fn holds(table: &[u64], homes: u64, n: u64) -> bool
-    requires { ⌜ 0 < homes ⌝ }
+// Whether n stands in the table, whose words are at most `most`.
+pub fn holds(table: &[u64], homes: u64, most: u64, n: u64) -> bool
+    requires { ⌜ (0 < homes) × AtMost most (now table) ⌝ }
     ensures { λ r. ⌜ Tells r (Holds homes (now (table .entry)) n) ⌝ }
 {
+    if n > most {
+        return false;
+    }
     let mut i = home(homes, n) as usize;
     while i < table.len() {
         let word = table[i];

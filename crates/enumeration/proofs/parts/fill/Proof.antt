@@ -9,10 +9,10 @@ use Rattle.enumeration.proofs.parts.fill.Statement.{statement}
 use Rattle.enumeration.proofs.parts.fill.Tie as tie
 
 abbrev Inv-loop : tie.InvT-loop
-Inv-loop extents strides above₀ below₀ table₀ homes up₀ down₀ above below table up down = Filling extents strides above₀ below₀ table₀ homes above below table up down
+Inv-loop extents strides above₀ below₀ table₀ homes up₀ down₀ most₀ above below table up down most = Filling extents strides above₀ below₀ table₀ homes above below table up down most
 
 abbrev μ-loop : tie.MeasureT-loop
-μ-loop extents strides above₀ below₀ table₀ homes up₀ down₀ above below table up down = box extents - number extents above below
+μ-loop extents strides above₀ below₀ table₀ homes up₀ down₀ most₀ above below table up down most = box extents - number extents above below
 
 loop-holds : tie.Need-loop-holds Inv-loop μ-loop
 loop-holds c =
@@ -35,7 +35,7 @@ returns : tie.Need-returns Inv-loop μ-loop
 returns c =
     let a = c .before .before .before .before .before .before .before .before in
     let v = c .before .before .before .before .before .step in
-    filling-end _ _ _ _ _ _ _ _ _ _ _ (a .loop .inv) _ _ _ (v .ensures .1) (c .if1 .taken)
+    filling-end _ _ _ _ _ _ _ _ _ _ _ _ (a .loop .inv) _ _ _ (v .ensures .1) (c .if1 .taken)
 
 distance-requires : tie.Need-distance-requires Inv-loop μ-loop
 distance-requires c κs = search needs
@@ -53,25 +53,28 @@ returns-2 : tie.Need-returns-2 Inv-loop μ-loop
 returns-2 c =
     let a = c .before .before .before .before .before .before .before .before .before .before in
     let v = c .before .before .before .before .before .before .before .step in
-    filling-zero _ _ _ _ _ _ _ _ _ _ _ (a .loop .inv) _ _ _ _ _ (v .ensures .1) (v .ensures .0) (c .before .before .if1 .left) (sym (c .before .distance .ensures) ∙ c .if2 .taken)
+    filling-zero _ _ _ _ _ _ _ _ _ _ _ _ (a .loop .inv) _ _ _ _ _ (v .ensures .1) (v .ensures .0) (c .before .before .if1 .left) (sym (c .before .distance .ensures) ∙ c .if2 .taken)
 
 put-requires : tie.Need-put-requires Inv-loop μ-loop
 put-requires c κs =
     let a = c .before .before .before .before .before .before .before .before .before .before .before in
     let v = c .before .before .before .before .before .before .before .before .step in
-    filling-free _ _ _ _ _ _ _ _ _ _ _ (a .loop .inv) _ _ _ _ _ (v .ensures .1) (v .ensures .0) (c .before .before .before .if1 .left)
+    filling-free _ _ _ _ _ _ _ _ _ _ _ _ (a .loop .inv) _ _ _ _ _ (v .ensures .1) (v .ensures .0) (c .before .before .before .if1 .left)
+
+larger-requires : tie.Need-larger-requires Inv-loop μ-loop
+larger-requires c κs = search needs
 
 loop-less : tie.Need-loop-less Inv-loop μ-loop
 loop-less c =
-    let a = c .before .before .before .before .before .before .before .before .before .before .before .before .before .before in
-    let v = c .before .before .before .before .before .before .before .before .before .before .before .step in
-    stepped-less _ _ _ _ _ _ _ _ _ (v .ensures .1) (v .ensures .0) (c .before .before .before .before .before .before .if1 .left)
+    let a = c .before .before .before .before .before .before .before .before .before .before .before .before .before .before .before in
+    let v = c .before .before .before .before .before .before .before .before .before .before .before .before .step in
+    stepped-less _ _ _ _ _ _ _ _ _ (v .ensures .1) (v .ensures .0) (c .before .before .before .before .before .before .before .if1 .left)
 
 loop-again : tie.Need-loop-again Inv-loop μ-loop
 loop-again c =
-    let a = c .before .before .before .before .before .before .before .before .before .before .before .before .before .before in
-    let v = c .before .before .before .before .before .before .before .before .before .before .before .step in
-    filling-more _ _ _ _ _ _ _ _ _ _ _ (a .loop .inv) _ _ _ _ _ (v .ensures .1) (v .ensures .0) (c .before .before .before .before .before .before .if1 .left) _ _ (c .before .before .before .before .before .distance .ensures) (c .before .before .before .before .if2 .left) (c .before .before .put .ensures) (v .kept .1 .1 .0) (v .kept .1 .1 .1 .0)
+    let a = c .before .before .before .before .before .before .before .before .before .before .before .before .before .before .before in
+    let v = c .before .before .before .before .before .before .before .before .before .before .before .before .step in
+    filling-more _ _ _ _ _ _ _ _ _ _ _ _ (a .loop .inv) _ _ _ _ _ (v .ensures .1) (v .ensures .0) (c .before .before .before .before .before .before .before .if1 .left) _ _ _ (c .before .before .before .before .before .before .distance .ensures) (c .larger .ensures) (c .before .before .before .before .before .if2 .left) (c .before .before .before .put .ensures) (v .kept .1 .1 .0) (v .kept .1 .1 .1 .0)
 
 pub fill-spec : {M : Type 1} → statement M
 fill-spec =
@@ -91,5 +94,6 @@ fill-spec =
     same-length-6
     returns-2
     put-requires
+    larger-requires
     loop-less
     loop-again)

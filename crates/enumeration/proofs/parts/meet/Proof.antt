@@ -13,18 +13,18 @@ same-length : tie.Need-same-length
 same-length c = search needs
 
 returns : tie.Need-returns
-returns c = filled-yes _ _ _ _ _ _ _ (c .before .before .before .fill-table .ensures) (c .if1 .taken)
+returns c = filled-yes _ _ _ _ _ _ _ _ (c .before .before .before .fill-table .ensures) (c .if1 .taken)
 
 meets-table-requires : tie.Need-meets-table-requires
 meets-table-requires c κs =
     let s = c .before .before .before .before .before .before .before .before .before .before .before in
-    (s .pre .1, omega (arith, s .pre .2, box-positive (s .pre .0 .sums .positive)))
+    (s .pre .1, omega (arith, s .pre .2, box-positive (s .pre .0 .sums .positive)), c .before .before .before .before .fill-table .ensures .low (c .before .if1 .left))
 
 same-length-2 : tie.Need-same-length-2
 same-length-2 c = search needs
 
 returns-2 : tie.Need-returns-2
-returns-2 c = filled-tells _ _ _ _ _ _ _ (c .before .before .before .before .before .fill-table .ensures) (c .before .before .if1 .left) _ (c .meets-table .ensures)
+returns-2 c = filled-tells _ _ _ _ _ _ _ _ (c .before .before .before .before .before .fill-table .ensures) (c .before .before .if1 .left) _ (c .meets-table .ensures)
 
 pub meet-spec : {M : Type 1} → statement M
 meet-spec =

@@ -9,10 +9,10 @@ use Rattle.enumeration.proofs.parts.meets.Statement.{statement}
 use Rattle.enumeration.proofs.parts.meets.Tie as tie
 
 abbrev Inv-loop : tie.InvT-loop
-Inv-loop extents strides above₀ below₀ table homes up₀ down₀ above below up down = LookingUp extents strides above₀ below₀ table homes above below up down
+Inv-loop extents strides above₀ below₀ table homes most up₀ down₀ above below up down = LookingUp extents strides above₀ below₀ table homes above below up down
 
 abbrev μ-loop : tie.MeasureT-loop
-μ-loop extents strides above₀ below₀ table homes up₀ down₀ above below up down = box extents - number extents above below
+μ-loop extents strides above₀ below₀ table homes most up₀ down₀ above below up down = box extents - number extents above below
 
 loop-holds : tie.Need-loop-holds Inv-loop μ-loop
 loop-holds c =

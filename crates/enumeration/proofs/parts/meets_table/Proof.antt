@@ -22,7 +22,7 @@ slice-aggregate-meets-2 c = sym (length-take-le _ _ (omega (arith, c .before .be
 meets-requires : tie.Need-meets-requires
 meets-requires c κs =
     let s = c .before .before .before .before .before in
-    (zeros-middle _ _ (s .pre .0), s .pre .1)
+    (zeros-middle _ _ (s .pre .0), s .pre .1, s .pre .2)
 
 returns : tie.Need-returns
 returns c = search needs
