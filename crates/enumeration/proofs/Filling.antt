@@ -15,7 +15,7 @@ use Rattle.enumeration.specs.Words.{at}
 use Rattle.enumeration.specs.Table.{Clear, AtMost, Holds, Free, Put}
 use Rattle.enumeration.specs.Parts.{AtMiddle, Filled}
 use Rattle.enumeration.proofs.Telling.{true-not-false}
-use Rattle.enumeration.proofs.TableLaws.{clear-at, home-below, entry, elsewhere, put-holds, put-keeps, put-before, put-length, put-low}
+use Rattle.enumeration.proofs.TableLaws.{clear-at, home-below, entry, put-holds, put-keeps, put-before, put-low}
 
 -- n is above 0, and stands in the table
 abbrev Stored : ℕ → List ℕ → ℕ → Type 0
@@ -101,11 +101,11 @@ module _ (es ss a₀ b₀ t₀ : List ℕ) (homes : ℕ) (a b t : List ℕ) (up 
       stands = w;
       above-length = la ∙ f .above-length;
       below-length = lb ∙ f .below-length;
-      table-length = put-length homes t t′ (gap up′ down′) p ∙ f .table-length;
+      table-length = p .one-length ∙ f .table-length;
       homes-are = f .homes-are;
-      room = omega (arith, f .room, put-length homes t t′ (gap up′ down′) p);
+      room = omega (arith, f .room, p .one-length);
       middle = omega (arith, behind);
-      free = λ i h. elsewhere homes t t′ (gap up′ down′) p i (λ q. omega (arith, q, before, next, f .middle)) ∙ f .free i (omega (arith, next, f .middle));
+      free = λ i h. p .others i (λ q. omega (arith, q, before, next, f .middle)) ∙ f .free i (omega (arith, next, f .middle));
       all = visited-more es ss a′ b′ up′ down′ (Stored homes t′) (number es a b)
           (λ x y bx by l m. let o = f .all x y bx by l m in (o .0, put-keeps homes t t′ (gap up′ down′) p z _ (o .0) (o .1)))
           w next (z, put-holds homes t t′ (gap up′ down′) p z);

@@ -1,7 +1,7 @@
 -- The table: words cleared one by one, and a number put into it.
 use mathlib.Core.List.{List}
 use mathlib.Core.Logic.{_≢_, _⊎_, inl, inr}
-use mathlib.Core.Path.{_≡_, refl, sym, ap, _∙_}
+use mathlib.Core.Path.{_≡_, refl, sym, ap, subst, _∙_}
 use Prim.Native.Nat.{ℕ, _+_, _*_, _/_, _%_, _^_, _<_, _≤_}
 use native.Mathlib.Decide.{ℕ-discrete, decLt}
 use native.Mathlib.Nat.{mod-lt}
@@ -69,66 +69,88 @@ taken-more homes l n i t h k p q = go (ℕ-discrete k i)
     go (yes e) = λ z. h (ap (at l) (sym e) ∙ z)
     go (no e) = t k p (omega arith)
 
-pub probing-more : (homes : ℕ) (l : List ℕ) (n i : ℕ) → Probing homes l n i → 0 < at l i → Probing homes l n (i + 1)
-probing-more homes l n i g h = record {
-  free = g .free;
-  from = omega (arith, g .from);
-  upto = let o : i ≢ g .free .place = λ e. omega (arith, ap (at l) e, g .free .is) in omega (arith, g .upto);
-  taken = taken-more homes l n i (g .taken) (λ z. omega arith);
-}
+module _ (homes : ℕ) (l : List ℕ) (n i : ℕ) (g : Probing homes l n i) where
+  pub probing-inside : i < length l
+  probing-inside = omega (arith, g .upto, g .free .inside)
 
-pub probing-end : (homes : ℕ) (l : List ℕ) (n i : ℕ) → Probing homes l n i → at l i ≤ 0 → Put homes l (set l i n) n
-probing-end homes l n i g h = record { place = i; from = g .from; inside = omega (arith, g .upto, g .free .inside); free = omega arith; taken = g .taken; is = refl }
+  pub probing-more : at l i ≢ 0 → Probing homes l n (i + 1)
+  probing-more h = record {
+    free = g .free;
+    from = omega (arith, g .from);
+    upto = let o : i ≢ g .free .place = λ e. h (ap (at l) e ∙ g .free .is) in omega (arith, g .upto);
+    taken = taken-more homes l n i (g .taken) h;
+  }
+
+  -- the table is still as it was
+  pub probing-free : (l₀ : List ℕ) → l ≡ l₀ → at l i ≡ 0 → Put homes l₀ (set l i n) n
+  probing-free l₀ q z = subst (λ (m : List ℕ). Put homes m (set l i n) n) q (record {
+    place = i;
+    from = g .from;
+    inside = probing-inside;
+    was = inl z;
+    taken = g .taken;
+    one-length = length-set l i n;
+    is = getD-set-same l i n 0 probing-inside;
+    others = λ k e. getD-set-other l i k n 0 e;
+  })
+
+  pub probing-met : (l₀ : List ℕ) → l ≡ l₀ → at l i ≡ n → Put homes l₀ l n
+  probing-met l₀ q e = subst (λ (m : List ℕ). Put homes m l n) q (record {
+    place = i;
+    from = g .from;
+    inside = probing-inside;
+    was = inr e;
+    taken = g .taken;
+    one-length = refl;
+    is = e;
+    others = λ k o. refl;
+  })
 
 -- ---- what a number put changes
 
 module _ (homes : ℕ) (l m : List ℕ) (n : ℕ) (p : Put homes l m n) where
-  here : at m (p .place) ≡ n
-  here = ap (λ (z : List ℕ). at z (p .place)) (p .is) ∙ getD-set-same l (p .place) n 0 (p .inside)
-
-  pub elsewhere : (k : ℕ) → k ≢ p .place → at m k ≡ at l k
-  elsewhere k e = ap (λ (z : List ℕ). at z k) (p .is) ∙ getD-set-other l (p .place) k n 0 e
-
-  pub put-length : length m ≡ length l
-  put-length = ap length (p .is) ∙ length-set l (p .place) n
-
   -- every word is as it was, or holds n
   pub entry : (k : ℕ) → at m k ≢ 0 → (at m k ≡ n) ⊎ ((at l k ≢ 0) × (at m k ≡ at l k))
   entry k h = go (ℕ-discrete k (p .place))
     where
       go : Dec (k ≡ p .place) → (at m k ≡ n) ⊎ ((at l k ≢ 0) × (at m k ≡ at l k))
-      go (yes e) = inl (ap (at m) e ∙ here)
-      go (no e) = inr (λ z. h (elsewhere k e ∙ z), elsewhere k e)
+      go (yes e) = inl (ap (at m) e ∙ p .is)
+      go (no e) = inr (λ z. h (p .others k e ∙ z), p .others k e)
 
   -- no word is above what it was at most, or n
   pub put-low : (most most′ : ℕ) → most ≤ most′ → n ≤ most′ → AtMost most l → AtMost most′ m
   put-low most most′ a b g k = go (ℕ-discrete k (p .place))
     where
       go : Dec (k ≡ p .place) → at m k ≤ most′
-      go (yes e) = omega (arith, ap (at m) e, here)
-      go (no e) = omega (arith, elsewhere k e, g k)
+      go (yes e) = omega (arith, ap (at m) e, p .is)
+      go (no e) = omega (arith, p .others k e, g k)
 
   module _ (above : n ≢ 0) where
     still-taken : (k : ℕ) → at l k ≢ 0 → at m k ≢ 0
     still-taken k h = go (ℕ-discrete k (p .place))
       where
         go : Dec (k ≡ p .place) → at m k ≢ 0
-        go (yes e) = λ z. above (sym here ∙ ap (at m) (sym e) ∙ z)
-        go (no e) = λ z. h (sym (elsewhere k e) ∙ z)
+        go (yes e) = λ z. above (sym (p .is) ∙ ap (at m) (sym e) ∙ z)
+        go (no e) = λ z. h (sym (p .others k e) ∙ z)
 
     -- n stands in it
     pub put-holds : Holds homes m n
-    put-holds = record { place = p .place; from = p .from; inside = omega (arith, p .inside, put-length); is = here; taken = λ k a b. still-taken k (p .taken k a b) }
+    put-holds = record { place = p .place; from = p .from; inside = omega (arith, p .inside, p .one-length); is = p .is; taken = λ k a b. still-taken k (p .taken k a b) }
 
     -- and what stood in it still does
     pub put-keeps : (v : ℕ) → v ≢ 0 → Holds homes l v → Holds homes m v
     put-keeps v w h = record {
       place = h .place;
       from = h .from;
-      inside = omega (arith, h .inside, put-length);
-      is = elsewhere (h .place) (λ e. w (sym (h .is) ∙ ap (at l) e ∙ p .free)) ∙ h .is;
+      inside = omega (arith, h .inside, p .one-length);
+      is = kept (ℕ-discrete (h .place) (p .place)) (p .was);
       taken = λ k a b. still-taken k (h .taken k a b);
     }
+      where
+        kept : Dec (h .place ≡ p .place) → (at l (p .place) ≡ 0) ⊎ (at l (p .place) ≡ n) → at m (h .place) ≡ v
+        kept (yes e) (inl z) = absurd (w (sym (h .is) ∙ ap (at l) e ∙ z))
+        kept (yes e) (inr z) = ap (at m) e ∙ p .is ∙ sym z ∙ ap (at l) (sym e) ∙ h .is
+        kept (no e) o = p .others (h .place) e ∙ h .is
 
 -- the free words of a table are behind the place that was taken, where one before them is free
 pub put-before : (homes : ℕ) (l m : List ℕ) (n : ℕ) (p : Put homes l m n) (i : ℕ) → homeOf homes n ≤ i → at l i ≡ 0 → p .place ≤ i

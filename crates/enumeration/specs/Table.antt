@@ -1,10 +1,10 @@
 -- A table of numbers above 0 in lent words; a word of 0 is free. A number stands at its home, one of the first `homes` words,
 -- or behind it with no free word between.
 use mathlib.Core.List.{List}
-use mathlib.Core.Logic.{_≢_}
+use mathlib.Core.Logic.{_≢_, _⊎_}
 use mathlib.Core.Path.{_≡_}
 use Prim.Native.Nat.{ℕ, _+_, _*_, _/_, _%_, _<_, _≤_}
-use lib.ListN.{length, set}
+use lib.ListN.{length}
 use Rattle.enumeration.specs.Words.{at}
 
 -- the home of a number: any would do, this one spreads numbers that lie in a pattern
@@ -38,11 +38,13 @@ pub record Free (homes : ℕ) (table : List ℕ) : Type 0 where
   pub inside : place < length table
   pub is : at table place ≡ 0
 
--- n was put into the first free word from its home on
+-- n was put into the first free word from its home on, unless it stood before that word
 pub record Put (homes : ℕ) (before after : List ℕ) (n : ℕ) : Type 0 where
   pub place : ℕ
   pub from : homeOf homes n ≤ place
   pub inside : place < length before
-  pub free : at before place ≡ 0
+  pub was : (at before place ≡ 0) ⊎ (at before place ≡ n)
   pub taken : Taken homes before n place
-  pub is : after ≡ set before place n
+  pub one-length : length after ≡ length before
+  pub is : at after place ≡ n
+  pub others : (k : ℕ) → k ≢ place → at after k ≡ at before k

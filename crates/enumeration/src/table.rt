@@ -25,16 +25,23 @@ fn home(homes: u64, n: u64) -> u64
     again / 65536 % homes
 }
 
-// Puts n, which is above 0, into the first free word from its home on.
+// Puts n, which is above 0, into the first free word from its home on, unless it is met before.
 pub fn put(table: &mut [u64], homes: u64, n: u64)
     requires { ⌜ (0 < homes) × Free homes (now table) ⌝ }
     ensures { λ _. ⌜ Put homes (now (table .entry)) (now (table .exit)) n ⌝ }
 {
     let mut i = home(homes, n) as usize;
-    while table[i] > 0 {
+    loop {
+        let word = table[i];
+        if word == 0 {
+            table[i] = n;
+            return;
+        }
+        if word == n {
+            return;
+        }
         i += 1;
     }
-    table[i] = n;
 }
 
 // Whether n stands in the table, whose words are at most `most`.
