@@ -177,8 +177,8 @@ module _ (homes : ℕ) (l : List ℕ) (n i : ℕ) (g : Looking homes l n i) wher
   pub looking-found : i < length l → at l i ≡ n → Holds homes l n
   looking-found h e = record { place = i; from = g .from; inside = h; is = e; taken = g .taken }
 
-  pub looking-more : at l i ≢ n → at l i ≢ 0 → Looking homes l n (i + 1)
-  looking-more e z = record { from = omega (arith, g .from); taken = taken-more homes l n i (g .taken) z; missed = more }
+  pub looking-more : at l i ≢ 0 → at l i ≢ n → Looking homes l n (i + 1)
+  looking-more z e = record { from = omega (arith, g .from); taken = taken-more homes l n i (g .taken) z; missed = more }
     where
       more : (k : ℕ) → homeOf homes n ≤ k → k < i + 1 → at l k ≢ n
       more k p q = go (ℕ-discrete k i)
@@ -187,12 +187,12 @@ module _ (homes : ℕ) (l : List ℕ) (n i : ℕ) (g : Looking homes l n i) wher
           go (yes r) = λ s. e (ap (at l) (sym r) ∙ s)
           go (no r) = g .missed k p (omega arith)
 
-  pub looking-free : at l i ≢ n → at l i ≡ 0 → Holds homes l n → ⊥
-  looking-free e z h = go (decLt (h .place) i) (ℕ-discrete (h .place) i)
+  pub looking-free : n ≢ 0 → at l i ≡ 0 → Holds homes l n → ⊥
+  looking-free o z h = go (decLt (h .place) i) (ℕ-discrete (h .place) i)
     where
       go : Dec (h .place < i) → Dec (h .place ≡ i) → ⊥
       go (yes p) d = g .missed (h .place) (h .from) p (h .is)
-      go (no p) (yes q) = e (ap (at l) (sym q) ∙ h .is)
+      go (no p) (yes q) = o (sym (h .is) ∙ ap (at l) q ∙ z)
       go (no p) (no q) = h .taken i (g .from) (omega arith) z
 
   pub looking-end : length l ≤ i → Holds homes l n → ⊥

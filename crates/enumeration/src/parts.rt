@@ -23,7 +23,7 @@ pub struct Distances {
     pub most: u64,
 }
 
-// Whether the axes from j on have at least `goal` difference vectors.
+// Whether the axes from `start` on have at least `goal` difference vectors.
 fn reaches(extents: &[u64], start: usize, goal: u64) -> bool
     requires { ⌜ PositiveExtents (now extents) × (goal ≤ 2 ^ 63) ⌝ }
 {
@@ -83,6 +83,7 @@ pub fn split_axes(extents: &[u64], words: usize) -> Split
     }
 }
 
+// How far the two sums of a difference are apart.
 fn distance(up: u64, down: u64) -> u64
     ensures { λ r. ⌜ r ≡ gap up down ⌝ }
 {
@@ -154,11 +155,11 @@ fn meets(
         }
         up = next.up;
         down = next.down;
-        let size = distance(up, down);
-        if size == 0 {
+        let apart = distance(up, down);
+        if apart == 0 {
             return true;
         }
-        if table::holds(table, homes, most, size) {
+        if table::holds(table, homes, most, apart) {
             return true;
         }
     }
@@ -183,6 +184,7 @@ fn fill_table(extents: &[u64], strides: &[u64], table: &mut [u64], homes: u64) -
     )
 }
 
+// Whether some distance of the part is 0, or one that the table holds, from the start of the walk.
 fn meets_table(extents: &[u64], strides: &[u64], table: &[u64], homes: u64, most: u64) -> bool
     requires { ⌜ Part (now extents) (now strides) × (0 < homes) × AtMost most (now table) ⌝ }
     ensures { λ r. ⌜ Tells r (MeetsTable (now (extents .entry)) (now (strides .entry)) homes (now (table .entry))) ⌝ }

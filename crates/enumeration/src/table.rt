@@ -1,6 +1,7 @@
 // A table of numbers above 0 in lent words, where a word of 0 is free. Each number has a home; it stands there, or in the first
 // word behind that was free when it was put. Words behind the homes take what comes last.
 ghost use mathlib.Core.Path.{_≡_};
+ghost use mathlib.Core.Logic.{_≢_};
 ghost use Prim.Native.Nat.{_<_};
 ghost use Rattle.enumeration.specs.Words.{Tells};
 ghost use Rattle.enumeration.specs.Table.{homeOf, Clear, AtMost, Holds, Free, Put};
@@ -44,9 +45,9 @@ pub fn put(table: &mut [u64], homes: u64, n: u64)
     }
 }
 
-// Whether n stands in the table, whose words are at most `most`.
+// Whether n, which is above 0, stands in the table, whose words are at most `most`.
 pub fn holds(table: &[u64], homes: u64, most: u64, n: u64) -> bool
-    requires { ⌜ (0 < homes) × AtMost most (now table) ⌝ }
+    requires { ⌜ (0 < homes) × AtMost most (now table) × (n ≢ 0) ⌝ }
     ensures { λ r. ⌜ Tells r (Holds homes (now (table .entry)) n) ⌝ }
 {
     if n > most {
@@ -55,11 +56,11 @@ pub fn holds(table: &[u64], homes: u64, most: u64, n: u64) -> bool
     let mut i = home(homes, n) as usize;
     while i < table.len() {
         let word = table[i];
-        if word == n {
-            return true;
-        }
         if word == 0 {
             return false;
+        }
+        if word == n {
+            return true;
         }
         i += 1;
     }

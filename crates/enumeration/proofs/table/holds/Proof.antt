@@ -29,10 +29,14 @@ shared-slice-read-word : tie.Need-shared-slice-read-word Inv-loop μ-loop
 shared-slice-read-word c = search needs
 
 returns-2 : tie.Need-returns-2 Inv-loop μ-loop
-returns-2 c = tell-yes (looking-found _ _ _ _ (c .before .before .before .loop .inv) (c .before .before .loop-test .taken) (c .if2 .taken))
+returns-2 c =
+    let a = c .before .before .before in
+    tell-no (looking-free _ _ _ _ (a .loop .inv) (a .before .before .before .before .pre .2) (c .if2 .taken))
 
 returns-3 : tie.Need-returns-3 Inv-loop μ-loop
-returns-3 c = tell-no (looking-free _ _ _ _ (c .before .before .before .before .loop .inv) (c .before .if2 .left) (c .if3 .taken))
+returns-3 c =
+    let a = c .before .before .before .before in
+    tell-yes (looking-found _ _ _ _ (a .loop .inv) (c .before .before .before .loop-test .taken) (c .if3 .taken))
 
 add-i : tie.Need-add-i Inv-loop μ-loop
 add-i c = search needs
