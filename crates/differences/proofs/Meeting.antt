@@ -12,7 +12,7 @@ use Rattle.specification.proofs.Positions.{IndexVector, empty, _and_, place}
 use Rattle.specification.proofs.Digits.{PositiveExtents, indexAt-within, place-indexAt, indexAt-place, place-lt, place-inj}
 use Rattle.odometer.specs.Odometer.{dot, SumsFit}
 use Rattle.odometer.proofs.OrderLaws.{digits-within}
-use Rattle.differences.specs.Differences.{Distance}
+use Rattle.differences.specs.Differences.{Distance, Meets, first, second, both}
 
 -- ---- vectors of two parts
 
@@ -50,12 +50,6 @@ append-second [] e = e
 append-second (i ∷ x) e = append-second x (cc)
 
 -- ---- the two parts
-
--- what is asked of them
-pub data Meets (eu su ev sv : List ℕ) : Type 0 where
-  first : Distance eu su 0 → Meets eu su ev sv
-  second : Distance ev sv 0 → Meets eu su ev sv
-  both : (n : ℕ) → Distance eu su n → Distance ev sv n → Meets eu su ev sv
 
 module _ (eu su ev sv : List ℕ) (lu : length su ≡ length eu) (pu : PositiveExtents eu) (pv : PositiveExtents ev) where
   pub meets-whole : Meets eu su ev sv → Distance (eu ++ ev) (su ++ sv) 0

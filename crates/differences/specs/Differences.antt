@@ -32,6 +32,12 @@ pub record Distance (es ss : List ℕ) (n : ℕ) : Type 0 where
   pub other : x ≢ y
   pub is : dot ss x ≡ dot ss y + n
 
+-- two parts of the axes: vectors of one have one sum, or a distance of the one part is one of the other
+pub data Meets (eu su ev sv : List ℕ) : Type 0 where
+  first : Distance eu su 0 → Meets eu su ev sv
+  second : Distance ev sv 0 → Meets eu su ev sv
+  both : (n : ℕ) → Distance eu su n → Distance ev sv n → Meets eu su ev sv
+
 -- a difference above - below, and the sums of the two
 pub record Stands (es ss above below : List ℕ) (up down : ℕ) : Type 0 where
   pub above-within : IndexVector es above

@@ -12,8 +12,8 @@ use Rattle.specification.specs.Search.{wordsFor}
 use Rattle.specification.proofs.Pigeonhole.{Clash}
 use Rattle.specification.proofs.Digits.{product-positive}
 use Rattle.odometer.specs.Odometer.{SumsFit}
-use Rattle.differences.specs.Differences.{Distance}
-use Rattle.differences.proofs.Meeting.{Meets, meets-whole, whole-meets, fits-first, fits-second, clash-distance, distance-clash}
+use Rattle.differences.specs.Differences.{Distance, Meets}
+use Rattle.differences.proofs.Meeting.{meets-whole, whole-meets, fits-first, fits-second, clash-distance, distance-clash}
 use Rattle.enumeration.specs.Words.{Tells}
 use Rattle.enumeration.specs.Sums.{positionSum}
 use Rattle.enumeration.specs.Parts.{Part}

@@ -8,9 +8,8 @@ use native.Mathlib.Decide.{ℕ-discrete}
 use native.Mathlib.Omega.{arith}
 use lib.ListN.{length}
 use Rattle.odometer.specs.Odometer.{SumsFit}
-use Rattle.differences.specs.Differences.{box, number, gap, Distance, Stands, Stepped}
+use Rattle.differences.specs.Differences.{box, number, gap, Distance, Meets, first, second, both, Stands, Stepped}
 use Rattle.differences.proofs.Visits.{Visited, number-self, visited-start, visited-more, visited-end, stands-distance}
-use Rattle.differences.proofs.Meeting.{Meets, first, second, both}
 use Rattle.enumeration.specs.Words.{Tells}
 use Rattle.enumeration.specs.Table.{Holds}
 use Rattle.enumeration.specs.Parts.{AtMiddle, Filled, MeetsTable}

@@ -1,15 +1,12 @@
 -- Parts of a block's axes: their extents stay positive, and an array of zeros is where the walk over their differences begins.
 use mathlib.Core.List.{List, [], _∷_}
-use mathlib.Core.Path.{_≡_, refl, sym, ap, ap₂, subst, _∙_}
+use mathlib.Core.Path.{_≡_, refl, sym, ap}
 use Prim.Native.Nat.{ℕ, zero, suc, _<_, _≤_}
-use native.Mathlib.Nat.{zero-mod, zero-div}
 use native.Mathlib.Omega.{arith}
 use lib.ListN.{length, getD, take, drop, replicate}
-use Rattle.specification.specs.Axis.{indexAt}
-use Rattle.specification.proofs.Positions.{IndexVector}
+use Rattle.specification.proofs.Positions.{IndexVector, empty, _and_}
 use Rattle.specification.proofs.Digits.{PositiveExtents, none, more}
 use Rattle.odometer.specs.Odometer.{dot}
-use Rattle.odometer.proofs.OrderLaws.{digits-within}
 use Rattle.enumeration.specs.Parts.{AtMiddle, Part}
 
 -- ---- positive extents
@@ -31,10 +28,9 @@ positive-drop (more h t) (suc c) = positive-drop t c
 
 -- ---- zeros
 
-indexAt-zero : {es : List ℕ} → PositiveExtents es → indexAt es 0 ≡ replicate (length es) 0
-unfolding indexAt
-indexAt-zero none = refl
-indexAt-zero (more {e} {es} p t) = ap₂ (λ (y : ℕ) (z : List ℕ). y ∷ z) (zero-mod e) (ap (λ (z : ℕ). indexAt es z) (zero-div e) ∙ indexAt-zero t)
+zeros-within : {es : List ℕ} → PositiveExtents es → IndexVector es (replicate (length es) 0)
+zeros-within none = empty
+zeros-within (more p t) = _and_ p (zeros-within t)
 
 take-replicate : (n m a : ℕ) → n ≤ m → take n (replicate m a) ≡ replicate n a
 take-replicate zero m a h = refl
@@ -51,7 +47,7 @@ dot-zeros (s ∷ ss) (suc n) = omega (arith, dot-zeros ss n)
 pub zeros-middle : (es ss : List ℕ) → Part es ss → AtMiddle es ss (take (length es) (replicate 16 0)) (take (length es) (replicate 16 0))
 zeros-middle es ss p =
     let z : take {A = ℕ} (length es) (replicate 16 0) ≡ replicate (length es) 0 = take-replicate (length es) 16 0 (p .rank) in
-    let w : IndexVector es (replicate (length es) 0) = subst (λ (x : List ℕ). IndexVector es x) (indexAt-zero (p .sums .positive)) (digits-within (p .sums .positive) 0) in
+    let w = zeros-within (p .sums .positive) in
     record {
       sums = p .sums;
       stands = record { above-within = rw z w; below-within = rw z w; up-is = rw z (sym (dot-zeros ss (length es))); down-is = rw z (sym (dot-zeros ss (length es))) };
