@@ -43,7 +43,7 @@ fn reaches(extents: &[u64], start: usize, goal: u64) -> bool
     vectors >= goal
 }
 
-// The longest first part that has room in so many words, and no more difference vectors than the rest. Any other is as right, and slower.
+// The longest first part that has room in so many words, and no more difference vectors than the rest. Any other would be as right.
 pub fn split_axes(extents: &[u64], words: usize) -> Split
     requires { ⌜ PositiveExtents (now extents) × (0 < words) ⌝ }
     ensures { λ r. ⌜ SplitFor (now (extents .entry)) words (r .place) (r .vectors) ⌝ }
