@@ -2,9 +2,9 @@
 use mathlib.Core.Bool.{Bool}
 use mathlib.Core.List.{List, [], _∷_}
 use mathlib.Core.Path.{_≡_, refl, sym, ap, ap₂, _∙_}
-use Prim.Native.Nat.{ℕ, suc, _+_, _*_, _-_, _/_, _^_, _<_, _≤_}
+use Prim.Native.Nat.{ℕ, suc, _+_, _*_, _-_, _^_, _<_, _≤_}
 use native.Mathlib.Omega.{arith}
-use lib.ListN.{length, take, replicate}
+use lib.ListN.{length}
 use Rattle.specification.specs.Axis.{product, indexAt}
 use Rattle.specification.specs.Search.{ActiveAxis, lengths, reach, total, spanSum, SameSum}
 use Rattle.specification.proofs.Pigeonhole.{Clash}
@@ -14,10 +14,9 @@ use Rattle.specification.proofs.SeparatedAxis.{reach-span}
 use Rattle.odometer.specs.Odometer.{dot, strides, SumsFit}
 use Rattle.odometer.proofs.VectorLaws.{reach-dot}
 use Rattle.enumeration.specs.Words.{Tells}
-use Rattle.enumeration.specs.Sums.{positionSum, Ready, BitForEach}
-use Rattle.enumeration.specs.Enumeration.{Describes, Block}
+use Rattle.enumeration.specs.Sums.{positionSum}
+use Rattle.enumeration.specs.Enumeration.{Describes}
 use Rattle.enumeration.proofs.Telling.{tells-iff}
-use Rattle.enumeration.proofs.Walk.{zeros-first}
 
 one-length : (b : List ActiveAxis) → length (strides b) ≡ length (lengths b)
 one-length [] = refl
@@ -55,9 +54,6 @@ module _ (es ss : List ℕ) (block : List ActiveAxis) (d : Describes es ss block
     fits = λ x v. omega (arith, sum-below x v);
   }
 
-  pub block-room : (words : List ℕ) → spanSum block / 64 < length words → BitForEach es ss words
-  block-room words h x v = omega (arith, sum-below x v)
-
   -- the sum of the definition at position k
   sum-is : (k : ℕ) → reach block (indexAt (lengths block) k) ≡ positionSum es ss k
   sum-is k = reach-dot block (indexAt (lengths block) k) ∙ ap₂ (λ (s : List ℕ) (e : List ℕ). dot s (indexAt e k)) (d .strides-are) (d .extents-are)
@@ -71,10 +67,3 @@ module _ (es ss : List ℕ) (block : List ActiveAxis) (d : Describes es ss block
 
       from : SameSum block → Clash (positionSum es ss) (total block)
       from s = record { i = s .one; j = s .other; lt = s .before; below = s .within; same = sym (sum-is (s .one)) ∙ s .same ∙ sum-is (s .other) }
-
--- what is handed over, with an array of zeros, is what the loops start from
-pub block-ready : {es ss : List ℕ} {positions span : ℕ} → Block es ss positions span → span < 2 ^ 64 → Ready es ss (take (length es) (replicate 16 0))
-block-ready {es} {ss} k h = record {
-  sums = block-fits es ss (k .block) (k .described) (k .positive) (omega (arith, k .span-is));
-  first = zeros-first (k .positive) 16 (k .rank);
-}

@@ -1,10 +1,8 @@
 mod Telling
-mod Rearranging
-mod Parting
-mod Halves
-mod BitLaws
-mod Walk
-mod Seen
-mod Listing
+mod TableLaws
+mod PartLaws
+mod Filling
+mod LookingUp
 mod BlockSums
 mod Answers
+mod BlockParts

@@ -1,5 +1,5 @@
 pub mod Words
-pub mod Parted
-pub mod Bitmap
+pub mod Table
 pub mod Sums
+pub mod Parts
 pub mod Enumeration

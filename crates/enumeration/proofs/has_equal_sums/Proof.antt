@@ -1,62 +1,111 @@
--- `has_equal_sums` meets its contract: the words needed are a bit for every sum, or a word for every position.
+-- `has_equal_sums` meets its contract: the block's axes are split, and the parts meet in the words that there are.
 use borrow.Author.Needs.{needs}
-use mathlib.Core.Path.{_≡_, sym, _∙_}
+use Prim.Native.Nat.{_*_, _-_}
+use mathlib.Core.Path.{sym}
 use native.Mathlib.Omega.{arith}
-use lib.ListN.{length}
 use lib.Seq.{length-take-le}
-use Rattle.enumeration.proofs.BlockSums.{block-ready, block-room}
-use Rattle.enumeration.proofs.Answers.{words-by-span, words-by-total}
+use Rattle.differences.proofs.NumberLaws.{box-positive}
+use Rattle.enumeration.proofs.PartLaws.{positive-take}
+use Rattle.enumeration.proofs.BlockParts.{words-above, strides-length, first-part, second-part, meets-clash}
 use Rattle.enumeration.proofs.has_equal_sums.Statement.{statement}
 use Rattle.enumeration.proofs.has_equal_sums.Tie as tie
 
-array-borrow-prefix-index : tie.Need-array-borrow-prefix-index
-array-borrow-prefix-index c = search needs
+split-axes-requires : tie.Need-split-axes-requires
+split-axes-requires c κs =
+    let s = c .before .before .before in
+    (s .pre .0 .positive, omega (arith, s .pre .1, words-above _ _ _ _ (s .pre .0)))
 
-slice-aggregate-by-bitmap : tie.Need-slice-aggregate-by-bitmap
-slice-aggregate-by-bitmap c = sym (length-take-le _ _ (omega (arith, c .before .before .before .before .before .pre .0 .rank)))
+mul-room : tie.Need-mul-room
+mul-room c = search needs
 
-by-bitmap-requires : tie.Need-by-bitmap-requires
-by-bitmap-requires c κs =
+sub-room : tie.Need-sub-room
+sub-room c =
+    let s = c .before .before .before .before in
+    omega (arith, c .split-axes .ensures .vectors-are, box-positive (positive-take (s .pre .0 .positive) (c .split-axes .result .place)))
+
+slice-aggregate-meet : tie.Need-slice-aggregate-meet
+slice-aggregate-meet c = sym (length-take-le _ _ (c .before .split-axes .ensures .within))
+
+slice-aggregate-meet-2 : tie.Need-slice-aggregate-meet-2
+slice-aggregate-meet-2 c =
     let s = c .before .before .before .before .before .before in
-    let e = words-by-span (s .args .total) (s .args .span) (c .before .before .if1 .taken) in
-    (block-ready (s .pre .0) (omega arith), block-room _ _ _ (s .pre .0 .described) (s .args .words .now) (omega (arith, s .pre .1, e, s .pre .0 .span-is)))
+    let p = c .before .before .split-axes .ensures in
+    sym (length-take-le _ _ (omega (arith, p .within, strides-length _ _ _ _ (s .pre .0) (omega (arith, s .fits .span .fits)))))
 
-array-borrow-prefix-index-2 : tie.Need-array-borrow-prefix-index-2
-array-borrow-prefix-index-2 c = search needs
+mul-meet : tie.Need-mul-meet
+mul-meet c = search needs
 
-slice-aggregate-by-list : tie.Need-slice-aggregate-by-list
-slice-aggregate-by-list c = sym (length-take-le _ _ (omega (arith, c .before .before .before .before .before .pre .0 .rank)))
+sub-meet : tie.Need-sub-meet
+sub-meet c = search needs
 
-by-list-requires : tie.Need-by-list-requires
-by-list-requires c κs = block-ready (c .before .before .before .before .before .before .pre .0) (omega arith)
+part-meet-start : tie.Need-part-meet-start
+part-meet-start c = search needs
+
+part-meet-end : tie.Need-part-meet-end
+part-meet-end c = search needs
+
+mul-meet-2 : tie.Need-mul-meet-2
+mul-meet-2 c = search needs
+
+sub-meet-2 : tie.Need-sub-meet-2
+sub-meet-2 c =
+    let s = c .before .before .before .before .before .before .before in
+    let p = c .before .before .before .split-axes .ensures in
+    omega (arith, p .within, strides-length _ _ _ _ (s .pre .0) (omega (arith, s .fits .span .fits)))
+
+part-meet-start-2 : tie.Need-part-meet-start-2
+part-meet-start-2 c =
+    let s = c .before .before .before .before .before .before .before in
+    let p = c .before .before .before .split-axes .ensures in
+    omega (arith, p .within, strides-length _ _ _ _ (s .pre .0) (omega (arith, s .fits .span .fits)))
+
+part-meet-end-2 : tie.Need-part-meet-end-2
+part-meet-end-2 c = search needs
+
+slice-relend-prefix-meet : tie.Need-slice-relend-prefix-meet
+slice-relend-prefix-meet c = search needs
+
+slice-aggregate-meet-3 : tie.Need-slice-aggregate-meet-3
+slice-aggregate-meet-3 c =
+    let s = c .before .before .before .before .before .before .before .before .before in
+    let p = c .before .before .before .before .before .split-axes .ensures in
+    sym (length-take-le _ _ (omega (arith, p .room)))
+
+meet-requires : tie.Need-meet-requires
+meet-requires c κs =
+    let s = c .before .before .before .before .before .before .before .before .before in
+    let p = c .before .before .before .before .before .split-axes .ensures in
+    let l = length-take-le (2 * c .before .before .before .before .before .split-axes .result .vectors - 1) (s .args .words .now) (omega (arith, p .room)) in
+    (first-part _ _ _ _ (s .pre .0) (omega (arith, s .fits .span .fits)) _ (p .within), second-part _ _ _ _ (s .pre .0) (omega (arith, s .fits .span .fits)) _ (p .within), p .vectors-are, omega (arith, p .vectors-are, p .room, l))
 
 same-length : tie.Need-same-length
 same-length c = search needs
 
 returns : tie.Need-returns
-returns c = search needs
-
-same-length-2 : tie.Need-same-length-2
-same-length-2 c = search needs
-
-returns-2 : tie.Need-returns-2
-returns-2 c =
-    let s = c .before .before .before .before .before .before .before .before .before .before in
-    let r = c .before .before .before .by-list in
-    let e : length (s .args .words .now) ≡ s .args .total = s .pre .1 ∙ words-by-total _ _ (c .before .before .before .before .before .before .if1 .left) in
-    rw e at (r .ensures)
+returns c =
+    let s = c .before .before .before .before .before .before .before .before .before .before .before .before in
+    let p = c .before .before .before .before .before .before .before .before .split-axes .ensures in
+    meets-clash _ _ _ _ (s .pre .0) (omega (arith, s .fits .span .fits)) _ (p .within) _ (c .before .before .meet .ensures)
 
 pub has-equal-sums-spec : {M : Type 1} → statement M
 has-equal-sums-spec =
     tie.close
     (tie.spec
-    array-borrow-prefix-index
-    slice-aggregate-by-bitmap
-    by-bitmap-requires
-    array-borrow-prefix-index-2
-    slice-aggregate-by-list
-    by-list-requires
+    split-axes-requires
+    mul-room
+    sub-room
+    slice-aggregate-meet
+    slice-aggregate-meet-2
+    mul-meet
+    sub-meet
+    part-meet-start
+    part-meet-end
+    mul-meet-2
+    sub-meet-2
+    part-meet-start-2
+    part-meet-end-2
+    slice-relend-prefix-meet
+    slice-aggregate-meet-3
+    meet-requires
     same-length
-    returns
-    same-length-2
-    returns-2)
+    returns)

@@ -1,0 +1,2 @@
+-- The definitions that the contracts on differences cite.
+pub mod Differences
