@@ -1,3 +1,2 @@
 pub mod VectorLaws
 pub mod OrderLaws
-mod Turning

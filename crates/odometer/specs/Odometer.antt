@@ -31,8 +31,3 @@ pub record SumsFit (extents strides : List ℕ) : Type 0 where
   pub one-length : length strides ≡ length extents
   pub positive : PositiveExtents extents
   pub fits : (index : List ℕ) → IndexVector extents index → dot strides index < 2 ^ 64
-
--- an index vector, and its sum of index × stride
-pub record StandsAt (extents strides index : List ℕ) (sum : ℕ) : Type 0 where
-  pub within : IndexVector extents index
-  pub is : sum ≡ dot strides index
