@@ -1,0 +1,15 @@
+// The text program: a line of words in, a line of text out.
+mod arguments;
+mod change;
+mod command;
+mod hexadecimal;
+mod list;
+mod message;
+mod number;
+mod printing;
+mod problem;
+mod query;
+mod session;
+mod text;
+
+pub use session::run;
