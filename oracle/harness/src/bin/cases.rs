@@ -90,9 +90,9 @@ fn sort_of(input: &Input) -> (usize, u8) {
 /// How many of a call, an answer and a sort are kept.
 fn quota(call: usize) -> u32 {
     match call {
-        6 => 8,
-        3 => 4,
-        _ => 3,
+        6 => 16,
+        3 => 7,
+        _ => 6,
     }
 }
 
