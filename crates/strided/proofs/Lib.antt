@@ -1,0 +1,4 @@
+pub mod RoomLaws
+pub mod CopyLaws
+pub mod FlatLaws
+pub mod StepLaws

@@ -1,0 +1,80 @@
+use mathlib.Core.Path.{refl}
+use borrow.Author.Needs.{needs}
+use mathlib.Core.Path.{_≡_, sym, ap, _∙_}
+use Prim.Native.Nat.{_-_, _≤_}
+use native.Mathlib.Omega.{arith}
+use lib.ListN.{length, drop, replicate}
+use lib.Seq.{paste, paste-zero, length-paste}
+use Rattle.strided.proofs.CopyLaws.{read-turn, store-turn, read-end, stored-one, stored-two}
+use Rattle.strided.proofs.flat.extents_in.Statement.{statement}
+use Rattle.strided.proofs.flat.extents_in.Tie as tie
+use Rattle.strided.proofs.flat.extents_in.Reads as reads
+use Rattle.strided.proofs.flat.extents_in.Lts as lts
+
+abbrev Inv-loop : tie.InvT-loop
+Inv-loop numbers extents₀ i₀ extents i = (i ≤ 16) × (extents ≡ paste extents₀ 0 (drop 2 numbers) i)
+
+abbrev μ-loop : tie.MeasureT-loop
+μ-loop numbers extents₀ i₀ extents i = 16 - i
+
+-- src/flat.rt:38:5
+loop-holds : tie.Need-loop-holds Inv-loop μ-loop
+loop-holds c = search needs
+
+-- src/flat.rt:39:30
+add-extents : tie.Need-add-extents Inv-loop μ-loop
+add-extents c = search needs
+
+-- src/flat.rt:39:22
+mul-extents : tie.Need-mul-extents Inv-loop μ-loop
+mul-extents c = search needs
+
+-- src/flat.rt:39:22
+shared-slice-read-extents : tie.Need-shared-slice-read-extents Inv-loop μ-loop
+shared-slice-read-extents c = search needs
+
+-- src/flat.rt:39:9
+mul-extents-2 : tie.Need-mul-extents-2 Inv-loop μ-loop
+mul-extents-2 c = search needs
+
+-- src/flat.rt:39:9
+array-write-extents : tie.Need-array-write-extents Inv-loop μ-loop
+array-write-extents c = search needs
+
+-- src/flat.rt:40:9
+add-i : tie.Need-add-i Inv-loop μ-loop
+add-i c = search needs
+
+-- src/flat.rt:38:5
+loop-less : tie.Need-loop-less Inv-loop μ-loop
+loop-less c = search needs
+
+-- src/flat.rt:38:5
+loop-again : tie.Need-loop-again Inv-loop μ-loop
+loop-again c =
+    let l = c .before .before .loop in
+    (search needs, read-turn _ (c .before .before .before .args .numbers .now) (l .extents) 2 (l .i) 0 (search needs) (omega arith) (l .inv .1))
+
+-- src/flat.rt:32:1
+returns : tie.Need-returns Inv-loop μ-loop
+returns c =
+    let l = c .before .loop in
+    let e : l .i ≡ 16 = omega arith in
+    read-end (replicate 16 0) (c .before .before .args .numbers .now) (l .extents) 2 refl (l .inv .1 ∙ ap (paste _ 0 (drop 2 (c .before .before .args .numbers .now))) e)
+
+pub extents-in-spec : {M : Type 1} → statement M
+extents-in-spec =
+    tie.close
+    (tie.spec
+    Inv-loop
+    μ-loop
+    loop-holds
+    add-extents
+    mul-extents
+    shared-slice-read-extents
+    mul-extents-2
+    array-write-extents
+    add-i
+    loop-less
+    loop-again
+    returns)

@@ -1,0 +1,121 @@
+// The bounds alone, offsets of index vectors, the order of strides, dense strides.
+ghost use mathlib.Core.List.{_++_};
+ghost use mathlib.Core.Path.{_≡_};
+ghost use Prim.Native.Nat.{_≤_};
+ghost use lib.ListN.{length, take, drop};
+use crate::flat::holds_view;
+use crate::flat::layout_in;
+use crate::refusals::number_of;
+use crate::refusals::refuse;
+use auxiliary::index_order_into;
+use view::bounds::validate_bounds;
+use view::dense::Dense;
+use view::dense::checked_col_major_strides;
+use view::dense::checked_row_major_strides;
+use view::layout::Answer;
+use view::layout::ReadingOffset;
+use view::offset::Indexed;
+
+// Check-in's answer without the layout.
+#[no_mangle]
+pub extern "C" fn strided_validate_bounds(
+    len: u64,
+    offset: i64,
+    extents: &[u64],
+    strides: &[i64],
+) -> u8 {
+    let answer = validate_bounds(len, ReadingOffset(offset), extents, strides);
+    number_of(answer)
+}
+
+// The offset of an index vector.
+#[no_mangle]
+pub extern "C" fn strided_indexed_offset(
+    numbers: &[u64],
+    steps: &[i64],
+    index: &[u64],
+    offset: &mut i64,
+    values: &mut [u64],
+) -> u8 {
+    if !holds_view(numbers.len(), steps.len(), values.len()) {
+        return 255;
+    }
+    let layout = layout_in(numbers, steps);
+    let indexed = layout.indexed_offset(index);
+    match indexed {
+        Indexed::At(at) => {
+            let place = at.0;
+            *offset = place;
+            0
+        }
+        Indexed::Refused(why) => refuse(why, values),
+    }
+}
+
+// Each stride's number by absolute value.
+#[no_mangle]
+pub extern "C" fn strided_index_order(
+    strides: &[i64],
+    out: &mut [usize],
+    values: &mut [u64],
+) -> u8 {
+    if values.len() < 2 {
+        return 255;
+    }
+    let answer = index_order_into(strides, out);
+    number_of(answer)
+}
+
+// The first `count` strides into the first places.
+fn store_strides(from: [i64; 16], count: usize, strides: &mut [i64])
+    requires { ⌜ (count ≤ 16) × (count ≤ length (now strides)) ⌝ }
+    ensures { λ _. ⌜ now (strides .exit) ≡ take count from ++ drop count (now (strides .entry)) ⌝ }
+{
+    let mut i = 0;
+    while i < count {
+        let stride = from[i];
+        strides[i] = stride;
+        i += 1;
+    }
+}
+
+// As many strides as there are extents into the first places; on a refusal its number.
+fn answer_dense(dense: Dense, count: usize, strides: &mut [i64]) -> u8
+    requires { ⌜ (count ≤ 16) × (count ≤ length (now strides)) ⌝ }
+{
+    let answer = dense.answer;
+    match answer {
+        Answer::Refused(why) => why.number(),
+        Answer::Done => {
+            let from = dense.strides;
+            store_strides(from, count, strides);
+            0
+        }
+    }
+}
+
+// Dense strides by column: the first axis is the densest.
+#[no_mangle]
+pub extern "C" fn strided_column_strides(extents: &[u64], strides: &mut [i64]) -> u8 {
+    if 16 < extents.len() {
+        return 1;
+    }
+    if strides.len() < extents.len() {
+        return 255;
+    }
+    let dense = checked_col_major_strides(extents);
+    answer_dense(dense, extents.len(), strides)
+}
+
+// Dense strides by row: the last axis is the densest.
+#[no_mangle]
+pub extern "C" fn strided_row_strides(extents: &[u64], strides: &mut [i64]) -> u8 {
+    if 16 < extents.len() {
+        return 1;
+    }
+    if strides.len() < extents.len() {
+        return 255;
+    }
+    let dense = checked_row_major_strides(extents);
+    answer_dense(dense, extents.len(), strides)
+}

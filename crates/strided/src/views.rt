@@ -1,0 +1,125 @@
+// Check-in, the views and the normal form.
+ghost use Prim.Native.Nat.{_≤_};
+ghost use lib.ListN.{length};
+use crate::flat::holds_layout;
+use crate::flat::holds_view;
+use crate::flat::layout_in;
+use crate::flat::store_layout;
+use crate::refusals::number_of;
+use crate::refusals::refuse;
+use record::normal::normal_form;
+use view::layout::Answer;
+use view::layout::Layout;
+use view::layout::ReadingOffset;
+use view::layout::Viewed;
+
+// The layout after a call into the buffers; on a refusal its number alone, and the buffers as they were.
+fn store_viewed(viewed: Viewed, numbers: &mut [u64], steps: &mut [i64]) -> u8
+    requires { ⌜ (18 ≤ length (now numbers)) × (17 ≤ length (now steps)) ⌝ }
+{
+    let answer = viewed.answer;
+    match answer {
+        Answer::Refused(why) => why.number(),
+        Answer::Done => {
+            let layout = viewed.layout;
+            store_layout(layout, numbers, steps);
+            0
+        }
+    }
+}
+
+// The same, with the values of a refusal.
+pub fn answer_viewed(
+    viewed: Viewed,
+    numbers: &mut [u64],
+    steps: &mut [i64],
+    values: &mut [u64],
+) -> u8
+    requires { ⌜ (18 ≤ length (now numbers)) × (17 ≤ length (now steps)) × (2 ≤ length (now values)) ⌝ }
+{
+    let answer = viewed.answer;
+    match answer {
+        Answer::Refused(why) => refuse(why, values),
+        Answer::Done => {
+            let layout = viewed.layout;
+            store_layout(layout, numbers, steps);
+            0
+        }
+    }
+}
+
+// Check-in: 0 and the layout in the buffers, or refusal 1, 2 or 3.
+#[no_mangle]
+pub extern "C" fn strided_new(
+    numbers: &mut [u64],
+    steps: &mut [i64],
+    len: u64,
+    offset: i64,
+    extents: &[u64],
+    strides: &[i64],
+) -> u8 {
+    if !holds_layout(numbers.len(), steps.len()) {
+        return 255;
+    }
+    let viewed = Layout::new(len, ReadingOffset(offset), extents, strides);
+    store_viewed(viewed, numbers, steps)
+}
+
+// The axes in the order of the list.
+#[no_mangle]
+pub extern "C" fn strided_permute(
+    numbers: &mut [u64],
+    steps: &mut [i64],
+    axes: &[usize],
+    values: &mut [u64],
+) -> u8 {
+    if !holds_view(numbers.len(), steps.len(), values.len()) {
+        return 255;
+    }
+    let layout = layout_in(numbers, steps);
+    let viewed = layout.permute(axes);
+    answer_viewed(viewed, numbers, steps, values)
+}
+
+// Tied axes as one axis; two numbers of the list are a pair.
+#[no_mangle]
+pub extern "C" fn strided_diagonal_view(
+    numbers: &mut [u64],
+    steps: &mut [i64],
+    pairs: &[usize],
+    values: &mut [u64],
+) -> u8 {
+    if !holds_view(numbers.len(), steps.len(), values.len()) {
+        return 255;
+    }
+    let layout = layout_in(numbers, steps);
+    let viewed = layout.diagonal_view(pairs);
+    answer_viewed(viewed, numbers, steps, values)
+}
+
+// The layout stretched to the target extents.
+#[no_mangle]
+pub extern "C" fn strided_broadcast(
+    numbers: &mut [u64],
+    steps: &mut [i64],
+    extents: &[u64],
+    values: &mut [u64],
+) -> u8 {
+    if !holds_view(numbers.len(), steps.len(), values.len()) {
+        return 255;
+    }
+    let layout = layout_in(numbers, steps);
+    let viewed = layout.broadcast(extents);
+    answer_viewed(viewed, numbers, steps, values)
+}
+
+// The normal form, or refusal 1, 3 or 8.
+#[no_mangle]
+pub extern "C" fn strided_normal_form(numbers: &mut [u64], steps: &mut [i64]) -> u8 {
+    if !holds_layout(numbers.len(), steps.len()) {
+        return 255;
+    }
+    let layout = layout_in(numbers, steps);
+    let viewed = normal_form(layout);
+    store_viewed(viewed, numbers, steps)
+}

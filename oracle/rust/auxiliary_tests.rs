@@ -1,0 +1,1 @@
+//! Child module of `auxiliary`: nothing there is private.
