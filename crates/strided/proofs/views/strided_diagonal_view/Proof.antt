@@ -11,7 +11,6 @@ use Rattle.strided.proofs.views.strided_diagonal_view.Lts as lts
 use Rattle.strided.proofs.flat.holds_view.Reads as holds-view-reads
 use Rattle.strided.proofs.flat.layout_in.Reads as layout-in-reads
 use Rattle.strided.proofs.views.answer_viewed.Reads as answer-viewed-reads
-use Rattle.view.proofs.layout.Layout.diagonal_view.Reads as diagonal-view-reads
 
 -- there is room
 room : (e : tie.Else1) → ((18 ≤ length (e .before .before .before .before .before .args .numbers .now)) × (17 ≤ length (e .before .before .before .before .before .args .steps .now))) × (2 ≤ length (e .before .before .before .before .before .args .values .now))
@@ -30,8 +29,8 @@ layout-in-requires : tie.Need-layout-in-requires
 layout-in-requires c κs = room (c .before .before) .0
 
 -- src/views.rt:84:9
-diagonal-view-requires : tie.Need-diagonal-view-requires
-diagonal-view-requires c κs = search needs
+diagonal-by-numbers-requires : tie.Need-diagonal-by-numbers-requires
+diagonal-by-numbers-requires c κs = search needs
 
 -- src/views.rt:85:5
 answer-viewed-requires : tie.Need-answer-viewed-requires
@@ -60,7 +59,7 @@ strided-diagonal-view-spec =
     holds-view-requires
     returns
     layout-in-requires
-    diagonal-view-requires
+    diagonal-by-numbers-requires
     answer-viewed-requires
     same-length
     same-length-2
