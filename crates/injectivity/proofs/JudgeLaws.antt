@@ -5,9 +5,9 @@ use mathlib.Core.List.{List, [], _∷_, _++_}
 use Prim.Native.Nat.{ℕ, zero, suc, _+_, _*_, _-_, _≤_, _<_}
 use native.Mathlib.Omega.{arith}
 use lib.ListN.{length, take, getD}
-use lib.Seq.{length-take-le, getD-take}
+use lib.Seq.{length-take-le}
 use Rattle.lists.specs.Table.{table}
-use Rattle.lists.proofs.TableLaws.{length-table, table-ext, table-getD}
+use Rattle.lists.proofs.TableLaws.{length-table, table-getD}
 use Rattle.specification.specs.Tests.{if_then_else_, sortBy}
 use Rattle.specification.specs.Search.{ActiveAxis, lengths, total, spanSum, twoDistinct, wordsFor}
 use Rattle.specification.specs.Outcome.{done}
@@ -21,12 +21,11 @@ use Rattle.walk.specs.Walk.{axisWith}
 use Rattle.odometer.specs.Odometer.{strides}
 use Rattle.search.specs.Block.{Side, Sides, Blocked, InAxisOrder}
 use Rattle.search.proofs.ForCallers.{blocked-axes}
-use Rattle.injectivity.specs.Axes.{axisAt, axesIn}
+use Rattle.injectivity.specs.Axes.{axisFrom, axesFrom, blockFrom}
 use Rattle.injectivity.specs.Block.{Searchable, Judgeable}
 use Rattle.injectivity.specs.Judgement.{outcomeOf, toldOf, JudgedAs}
 use Rattle.injectivity.specs.declared.Judgement.{Judgement}
-use Rattle.injectivity.specs.declared.block.InterleavedBlock.{InterleavedBlock}
-use Rattle.injectivity.specs.declared.axes.ActiveAxes.{ActiveAxes}
+use Rattle.injectivity.proofs.AxesLaws.{front-axes}
 
 -- ---- axes in arrays, as two slices
 
@@ -48,17 +47,12 @@ unfolding table
 strides-table f zero = refl
 strides-table f (suc n) = strides-append (table n f) (f n ∷ []) ∙ ap (λ (z : List ℕ). z ++ (f n .stride ∷ [])) (strides-table f n)
 
-table-take : (l : List ℕ) (n : ℕ) → n ≤ length l → table n (λ i. getD l i 0) ≡ take n l
-table-take l n h =
-    table-ext (λ i. getD l i 0) (λ i. getD (take n l) i 0) n (λ i k. sym (getD-take n l i 0 k))
-    ∙ table-getD (take n l) 0 n (length-take-le n l h)
+module _ (n : ℕ) (axes extents strides' : List ℕ) where
+  pub lengths-from : length extents ≡ n → lengths (axesFrom n axes extents strides') ≡ extents
+  lengths-from h = lengths-table (axisFrom axes extents strides') n ∙ table-getD extents 0 n h
 
-module _ (axes : ActiveAxes) where
-  pub lengths-in : axes .count ≤ length (axes .extents) → lengths (axesIn axes) ≡ take (axes .count) (axes .extents)
-  lengths-in h = lengths-table (axisAt axes) (axes .count) ∙ table-take (axes .extents) (axes .count) h
-
-  pub strides-in : axes .count ≤ length (axes .strides) → strides (axesIn axes) ≡ take (axes .count) (axes .strides)
-  strides-in h = strides-table (axisAt axes) (axes .count) ∙ table-take (axes .strides) (axes .count) h
+  pub strides-from : length strides' ≡ n → strides (axesFrom n axes extents strides') ≡ strides'
+  strides-from h = strides-table (axisFrom axes extents strides') n ∙ table-getD strides' 0 n h
 
 -- ---- any order
 
@@ -83,40 +77,40 @@ each-of-sides (a ∷ rest) e = (e .0, each-of-sides rest (e .1))
 
 -- ---- step 5
 
-module _ (axes ordered : ActiveAxes) (s : Searchable axes) (e : axesIn ordered ≡ sortBy lower (axesIn axes))
-    (h : length (ordered .extents) ≡ 16) (k : length (ordered .strides) ≡ 16) where
-  abbrev perm : Perm (axesIn axes) (sortBy lower (axesIn axes))
-  perm = sort-perm lower (axesIn axes)
+module _ (axes es ss ordered-axes ordered-es ordered-ss : List ℕ) (s : Searchable axes es ss)
+    (e : axesFrom (length axes) ordered-axes ordered-es ordered-ss ≡ sortBy lower (blockFrom axes es ss))
+    (h : length ordered-es ≡ 16) (k : length ordered-ss ≡ 16) where
+  abbrev perm : Perm (blockFrom axes es ss) (sortBy lower (blockFrom axes es ss))
+  perm = sort-perm lower (blockFrom axes es ss)
 
-  pub ordered-count : ordered .count ≡ axes .count
-  ordered-count = omega (arith, length-table (axisAt ordered) (ordered .count), ap (λ (l : List ActiveAxis). length l) e, perm-length perm, length-table (axisAt axes) (axes .count))
+  extents-are : lengths (sortBy lower (blockFrom axes es ss)) ≡ take (length axes) ordered-es
+  extents-are = ap lengths (sym e ∙ sym (front-axes (length axes) ordered-axes ordered-es ordered-ss))
+      ∙ lengths-from (length axes) (take (length axes) ordered-axes) (take (length axes) ordered-es) (take (length axes) ordered-ss) (length-take-le (length axes) ordered-es (omega (arith, s .few)))
 
-  extents-are : lengths (sortBy lower (axesIn axes)) ≡ take (ordered .count) (ordered .extents)
-  extents-are = ap lengths (sym e) ∙ lengths-in ordered (omega (arith, ordered-count, s .few))
+  strides-are : strides (sortBy lower (blockFrom axes es ss)) ≡ take (length axes) ordered-ss
+  strides-are = ap strides (sym e ∙ sym (front-axes (length axes) ordered-axes ordered-es ordered-ss))
+      ∙ strides-from (length axes) (take (length axes) ordered-axes) (take (length axes) ordered-es) (take (length axes) ordered-ss) (length-take-le (length axes) ordered-ss (omega (arith, s .few)))
 
-  strides-are : strides (sortBy lower (axesIn axes)) ≡ take (ordered .count) (ordered .strides)
-  strides-are = ap strides (sym e) ∙ strides-in ordered (omega (arith, ordered-count, s .few))
-
-  pub ordered-block : InAxisOrder (axesIn axes) (take (ordered .count) (ordered .extents)) (take (ordered .count) (ordered .strides))
+  pub ordered-block : InAxisOrder (blockFrom axes es ss) (take (length axes) ordered-es) (take (length axes) ordered-ss)
   ordered-block = record { ascending = s .numbered; extents-are = extents-are; strides-are = strides-are }
 
-  pub ordered-blocked : Blocked [] (take (ordered .count) (ordered .extents)) (take (ordered .count) (ordered .strides))
+  pub ordered-blocked : Blocked [] (take (length axes) ordered-es) (take (length axes) ordered-ss)
   ordered-blocked = subst₂ (Blocked []) extents-are strides-are
-      (blocked-axes (sortBy lower (axesIn axes)) (omega (arith, perm-length perm, length-table (axisAt axes) (axes .count), s .few))
-      (sides-of-each (sortBy lower (axesIn axes)) (perm-each Sided perm (each-of-sides (axesIn axes) (s .sides)))) (omega (arith, span-perm perm, s .fits)))
+      (blocked-axes (sortBy lower (blockFrom axes es ss)) (omega (arith, perm-length perm, length-table (axisFrom axes es ss) (length axes), s .few))
+      (sides-of-each (sortBy lower (blockFrom axes es ss)) (perm-each Sided perm (each-of-sides (blockFrom axes es ss) (s .sides)))) (omega (arith, span-perm perm, s .fits)))
 
 -- ---- step 4
 
-module _ (axes : ActiveAxes) (e : axes .count ≡ 2) where
-  two-axes : axesIn axes ≡ axisAt axes 0 ∷ axisAt axes 1 ∷ []
+module _ (axes es ss : List ℕ) (e : length axes ≡ 2) where
+  two-axes : blockFrom axes es ss ≡ axisFrom axes es ss 0 ∷ axisFrom axes es ss 1 ∷ []
   unfolding table
   two-axes = rw e
 
-  pub two-move : Searchable axes → (0 < getD (axes .strides) 0 0) × (0 < getD (axes .strides) 1 0)
-  two-move s = let w : Sides (axisAt axes 0 ∷ axisAt axes 1 ∷ []) = subst Sides two-axes (s .sides) in (w .0 .moves, w .1 .0 .moves)
+  pub two-move : Searchable axes es ss → (0 < getD ss 0 0) × (0 < getD ss 1 0)
+  two-move s = let w : Sides (axisFrom axes es ss 0 ∷ axisFrom axes es ss 1 ∷ []) = subst Sides two-axes (s .sides) in (w .0 .moves, w .1 .0 .moves)
 
-  pub two-plan : (r : Bool) → r ≡ twoDistinct (axisWith (getD (axes .extents) 0 0) (getD (axes .strides) 0 0)) (axisWith (getD (axes .extents) 1 0) (getD (axes .strides) 1 0))
-      → bySize (axesIn axes) ≡ (if r then answered Distinct 0 else answered Repeated 0)
+  pub two-plan : (r : Bool) → r ≡ twoDistinct (axisWith (getD es 0 0) (getD ss 0 0)) (axisWith (getD es 1 0) (getD ss 1 0))
+      → bySize (blockFrom axes es ss) ≡ (if r then answered Distinct 0 else answered Repeated 0)
   unfolding bySize byTwo twoDistinct
   two-plan r q = rw (two-axes, q)
 
@@ -126,19 +120,19 @@ pub lengths-positive : (l : List ActiveAxis) → Sides l → PositiveExtents (le
 lengths-positive [] s = PositiveExtents.none
 lengths-positive (a ∷ rest) s = let h : 0 < a .extent = omega (arith, s .0 .long) in PositiveExtents.more h (lengths-positive rest (s .1))
 
-module _ (block : InterleavedBlock) (j : Judgeable block) (h : length (block .axes .extents) ≡ 16) (k : length (block .axes .strides) ≡ 16) where
-  pub block-described : Describes (take (block .axes .count) (block .axes .extents)) (take (block .axes .count) (block .axes .strides)) (axesIn (block .axes))
+module _ (axes es ss : List ℕ) (product span : ℕ) (j : Judgeable axes es ss product span) where
+  pub block-described : Describes es ss (blockFrom axes es ss)
   block-described = record {
-    extents-are = lengths-in (block .axes) (omega (arith, j .searchable .few));
-    strides-are = strides-in (block .axes) (omega (arith, j .searchable .few));
+    extents-are = lengths-from (length axes) axes es ss (j .searchable .extents-all);
+    strides-are = strides-from (length axes) axes es ss (j .searchable .strides-all);
   }
 
-  pub block-handed : Block (take (block .axes .count) (block .axes .extents)) (take (block .axes .count) (block .axes .strides)) (block .total) (block .span)
+  pub block-handed : Block es ss product span
   block-handed = record {
-    block = axesIn (block .axes);
+    block = blockFrom axes es ss;
     described = block-described;
-    rank = omega (arith, length-take-le (block .axes .count) (block .axes .extents) (omega (arith, j .searchable .few)), j .searchable .few);
-    positive = subst PositiveExtents (block-described .extents-are) (lengths-positive (axesIn (block .axes)) (j .searchable .sides));
+    rank = omega (arith, j .searchable .extents-all, j .searchable .few);
+    positive = subst PositiveExtents (block-described .extents-are) (lengths-positive (blockFrom axes es ss) (j .searchable .sides));
     total-is = j .total-is;
     span-is = j .span-is;
   }

@@ -23,9 +23,6 @@ use Rattle.specification.proofs.VerdictRefusals.{plan-eight, plan-three}
 use Rattle.view.specs.Count.{Counted, countOf}
 use Rattle.view.specs.declared.count.Count.{Count}
 use Rattle.view.specs.declared.count.Count.the-variants.{Of, TooMany}
-use Rattle.injectivity.specs.Axes.{axesIn}
-use Rattle.injectivity.specs.Block.{BlockOf}
-use Rattle.injectivity.specs.declared.block.InterleavedBlock.{InterleavedBlock}
 use Rattle.injectivity.specs.Judgement.{toldOf, JudgedAs}
 use Rattle.injectivity.specs.Inputs.{LeftToBlock, Validated}
 use Rattle.injectivity.specs.declared.Judgement.{Judgement}
@@ -144,9 +141,9 @@ judged-settled es ss inputs r before v e = record { told = subst (Validated es s
 pub left-valid : (es : List ℕ) (ss : List ℤ) (inputs : Inputs) → Validated es ss inputs → inputs ≡ Valid → LeftToBlock es ss
 left-valid es ss inputs v e = subst (Validated es ss) e v
 
-pub judged-block : (es : List ℕ) (ss : List ℤ) → LeftToBlock es ss → (block : InterleavedBlock) → BlockOf (axesOf es ss) block
-    → (r : Judgement) (before after : List ℕ) → JudgedAs (carryOut (length before) (byBlock (axesIn (block .axes)))) before after r → JudgedAs (verdict es ss (length before)) before after r
+pub judged-block : (es : List ℕ) (ss : List ℤ) → LeftToBlock es ss → (block : List ActiveAxis) → block ≡ blockOf (axesOf es ss)
+    → (r : Judgement) (before after : List ℕ) → JudgedAs (carryOut (length before) (byBlock block)) before after r → JudgedAs (verdict es ss (length before)) before after r
 judged-block es ss l block b r before after j =
-    let e : carryOut (length before) (byBlock (axesIn (block .axes))) ≡ verdict es ss (length before) =
-    ap (λ (a : List ActiveAxis). carryOut (length before) (byBlock a)) (b .axes-are) ∙ sym (by-block es ss l (length before)) in
+    let e : carryOut (length before) (byBlock block) ≡ verdict es ss (length before) =
+    ap (λ (a : List ActiveAxis). carryOut (length before) (byBlock a)) b ∙ sym (by-block es ss l (length before)) in
     subst (λ (o : Outcome Judged). JudgedAs o before after r) e j

@@ -6,8 +6,10 @@ use mathlib.Core.List.{List, [], _∷_}
 use Prim.Native.Nat.{ℕ, _*_, _^_, _≤_, _<_}
 use native.Mathlib.Omega.{arith}
 use lib.Dec.{ltb}
-use lib.ListN.{length, length-append}
+use lib.ListN.{length, take, length-append}
+use lib.Seq.{length-take-le}
 use borrow.Author.Tests.{ltb-true, ltb-false}
+use Rattle.lists.specs.Table.{table}
 use Rattle.lists.proofs.TableLaws.{length-table}
 use Rattle.integer.specs.Range.{mostUnsigned}
 use Rattle.specification.specs.Tests.{sortBy}
@@ -24,10 +26,10 @@ use Rattle.specification.proofs.NormalLaws.{full-pos}
 use Rattle.specification.proofs.PlanCases.{ToBlock}
 use Rattle.specification.proofs.Sorting.{Each, EachTwo, each-two-implies, perm-length, perm-each, perm-each-two, sort-perm, sort-sorted}
 use Rattle.search.specs.Block.{Ascending}
-use Rattle.injectivity.specs.Axes.{axisAt, axesIn}
-use Rattle.injectivity.specs.Block.{WithinWords, Interleaved, Judgeable, BlockOf}
-use Rattle.injectivity.specs.declared.axes.ActiveAxes.{ActiveAxes}
+use Rattle.injectivity.specs.Axes.{axisFrom, axesFrom, blockFrom}
+use Rattle.injectivity.specs.Block.{WithinWords, Interleaved, Judgeable}
 use Rattle.injectivity.specs.declared.block.InterleavedBlock.{InterleavedBlock}
+use Rattle.injectivity.proofs.AxesLaws.{front-axes}
 use Rattle.injectivity.proofs.CoverLaws.{span-append}
 use Rattle.injectivity.proofs.InputsLaws.{in-range}
 use Rattle.injectivity.proofs.JudgeLaws.{Sided, span-perm, sides-of-each}
@@ -89,8 +91,8 @@ module _ (axes : List Axis) (t : ToBlock axes) where
   sorted-length : length (inOrder axes) ≤ length axes
   sorted-length = omega (arith, perm-length perm, active-length 0 axes)
 
-  pub sorted-few : (list : ActiveAxes) → axesIn list ≡ inOrder axes → length axes ≤ 16 → list .count ≤ 16
-  sorted-few list e h = omega (arith, length-table (axisAt list) (list .count), ap (λ (l : List ActiveAxis). length l) e, sorted-length)
+  pub sorted-few : (f : ℕ → ActiveAxis) (count : ℕ) → table count f ≡ inOrder axes → length axes ≤ 16 → count ≤ 16
+  sorted-few f count e h = omega (arith, length-table f count, ap (λ (l : List ActiveAxis). length l) e, sorted-length)
 
   -- ---- its block
 
@@ -124,23 +126,38 @@ module _ (axes : List Axis) (t : ToBlock axes) where
         omega (arith, span-append (blockOf axes) (w .0), ap spanSum (w .1), spans-low),
       )
 
-  judgeable : (block : InterleavedBlock) → Interleaved (inOrder axes) block → length axes ≤ 16 → Judgeable block
-  unfolding blockOf
-  judgeable block i h =
-      let e : axesIn (block .axes) ≡ blockOf axes = i .axes-are in
-      let n : block .axes .count ≡ length (blockOf axes) = sym (length-table (axisAt (block .axes)) (block .axes .count)) ∙ ap (λ (l : List ActiveAxis). length l) e in
-      record {
-        searchable = record {
-          few = omega (arith, n, block-front .0);
-          numbered = rw e block-numbered;
-          sides = rw e (sides-of-each (blockOf axes) block-sided);
-          fits = rw e (block-front .1);
-        };
-        not-one = λ q. not-one (sym n ∙ q);
-        total-is = i .total-is;
-        span-is = i .span-is;
-      }
+  -- the block, handed on as the fronts of three arrays
+  module _ (count : ℕ) (ns es ss : List ℕ) (e : axesFrom count ns es ss ≡ inOrder axes) (block : InterleavedBlock) (i : Interleaved count ns es ss block)
+      (h : length ns ≡ 16) (k : length es ≡ 16) (m : length ss ≡ 16) (few : length axes ≤ 16) where
+    abbrev len : ℕ
+    len = block .len
 
-  pub block-of : (block : InterleavedBlock) → Interleaved (inOrder axes) block → length axes ≤ 16 → BlockOf axes block
-  unfolding blockOf
-  block-of block i h = record { axes-are = i .axes-are; judgeable = judgeable block i h }
+    pub in-16 : len ≤ 16
+    in-16 = omega (arith, i .to, sorted-few (axisFrom ns es ss) count e few)
+
+    pub front-length : length (take len ns) ≡ len
+    front-length = length-take-le len ns (omega (arith, in-16))
+
+    front-is : blockFrom (take len ns) (take len es) (take len ss) ≡ axesFrom len ns es ss
+    front-is = rw front-length (front-axes len ns es ss)
+
+    pub block-is : blockFrom (take len ns) (take len es) (take len ss) ≡ blockOf axes
+    unfolding blockOf
+    block-is = front-is ∙ i .axes-are ∙ ap (upToLast 0) e
+
+    pub judgeable : Judgeable (take len ns) (take len es) (take len ss) (block .total) (block .span)
+    judgeable =
+        let n : len ≡ length (blockOf axes) = sym front-length ∙ sym (length-table (axisFrom (take len ns) (take len es) (take len ss)) (length (take len ns))) ∙ ap (λ (l : List ActiveAxis). length l) block-is in
+        record {
+          searchable = record {
+            extents-all = length-take-le len es (omega (arith, in-16)) ∙ sym front-length;
+            strides-all = length-take-le len ss (omega (arith, in-16)) ∙ sym front-length;
+            few = omega (arith, front-length, in-16);
+            numbered = rw block-is block-numbered;
+            sides = rw block-is (sides-of-each (blockOf axes) block-sided);
+            fits = rw block-is (block-front .1);
+          };
+          not-one = λ q. not-one (sym n ∙ sym front-length ∙ q);
+          total-is = i .total-is ∙ ap total (sym front-is);
+          span-is = i .span-is ∙ ap spanSum (sym front-is);
+        }

@@ -2,7 +2,7 @@
 use mathlib.Core.Path.{_≡_, refl, _∙_}
 use mathlib.Core.Logic.{_≢_}
 use mathlib.Core.List.{List, [], _∷_}
-use Prim.Native.Nat.{_-_, _≤_, _<_}
+use Prim.Native.Nat.{ℕ, _-_, _≤_, _<_}
 use native.Mathlib.Omega.{arith}
 use lib.ListN.{length}
 use borrow.Author.Tests.{lt-ltb, le-ltb, le-leb, lt-leb}
@@ -11,9 +11,8 @@ use Rattle.specification.specs.Tests.{sortBy}
 use Rattle.specification.specs.Search.{ActiveAxis, total, spanSum}
 use Rattle.specification.specs.Verdict.{answered, Distinct, Repeated, Undecided, enumerated, pastSearch, longer, byMany, bySize, byBlock}
 use Rattle.specification.proofs.Digits.{product-positive}
-use Rattle.injectivity.specs.Axes.{axisAt, axesIn}
+use Rattle.injectivity.specs.Axes.{axisFrom, blockFrom}
 use Rattle.injectivity.specs.Block.{Judgeable}
-use Rattle.injectivity.specs.declared.block.InterleavedBlock.{InterleavedBlock}
 use Rattle.injectivity.proofs.JudgeLaws.{lengths-positive}
 
 none-planned : (l : List ActiveAxis) → length l ≡ 0 → answered Distinct 0 ≡ byBlock l
@@ -38,31 +37,31 @@ many-planned (a ∷ []) h = absurd (omega arith)
 many-planned (a ∷ b ∷ []) h = absurd (omega arith)
 many-planned (a ∷ b ∷ c ∷ more) h = refl
 
-module _ (block : InterleavedBlock) (j : Judgeable block) where
-  count-is : length (axesIn (block .axes)) ≡ block .axes .count
-  count-is = length-table (axisAt (block .axes)) (block .axes .count)
+module _ (axes es ss : List ℕ) (product span : ℕ) (j : Judgeable axes es ss product span) where
+  count-is : length (blockFrom axes es ss) ≡ length axes
+  count-is = length-table (axisFrom axes es ss) (length axes)
 
-  pub total-above : 0 < block .total
-  total-above = omega (arith, j .total-is, product-positive (lengths-positive (axesIn (block .axes)) (j .searchable .sides)))
+  pub total-above : 0 < product
+  total-above = omega (arith, j .total-is, product-positive (lengths-positive (blockFrom axes es ss) (j .searchable .sides)))
 
-  pub no-block : block .axes .count ≡ 0 → answered Distinct 0 ≡ byBlock (axesIn (block .axes))
-  no-block e = none-planned (axesIn (block .axes)) (count-is ∙ e)
+  pub no-block : length axes ≡ 0 → answered Distinct 0 ≡ byBlock (blockFrom axes es ss)
+  no-block e = none-planned (blockFrom axes es ss) (count-is ∙ e)
 
-  module _ (h : block .axes .count ≢ 0) where
-    pub crowded : block .span < block .total - 1 → answered Repeated 0 ≡ byBlock (axesIn (block .axes))
-    crowded k = crowd-planned (axesIn (block .axes)) (omega (arith, count-is)) (omega (arith, j .total-is, j .span-is))
+  module _ (h : length axes ≢ 0) where
+    pub crowded : span < product - 1 → answered Repeated 0 ≡ byBlock (blockFrom axes es ss)
+    crowded k = crowd-planned (blockFrom axes es ss) (omega (arith, count-is)) (omega (arith, j .total-is, j .span-is))
 
-    module _ (k : block .total - 1 ≤ block .span) where
-      pub sized : bySize (axesIn (block .axes)) ≡ byBlock (axesIn (block .axes))
-      sized = size-planned (axesIn (block .axes)) (omega (arith, count-is)) (omega (arith, j .total-is, j .span-is))
+    module _ (k : product - 1 ≤ span) where
+      pub sized : bySize (blockFrom axes es ss) ≡ byBlock (blockFrom axes es ss)
+      sized = size-planned (blockFrom axes es ss) (omega (arith, count-is)) (omega (arith, j .total-is, j .span-is))
 
-      pub many : block .axes .count ≢ 2 → byMany (axesIn (block .axes)) (sortBy longer (axesIn (block .axes))) ≡ byBlock (axesIn (block .axes))
-      many n = many-planned (axesIn (block .axes)) (omega (arith, count-is, j .not-one)) ∙ sized
+      pub many : length axes ≢ 2 → byMany (blockFrom axes es ss) (sortBy longer (blockFrom axes es ss)) ≡ byBlock (blockFrom axes es ss)
+      many n = many-planned (blockFrom axes es ss) (omega (arith, count-is, j .not-one)) ∙ sized
 
-  pub enumerable : block .total ≤ 16777216 → enumerated (axesIn (block .axes)) ≡ pastSearch (axesIn (block .axes))
+  pub enumerable : product ≤ 16777216 → enumerated (blockFrom axes es ss) ≡ pastSearch (blockFrom axes es ss)
   unfolding pastSearch
-  enumerable h = rw (le-leb (total (axesIn (block .axes))) 16777216 (omega (arith, j .total-is)))
+  enumerable h = rw (le-leb (total (blockFrom axes es ss)) 16777216 (omega (arith, j .total-is)))
 
-  pub past-both : 16777216 < block .total → answered Undecided 0 ≡ pastSearch (axesIn (block .axes))
+  pub past-both : 16777216 < product → answered Undecided 0 ≡ pastSearch (blockFrom axes es ss)
   unfolding pastSearch
-  past-both h = rw (lt-leb (total (axesIn (block .axes))) 16777216 (omega (arith, j .total-is)))
+  past-both h = rw (lt-leb (total (blockFrom axes es ss)) 16777216 (omega (arith, j .total-is)))

@@ -1,17 +1,15 @@
-// Steps 3 to 6 on a block.
+// Steps 3 to 6 on a block, in three lent lists: the number, the extent and the absolute stride of each axis.
 ghost use mathlib.Core.Path.{_≡_};
 ghost use Prim.Native.Nat.{_<_};
 ghost use lib.ListN.{length};
 ghost use Rattle.specification.specs.Tests.{if_then_else_, sortBy};
 ghost use Rattle.specification.specs.Verdict.{answered, Distinct, Repeated, enumerated, longer, pastSearch, byMany, byBlock, bySize, carryOut};
 ghost use Rattle.search.specs.Block.{planOf};
-ghost use Rattle.injectivity.specs.Axes.{axesIn};
+ghost use Rattle.injectivity.specs.Axes.{blockFrom};
 ghost use Rattle.injectivity.specs.Block.{Searchable, Judgeable};
 ghost use Rattle.injectivity.specs.Judgement.{JudgedAs};
 use crate::Judgement;
-use crate::axes::ActiveAxes;
-use crate::axes::sorted_by_axis;
-use crate::block::InterleavedBlock;
+use crate::axes::sort_by_axis;
 use enumeration::Answer;
 use enumeration::enumerate;
 use search::Searched;
@@ -23,46 +21,46 @@ use view::layout::Refusal;
 const EXACT_BLOCK_BUDGET: u64 = 16777216;
 
 // Step 4.
-fn two_axes_are_apart(axes: ActiveAxes) -> bool
-    requires { ⌜ Searchable axes × (axes .count ≡ 2) ⌝ }
-    ensures { λ r. ⌜ bySize (axesIn axes) ≡ (if r then answered Distinct 0 else answered Repeated 0) ⌝ }
+fn two_axes_are_apart(axes: &[usize], extents: &[u64], strides: &[u64]) -> bool
+    requires { ⌜ Searchable (now axes) (now extents) (now strides) × (length (now axes) ≡ 2) ⌝ }
+    ensures { λ r. ⌜ bySize (blockFrom (now (axes .entry)) (now (extents .entry)) (now (strides .entry))) ≡ (if r then answered Distinct 0 else answered Repeated 0) ⌝ }
 {
-    two_axis_block_is_injective(
-        axes.extents[0],
-        axes.strides[0],
-        axes.extents[1],
-        axes.strides[1],
-    )
+    two_axis_block_is_injective(extents[0], strides[0], extents[1], strides[1])
 }
 
 // Step 5, on the axes in axis order.
-fn block_differences_avoid_zero(axes: ActiveAxes) -> Searched
-    requires { ⌜ Searchable axes × (1 < axes .count) ⌝ }
-    ensures { λ r. ⌜ planOf r (pastSearch (axesIn axes)) ≡ byMany (axesIn axes) (sortBy longer (axesIn axes)) ⌝ }
+fn block_differences_avoid_zero(axes: &[usize], extents: &[u64], strides: &[u64]) -> Searched
+    requires { ⌜ Searchable (now axes) (now extents) (now strides) × (1 < length (now axes)) ⌝ }
+    ensures { λ r. ⌜ planOf r (pastSearch (blockFrom (now (axes .entry)) (now (extents .entry)) (now (strides .entry)))) ≡ byMany (blockFrom (now (axes .entry)) (now (extents .entry)) (now (strides .entry))) (sortBy longer (blockFrom (now (axes .entry)) (now (extents .entry)) (now (strides .entry)))) ⌝ }
 {
-    let ordered = sorted_by_axis(axes);
-    let count = ordered.count;
-    let extents = ordered.extents;
-    let strides = ordered.strides;
-    search_block(&extents[..count], &strides[..count])
+    let count = axes.len();
+    let mut ordered_axes = [0usize; 16];
+    let mut ordered_extents = [0u64; 16];
+    let mut ordered_strides = [0u64; 16];
+    sort_by_axis(
+        axes,
+        extents,
+        strides,
+        &mut ordered_axes,
+        &mut ordered_extents,
+        &mut ordered_strides,
+    );
+    search_block(&ordered_extents[..count], &ordered_strides[..count])
 }
 
 // Step 6 within its budget, on the axes in the order of sorting.
-fn block_offsets_unique(block: InterleavedBlock, scratch: &mut [u64]) -> Judgement
-    requires { ⌜ Judgeable block ⌝ }
-    ensures { λ r. ⌜ JudgedAs (carryOut (length (now (scratch .entry))) (enumerated (axesIn (block .axes)))) (now (scratch .entry)) (now (scratch .exit)) r ⌝ }
+fn block_offsets_unique(
+    axes: &[usize],
+    extents: &[u64],
+    strides: &[u64],
+    total: u64,
+    span: u64,
+    scratch: &mut [u64],
+) -> Judgement
+    requires { ⌜ Judgeable (now axes) (now extents) (now strides) total span ⌝ }
+    ensures { λ r. ⌜ JudgedAs (carryOut (length (now (scratch .entry))) (enumerated (blockFrom (now (axes .entry)) (now (extents .entry)) (now (strides .entry))))) (now (scratch .entry)) (now (scratch .exit)) r ⌝ }
 {
-    let axes = block.axes;
-    let count = axes.count;
-    let extents = axes.extents;
-    let strides = axes.strides;
-    let answer = enumerate(
-        &extents[..count],
-        &strides[..count],
-        block.total,
-        block.span,
-        scratch,
-    );
+    let answer = enumerate(extents, strides, total, span, scratch);
     match answer {
         Answer::Distinct => Judgement::Distinct(0),
         Answer::Repeated => Judgement::Repeated(0),
@@ -71,49 +69,68 @@ fn block_offsets_unique(block: InterleavedBlock, scratch: &mut [u64]) -> Judgeme
 }
 
 // Past the budget of step 5.
-fn judge_past_search(block: InterleavedBlock, scratch: &mut [u64]) -> Judgement
-    requires { ⌜ Judgeable block ⌝ }
-    ensures { λ r. ⌜ JudgedAs (carryOut (length (now (scratch .entry))) (pastSearch (axesIn (block .axes)))) (now (scratch .entry)) (now (scratch .exit)) r ⌝ }
+fn judge_past_search(
+    axes: &[usize],
+    extents: &[u64],
+    strides: &[u64],
+    total: u64,
+    span: u64,
+    scratch: &mut [u64],
+) -> Judgement
+    requires { ⌜ Judgeable (now axes) (now extents) (now strides) total span ⌝ }
+    ensures { λ r. ⌜ JudgedAs (carryOut (length (now (scratch .entry))) (pastSearch (blockFrom (now (axes .entry)) (now (extents .entry)) (now (strides .entry))))) (now (scratch .entry)) (now (scratch .exit)) r ⌝ }
 {
-    if block.total <= EXACT_BLOCK_BUDGET {
-        block_offsets_unique(block, scratch)
+    if total <= EXACT_BLOCK_BUDGET {
+        block_offsets_unique(axes, extents, strides, total, span, scratch)
     } else {
         Judgement::Undecided
     }
 }
 
 // Steps 5 and 6.
-fn judge_many(block: InterleavedBlock, scratch: &mut [u64]) -> Judgement
-    requires { ⌜ Judgeable block × (1 < block .axes .count) ⌝ }
-    ensures { λ r. ⌜ JudgedAs (carryOut (length (now (scratch .entry))) (byMany (axesIn (block .axes)) (sortBy longer (axesIn (block .axes))))) (now (scratch .entry)) (now (scratch .exit)) r ⌝ }
+fn judge_many(
+    axes: &[usize],
+    extents: &[u64],
+    strides: &[u64],
+    total: u64,
+    span: u64,
+    scratch: &mut [u64],
+) -> Judgement
+    requires { ⌜ Judgeable (now axes) (now extents) (now strides) total span × (1 < length (now axes)) ⌝ }
+    ensures { λ r. ⌜ JudgedAs (carryOut (length (now (scratch .entry))) (byMany (blockFrom (now (axes .entry)) (now (extents .entry)) (now (strides .entry))) (sortBy longer (blockFrom (now (axes .entry)) (now (extents .entry)) (now (strides .entry)))))) (now (scratch .entry)) (now (scratch .exit)) r ⌝ }
 {
-    let axes = block.axes;
-    let found = block_differences_avoid_zero(axes);
+    let found = block_differences_avoid_zero(axes, extents, strides);
     match found {
         Searched::Repeated(count) => Judgement::Repeated(count),
         Searched::Distinct(count) => Judgement::Distinct(count),
-        Searched::PastBudget => judge_past_search(block, scratch),
+        Searched::PastBudget => { judge_past_search(axes, extents, strides, total, span, scratch) }
     }
 }
 
-// The block judged: none is Distinct, a crowded one is Repeated, two axes are step 4.
-pub fn judge_block(block: InterleavedBlock, scratch: &mut [u64]) -> Judgement
-    requires { ⌜ Judgeable block ⌝ }
-    ensures { λ r. ⌜ JudgedAs (carryOut (length (now (scratch .entry))) (byBlock (axesIn (block .axes)))) (now (scratch .entry)) (now (scratch .exit)) r ⌝ }
+// The block judged: none is Distinct, two axes are step 4. Sums go from 0 to the span: more positions than that are crowded,
+// and some two of them share one.
+pub fn judge_block(
+    axes: &[usize],
+    extents: &[u64],
+    strides: &[u64],
+    total: u64,
+    span: u64,
+    scratch: &mut [u64],
+) -> Judgement
+    requires { ⌜ Judgeable (now axes) (now extents) (now strides) total span ⌝ }
+    ensures { λ r. ⌜ JudgedAs (carryOut (length (now (scratch .entry))) (byBlock (blockFrom (now (axes .entry)) (now (extents .entry)) (now (strides .entry))))) (now (scratch .entry)) (now (scratch .exit)) r ⌝ }
 {
-    let axes = block.axes;
-    let count = axes.count;
-    if count == 0 {
+    if axes.len() == 0 {
         return Judgement::Distinct(0);
     }
-    if !block.may_be_injective() {
+    if span < total - 1 {
         return Judgement::Repeated(0);
     }
-    if count == 2 {
-        if two_axes_are_apart(axes) {
+    if axes.len() == 2 {
+        if two_axes_are_apart(axes, extents, strides) {
             return Judgement::Distinct(0);
         }
         return Judgement::Repeated(0);
     }
-    judge_many(block, scratch)
+    judge_many(axes, extents, strides, total, span, scratch)
 }

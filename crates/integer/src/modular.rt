@@ -50,13 +50,16 @@ fn by_doubling(x: u64, y: u64, m: u64) -> u64
     sum
 }
 
-// x * y modulo m. Below 2^32 the product itself fits a word.
+// x * y modulo m. Below 2^32 the product itself fits a word; else the smaller factor is the one whose bits are doubled for.
 pub fn mul_mod(x: u64, y: u64, m: u64) -> u64
     requires { ⌜ (x < m) × (y < m) ⌝ }
     ensures { λ r. ⌜ r ≡ x * y % m ⌝ }
 {
     if m <= 0x1_0000_0000 {
         return x * y % m;
+    }
+    if x < y {
+        return by_doubling(y, x, m);
     }
     by_doubling(x, y, m)
 }

@@ -4,6 +4,7 @@ ghost use mathlib.Core.Path.{_≡_};
 ghost use mathlib.Core.List.{[], _∷_};
 ghost use Prim.Native.Nat.{_+_, _<_};
 ghost use lib.ListN.{length};
+ghost use Rattle.integer.specs.Gcd.{gcd};
 ghost use Rattle.specification.specs.Search.{twoDistinct};
 ghost use Rattle.specification.proofs.Digits.{PositiveExtents};
 ghost use Rattle.walk.specs.Walk.{Small, axisWith, axesWith};
@@ -29,17 +30,25 @@ enum Half {
     Past,
 }
 
-// Step 4: whether two axes of extents d1, d2 and strides s1, s2 tell their index pairs apart. A collision is a difference
-// of at least s2/g of the one and of s1/g of the other, and takes both.
+// Step 4 with the greatest common divisor g of the strides: whether two axes of extents d1, d2 and strides s1, s2 tell their
+// index pairs apart. A collision is a difference of at least s2/g of the one and of s1/g of the other, and takes both.
+fn apart_by_quotients(d1: u64, s1: u64, d2: u64, s2: u64, g: u64) -> bool
+    requires { ⌜ (0 < s1) × (g ≡ gcd s1 s2) ⌝ }
+    ensures { λ r. ⌜ r ≡ twoDistinct (axisWith d1 s1) (axisWith d2 s2) ⌝ }
+{
+    if d1 <= s2 / g {
+        return true;
+    }
+    d2 <= s1 / g
+}
+
+// Step 4.
 pub fn two_axis_block_is_injective(d1: u64, s1: u64, d2: u64, s2: u64) -> bool
     requires { ⌜ (0 < s1) × (0 < s2) ⌝ }
     ensures { λ r. ⌜ r ≡ twoDistinct (axisWith d1 s1) (axisWith d2 s2) ⌝ }
 {
     let g = integer::gcd(s1, s2);
-    if d1 <= s2 / g {
-        return true;
-    }
-    d2 <= s1 / g
+    apart_by_quotients(d1, s1, d2, s2, g)
 }
 
 // Whether half is within the budget. It stops at the first product above: the box itself can pass a word.
@@ -69,10 +78,11 @@ fn search_two(d1: u64, s1: u64, d2: u64, s2: u64, extents: &[u64], strides: &[u6
     let Half::Within(half) = half_within(extents) else {
         return Searched::PastBudget;
     };
-    if !two_axis_block_is_injective(d1, s1, d2, s2) {
+    let g = integer::gcd(s1, s2);
+    if !apart_by_quotients(d1, s1, d2, s2, g) {
         return Searched::Repeated(0);
     }
-    let two = set_up::couple(d1, s1, d2, s2);
+    let two = set_up::couple(d1, s1, d2, s2, g);
     let end = set_up::walk_others(two, half, extents, strides);
     let count = end.count;
     if end.found {

@@ -47,12 +47,12 @@ fn in_order(d1: u64, s1: u64, d2: u64, s2: u64) -> walk::TwoAxes
     }
 }
 
-// The two axes set up for the walk, solved for one of them; they do not collide by themselves.
-pub fn couple(d1: u64, s1: u64, d2: u64, s2: u64) -> walk::TwoAxes
-    requires { ⌜ Side d1 s1 × Side d2 s2 × (twoDistinct (axisWith d1 s1) (axisWith d2 s2) ≡ true) ⌝ }
+// The two axes set up for the walk, solved for one of them; they do not collide by themselves, and g is the greatest common
+// divisor of their strides.
+pub fn couple(d1: u64, s1: u64, d2: u64, s2: u64, g: u64) -> walk::TwoAxes
+    requires { ⌜ Side d1 s1 × Side d2 s2 × (twoDistinct (axisWith d1 s1) (axisWith d2 s2) ≡ true) × (g ≡ gcd s1 s2) ⌝ }
     ensures { λ r. ⌜ Ready r × (SetFor (axisWith d1 s1) (axisWith d2 s2) r ⊎ SetFor (axisWith d2 s2) (axisWith d1 s1) r) ⌝ }
 {
-    let g = integer::gcd(s1, s2);
     let s2g = s2 / g;
     let s1g = s1 / g;
     if solves_first(d1, s2g, d2, s1g) {

@@ -22,39 +22,42 @@ returns c =
     let u = subst (Budget (s .args .extents .now)) (c .enum-told .given .1) (c .before .before .half-within .ensures) in
     past-budget _ _ _ _ (s .pre .one-length) (blocked-positive _ _ _ (s .pre)) u
 
-two-axis-block-is-injective-requires : tie.Need-two-axis-block-is-injective-requires
-two-axis-block-is-injective-requires c κs = search needs
+gcd-requires : tie.Need-gcd-requires
+gcd-requires c κs = search needs
+
+apart-by-quotients-requires : tie.Need-apart-by-quotients-requires
+apart-by-quotients-requires c κs = search needs
 
 returns-2 : tie.Need-returns-2
 returns-2 c =
-    let s = c .before .before .before .before .before .before .before .before in
-    let u = subst (Budget (s .args .extents .now)) (c .before .before .before .half .given .1) (c .before .before .before .before .before .half-within .ensures) in
-    two-collide _ _ _ _ (s .pre .one-length) (blocked-positive _ _ _ (s .pre)) _ u (sym (c .before .two-axis-block-is-injective .ensures) ∙ not-true _ (c .if1 .taken))
+    let s = c .before .before .before .before .before .before .before .before .before in
+    let u = subst (Budget (s .args .extents .now)) (c .before .before .before .before .half .given .1) (c .before .before .before .before .before .before .half-within .ensures) in
+    two-collide _ _ _ _ (s .pre .one-length) (blocked-positive _ _ _ (s .pre)) _ u (sym (c .before .apart-by-quotients .ensures) ∙ not-true _ (c .if1 .taken))
 
 couple-requires : tie.Need-couple-requires
 couple-requires c κs =
-    let p = c .before .before .before .before .before .before .before .before .pre in
-    (p .sides .1 .0, p .sides .0, sym (c .before .two-axis-block-is-injective .ensures) ∙ not-false _ (c .if1 .left))
+    let p = c .before .before .before .before .before .before .before .before .before .pre in
+    (p .sides .1 .0, p .sides .0, sym (c .before .apart-by-quotients .ensures) ∙ not-false _ (c .if1 .left), c .before .before .gcd .ensures)
 
 walk-others-requires : tie.Need-walk-others-requires
 walk-others-requires c κs =
-    let s = c .before .before .before .before .before .before .before .before .before in
-    let u = subst (Budget (s .args .extents .now)) (c .before .before .before .before .half .given .1) (c .before .before .before .before .before .before .half-within .ensures) in
+    let s = c .before .before .before .before .before .before .before .before .before .before in
+    let u = subst (Budget (s .args .extents .now)) (c .before .before .before .before .before .half .given .1) (c .before .before .before .before .before .before .before .half-within .ensures) in
     let t = c .couple .ensures in
     (t .0, room-of _ _ _ _ _ _ _ (s .pre) (t .1), half-right _ _ (s .pre .one-length) (blocked-positive _ _ _ (s .pre)) _ u, s .pre .rank)
 
 returns-3 : tie.Need-returns-3
 returns-3 c =
-    let s = c .before .before .before .before .before .before .before .before .before .before .before in
-    let u = subst (Budget (s .args .extents .now)) (c .before .before .before .before .before .before .half .given .1) (c .before .before .before .before .before .before .before .before .half-within .ensures) in
-    let m = sym (c .before .before .before .before .two-axis-block-is-injective .ensures) ∙ not-false _ (c .before .before .before .if1 .left) in
+    let s = c .before .before .before .before .before .before .before .before .before .before .before .before in
+    let u = subst (Budget (s .args .extents .now)) (c .before .before .before .before .before .before .before .half .given .1) (c .before .before .before .before .before .before .before .before .before .half-within .ensures) in
+    let m = sym (c .before .before .before .before .apart-by-quotients .ensures) ∙ not-false _ (c .before .before .before .if1 .left) in
     walk-found _ _ _ _ (s .pre .one-length) (blocked-positive _ _ _ (s .pre)) _ u (c .before .before .couple .result) (c .before .before .couple .ensures .1) (c .before .walk-others .result) (c .before .walk-others .ensures) m (c .if2 .taken)
 
 returns-4 : tie.Need-returns-4
 returns-4 c =
-    let s = c .before .before .before .before .before .before .before .before .before .before .before in
-    let u = subst (Budget (s .args .extents .now)) (c .before .before .before .before .before .before .half .given .1) (c .before .before .before .before .before .before .before .before .half-within .ensures) in
-    let m = sym (c .before .before .before .before .two-axis-block-is-injective .ensures) ∙ not-false _ (c .before .before .before .if1 .left) in
+    let s = c .before .before .before .before .before .before .before .before .before .before .before .before in
+    let u = subst (Budget (s .args .extents .now)) (c .before .before .before .before .before .before .before .half .given .1) (c .before .before .before .before .before .before .before .before .before .half-within .ensures) in
+    let m = sym (c .before .before .before .before .apart-by-quotients .ensures) ∙ not-false _ (c .before .before .before .if1 .left) in
     walk-ended _ _ _ _ (s .pre .one-length) (blocked-positive _ _ _ (s .pre)) _ u (c .before .before .couple .result) (c .before .before .couple .ensures .1) (c .before .walk-others .result) (c .before .walk-others .ensures) m (c .if2 .left)
 
 pub search-two-spec : {M : Type 1} → statement M
@@ -65,7 +68,8 @@ search-two-spec =
     enum-known-half
     enum-told
     returns
-    two-axis-block-is-injective-requires
+    gcd-requires
+    apart-by-quotients-requires
     returns-2
     couple-requires
     walk-others-requires

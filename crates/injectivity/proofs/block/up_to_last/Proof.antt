@@ -2,23 +2,24 @@
 use Prim.Native.Nat.{_+_, _*_, _-_, _^_, _<_}
 use native.Mathlib.Omega.{arith}
 use borrow.Author.Tests.{ltb-true, ltb-false}
-use Rattle.injectivity.specs.Axes.{axisAt}
+use Rattle.injectivity.specs.Axes.{axisFrom}
 use Rattle.injectivity.proofs.CoverLaws.{Covering, cover-none, cover-near, cover-far, cover-fits, cover-all}
 use borrow.Author.Needs.{needs}
 use Rattle.injectivity.proofs.block.up_to_last.Statement.{statement}
 use Rattle.injectivity.proofs.block.up_to_last.Tie as tie
 
 abbrev Inv-loop : tie.InvT-loop
-Inv-loop sorted len₀ total₀ span₀ covered-total₀ covered-span₀ i₀ len total span covered-total covered-span i =
-    Covering (axisAt sorted) (sorted .count) i len total span covered-total covered-span
+Inv-loop count axes extents strides len₀ total₀ span₀ covered-total₀ covered-span₀ i₀ len total span covered-total covered-span i =
+    Covering (axisFrom axes extents strides) count i len total span covered-total covered-span
 
 abbrev μ-loop : tie.MeasureT-loop
-μ-loop sorted len₀ total₀ span₀ covered-total₀ covered-span₀ i₀ len total span covered-total covered-span i =
-    sorted .count - i
+μ-loop count axes extents strides len₀ total₀ span₀ covered-total₀ covered-span₀ i₀ len total span covered-total covered-span i =
+    count - i
 
 -- a word holds what is covered with axis i
 fits : (c : tie.After-stride Inv-loop μ-loop) → let l = c .before .before .before .loop in
-    let a = axisAt (c .before .before .before .before .args .t1) (l .i) in
+    let s = c .before .before .before .before .args in
+    let a = axisFrom (s .axes .now) (s .extents .now) (s .strides .now) (l .i) in
     (0 < a .extent) × (l .covered-total * a .extent < 2 ^ 64) × (l .covered-span + (a .extent - 1) * a .stride < 2 ^ 64)
 fits c = let l = c .before .before .before in cover-fits (l .loop .inv) (omega arith) (l .before .pre .1)
 
@@ -70,7 +71,7 @@ loop-again-2 c = cover-near (c .before .before .before .before .loop .inv) (omeg
 returns : tie.Need-returns Inv-loop μ-loop
 returns c =
     let v = c .before .loop .inv in
-    record { axes-are = cover-all v (omega arith); total-is = v .total-is; span-is = v .span-is }
+    record { to = v .len-to; axes-are = cover-all v (omega arith); total-is = v .total-is; span-is = v .span-is }
 
 pub up-to-last-spec : {M : Type 1} → statement M
 up-to-last-spec =

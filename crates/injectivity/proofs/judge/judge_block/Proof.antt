@@ -3,7 +3,7 @@ use mathlib.Core.Path.{refl, sym, ap, _∙_}
 use mathlib.Core.Bool.{Bool}
 use mathlib.Core.Logic.{_≢_}
 use Prim.Native.Nat.{_-_, _≤_}
-use borrow.Author.Tests.{leb-true, leb-false, not-true, not-false}
+use lib.ListN.{length}
 use Rattle.specification.specs.Tests.{if_then_else_}
 use Rattle.specification.specs.Verdict.{answered, Distinct, Repeated}
 use Rattle.injectivity.proofs.JudgeLaws.{judged-answered, judged-plan}
@@ -15,27 +15,26 @@ use Rattle.injectivity.proofs.judge.judge_block.Tie as tie
 -- a block that is not crowded
 module _ (m : tie.Else2) where
   abbrev start : tie.Start
-  start = m .before .before .before .before .before
+  start = m .before .before .before .before .before .before
 
-  some-axes : start .args .block .axes .count ≢ 0
-  some-axes = m .before .before .if1 .left
+  some-axes : length (start .args .axes .now) ≢ 0
+  some-axes = m .before .if1 .left
 
-  roomy : start .args .block .total - 1 ≤ start .args .block .span
-  roomy = leb-true _ _ (sym (m .before .may-be-injective .ensures) ∙ not-false _ (m .if2 .left))
+  roomy : start .args .total - 1 ≤ start .args .span
+  roomy = m .if2 .left
 
 returns : tie.Need-returns
 returns c =
-    let s = c .before .before .before in
-    judged-answered _ _ (no-block (s .args .block) (s .pre) (c .if1 .taken)) refl
+    let s = c .before .before .before .before .before in
+    judged-answered _ _ (no-block (s .args .axes .now) (s .args .extents .now) (s .args .strides .now) _ _ (s .pre) (c .if1 .taken)) refl
 
-may-be-injective-requires : tie.Need-may-be-injective-requires
-may-be-injective-requires c κs = let s = c .before .before .before in total-above (s .args .block) (s .pre)
+sub-if2 : tie.Need-sub-if2
+sub-if2 c = let s = c .before .before .before .before .before in total-above (s .args .axes .now) (s .args .extents .now) (s .args .strides .now) _ _ (s .pre)
 
 returns-2 : tie.Need-returns-2
 returns-2 c =
-    let e = c .before .before in
-    let s = e .before .before .before in
-    judged-answered _ _ (crowded (s .args .block) (s .pre) (e .if1 .left) (leb-false _ _ (sym (c .before .may-be-injective .ensures) ∙ not-true _ (c .if2 .taken)))) refl
+    let s = c .before .before .before .before .before .before in
+    judged-answered _ _ (crowded (s .args .axes .now) (s .args .extents .now) (s .args .strides .now) _ _ (s .pre) (c .before .if1 .left) (c .if2 .taken)) refl
 
 two-axes-are-apart-requires : tie.Need-two-axes-are-apart-requires
 two-axes-are-apart-requires c κs = search needs
@@ -44,13 +43,13 @@ returns-3 : tie.Need-returns-3
 returns-3 c =
     let m = c .before .before .before in
     let s = start m in
-    judged-answered _ _ (sym (ap (λ (t : Bool). if t then answered Distinct 0 else answered Repeated 0) (c .if4 .taken)) ∙ sym (c .before .two-axes-are-apart .ensures) ∙ sized (s .args .block) (s .pre) (some-axes m) (roomy m)) refl
+    judged-answered _ _ (sym (ap (λ (t : Bool). if t then answered Distinct 0 else answered Repeated 0) (c .if4 .taken)) ∙ sym (c .before .two-axes-are-apart .ensures) ∙ sized (s .args .axes .now) (s .args .extents .now) (s .args .strides .now) _ _ (s .pre) (some-axes m) (roomy m)) refl
 
 returns-4 : tie.Need-returns-4
 returns-4 c =
     let m = c .before .before .before in
     let s = start m in
-    judged-answered _ _ (sym (ap (λ (t : Bool). if t then answered Distinct 0 else answered Repeated 0) (c .if4 .left)) ∙ sym (c .before .two-axes-are-apart .ensures) ∙ sized (s .args .block) (s .pre) (some-axes m) (roomy m)) refl
+    judged-answered _ _ (sym (ap (λ (t : Bool). if t then answered Distinct 0 else answered Repeated 0) (c .if4 .left)) ∙ sym (c .before .two-axes-are-apart .ensures) ∙ sized (s .args .axes .now) (s .args .extents .now) (s .args .strides .now) _ _ (s .pre) (some-axes m) (roomy m)) refl
 
 judge-many-requires : tie.Need-judge-many-requires
 judge-many-requires c κs = search needs
@@ -62,14 +61,14 @@ returns-5 : tie.Need-returns-5
 returns-5 c =
     let e = c .before .before .before .before in
     let s = start (e .before) in
-    judged-plan _ _ _ (many (s .args .block) (s .pre) (some-axes (e .before)) (roomy (e .before)) (e .if3 .left)) (c .before .before .judge-many .ensures)
+    judged-plan _ _ _ (many (s .args .axes .now) (s .args .extents .now) (s .args .strides .now) _ _ (s .pre) (some-axes (e .before)) (roomy (e .before)) (e .if3 .left)) (c .before .before .judge-many .ensures)
 
 pub judge-block-spec : {M : Type 1} → statement M
 judge-block-spec =
     tie.close
     (tie.spec
     returns
-    may-be-injective-requires
+    sub-if2
     returns-2
     two-axes-are-apart-requires
     returns-3

@@ -3,7 +3,7 @@ use mathlib.Core.Path.{refl, sym, ap, _∙_}
 use Rattle.specification.specs.Verdict.{pastSearch}
 use Rattle.search.specs.Block.{planOf}
 use Rattle.search.specs.declared.Searched.{Searched}
-use Rattle.injectivity.specs.Axes.{axesIn}
+use Rattle.injectivity.specs.Axes.{blockFrom}
 use Rattle.injectivity.proofs.JudgeLaws.{judged-answered, judged-plan}
 use borrow.Author.Needs.{needs}
 use Rattle.injectivity.proofs.judge.judge_many.Statement.{statement}
@@ -26,13 +26,13 @@ judge-past-search-requires c κs = search needs
 
 returns : tie.Need-returns
 returns c =
-    let s = c .before .before .before .before .before .before in
-    judged-answered _ _ (sym (ap (λ (r : Searched). planOf r (pastSearch (axesIn (s .args .block .axes)))) (c .before .found .given .1)) ∙ c .before .before .before .block-differences-avoid-zero .ensures) refl
+    let s = c .before .before .before .before .before .before .before .before .args in
+    judged-answered _ _ (sym (ap (λ (r : Searched). planOf r (pastSearch (blockFrom (s .axes .now) (s .extents .now) (s .strides .now)))) (c .before .found .given .1)) ∙ c .before .before .before .block-differences-avoid-zero .ensures) refl
 
 returns-2 : tie.Need-returns-2
 returns-2 c =
-    let s = c .before .before .before .before .before .before in
-    judged-answered _ _ (sym (ap (λ (r : Searched). planOf r (pastSearch (axesIn (s .args .block .axes)))) (c .before .found2 .given .1)) ∙ c .before .before .before .block-differences-avoid-zero .ensures) refl
+    let s = c .before .before .before .before .before .before .before .before .args in
+    judged-answered _ _ (sym (ap (λ (r : Searched). planOf r (pastSearch (blockFrom (s .axes .now) (s .extents .now) (s .strides .now)))) (c .before .found2 .given .1)) ∙ c .before .before .before .block-differences-avoid-zero .ensures) refl
 
 same-length : tie.Need-same-length
 same-length c = search needs
@@ -40,8 +40,8 @@ same-length c = search needs
 returns-3 : tie.Need-returns-3
 returns-3 c =
     let t = c .before .before .before .before in
-    let s = t .before .before .before .before .before in
-    judged-plan _ _ _ (sym (ap (λ (r : Searched). planOf r (pastSearch (axesIn (s .args .block .axes)))) (t .enum-told .given .1)) ∙ t .before .before .block-differences-avoid-zero .ensures) (c .before .before .judge-past-search .ensures)
+    let s = c .before .before .before .before .before .before .before .before .before .before .before .args in
+    judged-plan _ _ _ (sym (ap (λ (r : Searched). planOf r (pastSearch (blockFrom (s .axes .now) (s .extents .now) (s .strides .now)))) (t .enum-told .given .1)) ∙ t .before .before .block-differences-avoid-zero .ensures) (c .before .before .judge-past-search .ensures)
 
 pub judge-many-spec : {M : Type 1} → statement M
 judge-many-spec =

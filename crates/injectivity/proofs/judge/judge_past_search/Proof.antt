@@ -14,14 +14,14 @@ same-length c = search needs
 
 returns : tie.Need-returns
 returns c =
-    let s = c .before .before .before .before .before .before .before in
+    let s = c .before .before .before .before .before .before .before .before .before in
     let t = c .before .before .before .before in
-    judged-plan _ _ _ (enumerable (s .args .block) (s .pre) (t .if1 .taken)) (c .before .before .block-offsets-unique .ensures)
+    judged-plan _ _ _ (enumerable (s .args .axes .now) (s .args .extents .now) (s .args .strides .now) _ _ (s .pre) (t .if1 .taken)) (c .before .before .block-offsets-unique .ensures)
 
 returns-2 : tie.Need-returns-2
 returns-2 c =
-    let s = c .before .before .before in
-    judged-answered _ _ (past-both (s .args .block) (s .pre) (c .if1 .left)) refl
+    let s = c .before .before .before .before .before in
+    judged-answered _ _ (past-both (s .args .axes .now) (s .args .extents .now) (s .args .strides .now) _ _ (s .pre) (c .if1 .left)) refl
 
 pub judge-past-search-spec : {M : Type 1} → statement M
 judge-past-search-spec =
