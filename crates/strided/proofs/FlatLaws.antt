@@ -1,9 +1,9 @@
 -- A layout that was put into two buffers is the layout that they hold.
 use mathlib.Core.List.{List, _++_}
-use mathlib.Core.Path.{_≡_, refl, ap, _∙_}
+use mathlib.Core.Path.{_≡_, ap, _∙_}
 use Prim.Native.Nat.{ℕ}
 use lib.IntN.{ℤ}
-use lib.ListN.{length, take, drop}
+use lib.ListN.{length, drop}
 use lib.Seq.{take-at, drop-at}
 use Rattle.view.specs.Model.{modelOf, axesIn}
 use Rattle.view.specs.declared.layout.Layout.{Layout}

@@ -2,3 +2,6 @@ pub mod RoomLaws
 pub mod CopyLaws
 pub mod FlatLaws
 pub mod StepLaws
+pub mod CrossingLaws
+pub mod CallLaws
+pub mod DenseLaws

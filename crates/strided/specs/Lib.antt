@@ -1,1 +1,3 @@
 pub mod Flat
+pub mod Crossing
+pub mod Calls

@@ -2,7 +2,15 @@
 ghost use mathlib.Core.List.{_++_};
 ghost use mathlib.Core.Path.{_≡_};
 ghost use Prim.Native.Nat.{_≤_};
+ghost use lib.Dec.{leb};
 ghost use lib.ListN.{length, take, drop};
+ghost use Rattle.specification.specs.CheckIn.{checkIn};
+ghost use Rattle.specification.specs.Beside.{indexedOffset, indexOrder, colMajor, rowMajor};
+ghost use Rattle.view.specs.Dense.{denseOf};
+ghost use Rattle.view.specs.Indexed.{indexedOf};
+ghost use Rattle.strided.specs.Flat.{holdsView, modelOfFlat};
+ghost use Rattle.strided.specs.Crossing.{ifRoom, answerNumber};
+ghost use Rattle.strided.specs.Calls.{Located, OrderCrossed, denseInto, DenseCrossed, DenseTold};
 use crate::flat::holds_view;
 use crate::flat::layout_in;
 use crate::refusals::number_of;
@@ -23,7 +31,9 @@ pub extern "C" fn strided_validate_bounds(
     offset: i64,
     extents: &[u64],
     strides: &[i64],
-) -> u8 {
+) -> u8
+    ensures { λ r. ⌜ r ≡ answerNumber (checkIn len offset (now (extents .entry)) (now (strides .entry))) ⌝ }
+{
     let answer = validate_bounds(len, ReadingOffset(offset), extents, strides);
     number_of(answer)
 }
@@ -36,7 +46,9 @@ pub extern "C" fn strided_indexed_offset(
     index: &[u64],
     offset: &mut i64,
     values: &mut [u64],
-) -> u8 {
+) -> u8
+    ensures { λ r. ⌜ Located (ifRoom (holdsView (length (now (numbers .entry))) (length (now (steps .entry))) (length (now (values .entry)))) (indexedOffset (modelOfFlat (now (numbers .entry)) (now (steps .entry))) (now (index .entry)))) (now (offset .entry)) (now (values .entry)) (now (offset .exit)) (now (values .exit)) r ⌝ }
+{
     if !holds_view(numbers.len(), steps.len(), values.len()) {
         return 255;
     }
@@ -54,11 +66,9 @@ pub extern "C" fn strided_indexed_offset(
 
 // Each stride's number by absolute value.
 #[no_mangle]
-pub extern "C" fn strided_index_order(
-    strides: &[i64],
-    out: &mut [usize],
-    values: &mut [u64],
-) -> u8 {
+pub extern "C" fn strided_index_order(strides: &[i64], out: &mut [usize], values: &mut [u64]) -> u8
+    ensures { λ r. ⌜ OrderCrossed (ifRoom (leb 2 (length (now (values .entry)))) (indexOrder (now (strides .entry)) (length (now (out .entry))))) (now (out .entry)) (now (values .entry)) (now (out .exit)) (now (values .exit)) r ⌝ }
+{
     if values.len() < 2 {
         return 255;
     }
@@ -82,6 +92,7 @@ fn store_strides(from: [i64; 16], count: usize, strides: &mut [i64])
 // As many strides as there are extents into the first places; on a refusal its number.
 fn answer_dense(dense: Dense, count: usize, strides: &mut [i64]) -> u8
     requires { ⌜ (count ≤ 16) × (count ≤ length (now strides)) ⌝ }
+    ensures { λ r. ⌜ DenseTold dense count (now (strides .entry)) (now (strides .exit)) r ⌝ }
 {
     let answer = dense.answer;
     match answer {
@@ -96,7 +107,9 @@ fn answer_dense(dense: Dense, count: usize, strides: &mut [i64]) -> u8
 
 // Dense strides by column: the first axis is the densest.
 #[no_mangle]
-pub extern "C" fn strided_column_strides(extents: &[u64], strides: &mut [i64]) -> u8 {
+pub extern "C" fn strided_column_strides(extents: &[u64], strides: &mut [i64]) -> u8
+    ensures { λ r. ⌜ DenseCrossed (denseInto colMajor (now (extents .entry)) (length (now (strides .entry)))) (now (strides .entry)) (now (strides .exit)) r ⌝ }
+{
     if 16 < extents.len() {
         return 1;
     }
@@ -109,7 +122,9 @@ pub extern "C" fn strided_column_strides(extents: &[u64], strides: &mut [i64]) -
 
 // Dense strides by row: the last axis is the densest.
 #[no_mangle]
-pub extern "C" fn strided_row_strides(extents: &[u64], strides: &mut [i64]) -> u8 {
+pub extern "C" fn strided_row_strides(extents: &[u64], strides: &mut [i64]) -> u8
+    ensures { λ r. ⌜ DenseCrossed (denseInto rowMajor (now (extents .entry)) (length (now (strides .entry)))) (now (strides .entry)) (now (strides .exit)) r ⌝ }
+{
     if 16 < extents.len() {
         return 1;
     }

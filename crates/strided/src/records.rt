@@ -1,6 +1,12 @@
 // The record: written, read and stepped over.
+ghost use mathlib.Core.Path.{_≡_};
 ghost use Prim.Native.Nat.{_≤_};
 ghost use lib.ListN.{length};
+ghost use Rattle.specification.specs.Record.{written, readOf};
+ghost use Rattle.record.specs.Writer.{wroteOf};
+ghost use Rattle.strided.specs.Flat.{holdsView, modelOfFlat};
+ghost use Rattle.strided.specs.Crossing.{ifRoom};
+ghost use Rattle.strided.specs.Calls.{WroteAfter, RecordWritten, layoutRead, RecordRead, Behind};
 use crate::flat::holds_view;
 use crate::flat::layout_in;
 use crate::refusals::refuse;
@@ -13,6 +19,7 @@ use record::writer::write_record;
 // The bytes written in the first place, or the refusal.
 fn answer_wrote(wrote: Wrote, values: &mut [u64]) -> u8
     requires { ⌜ 2 ≤ length (now values) ⌝ }
+    ensures { λ r. ⌜ WroteAfter (wroteOf wrote) (now (values .entry)) (now (values .exit)) r ⌝ }
 {
     match wrote {
         Wrote::Upto(place) => {
@@ -31,7 +38,9 @@ pub extern "C" fn strided_write(
     out: &mut [u8],
     scratch: &mut [u64],
     values: &mut [u64],
-) -> u8 {
+) -> u8
+    ensures { λ r. ⌜ RecordWritten (ifRoom (holdsView (length (now (numbers .entry))) (length (now (steps .entry))) (length (now (values .entry)))) (written (modelOfFlat (now (numbers .entry)) (now (steps .entry))) (length (now (out .entry))) (length (now (scratch .entry))))) (now (out .entry)) (now (scratch .entry)) (now (values .entry)) (now (out .exit)) (now (scratch .exit)) (now (values .exit)) r ⌝ }
+{
     if !holds_view(numbers.len(), steps.len(), values.len()) {
         return 255;
     }
@@ -48,7 +57,9 @@ pub extern "C" fn strided_read(
     numbers: &mut [u64],
     steps: &mut [i64],
     values: &mut [u64],
-) -> u8 {
+) -> u8
+    ensures { λ r. ⌜ RecordRead (holdsView (length (now (numbers .entry))) (length (now (steps .entry))) (length (now (values .entry)))) (now (bytes .entry)) (now (scratch .entry)) (now (numbers .entry)) (now (steps .entry)) (now (values .entry)) (now (scratch .exit)) (now (numbers .exit)) (now (steps .exit)) (now (values .exit)) r ⌝ }
+{
     if !holds_view(numbers.len(), steps.len(), values.len()) {
         return 255;
     }
@@ -58,7 +69,9 @@ pub extern "C" fn strided_read(
 
 // Where the bytes behind the record at the front begin.
 #[no_mangle]
-pub extern "C" fn strided_step(bytes: &[u8]) -> usize {
+pub extern "C" fn strided_step(bytes: &[u8]) -> usize
+    ensures { λ r. ⌜ Behind (now (bytes .entry)) r ⌝ }
+{
     let rest = step_over(bytes);
     bytes.len() - rest.len()
 }

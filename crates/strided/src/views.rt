@@ -1,11 +1,16 @@
 // Check-in, the views and the normal form.
 ghost use Prim.Native.Nat.{_≤_};
 ghost use lib.ListN.{length};
+ghost use Rattle.specification.specs.CheckIn.{checkIn};
+ghost use Rattle.specification.specs.Normal.{normalForm};
+ghost use Rattle.specification.specs.Views.{permute, pairsOf, diagonalView, broadcast};
+ghost use Rattle.view.specs.Model.{viewedOf};
+ghost use Rattle.strided.specs.Flat.{modelOfFlat};
+ghost use Rattle.strided.specs.Crossing.{layoutOf, Crossed, CrossedWithValues, Viewing, Making};
 use crate::flat::holds_layout;
 use crate::flat::holds_view;
 use crate::flat::layout_in;
 use crate::flat::store_layout;
-use crate::refusals::number_of;
 use crate::refusals::refuse;
 use record::normal::normal_form;
 use view::layout::Answer;
@@ -16,6 +21,7 @@ use view::layout::Viewed;
 // The layout after a call into the buffers; on a refusal its number alone, and the buffers as they were.
 fn store_viewed(viewed: Viewed, numbers: &mut [u64], steps: &mut [i64]) -> u8
     requires { ⌜ (18 ≤ length (now numbers)) × (17 ≤ length (now steps)) ⌝ }
+    ensures { λ r. ⌜ Crossed (layoutOf (viewedOf viewed)) (now (numbers .entry)) (now (steps .entry)) (now (numbers .exit)) (now (steps .exit)) r ⌝ }
 {
     let answer = viewed.answer;
     match answer {
@@ -36,6 +42,7 @@ pub fn answer_viewed(
     values: &mut [u64],
 ) -> u8
     requires { ⌜ (18 ≤ length (now numbers)) × (17 ≤ length (now steps)) × (2 ≤ length (now values)) ⌝ }
+    ensures { λ r. ⌜ CrossedWithValues (layoutOf (viewedOf viewed)) (now (numbers .entry)) (now (steps .entry)) (now (values .entry)) (now (numbers .exit)) (now (steps .exit)) (now (values .exit)) r ⌝ }
 {
     let answer = viewed.answer;
     match answer {
@@ -57,7 +64,9 @@ pub extern "C" fn strided_new(
     offset: i64,
     extents: &[u64],
     strides: &[i64],
-) -> u8 {
+) -> u8
+    ensures { λ r. ⌜ Making (checkIn len offset (now (extents .entry)) (now (strides .entry))) (now (numbers .entry)) (now (steps .entry)) (now (numbers .exit)) (now (steps .exit)) r ⌝ }
+{
     if !holds_layout(numbers.len(), steps.len()) {
         return 255;
     }
@@ -72,7 +81,9 @@ pub extern "C" fn strided_permute(
     steps: &mut [i64],
     axes: &[usize],
     values: &mut [u64],
-) -> u8 {
+) -> u8
+    ensures { λ r. ⌜ Viewing (λ layout. permute layout (now (axes .entry))) (now (numbers .entry)) (now (steps .entry)) (now (values .entry)) (now (numbers .exit)) (now (steps .exit)) (now (values .exit)) r ⌝ }
+{
     if !holds_view(numbers.len(), steps.len(), values.len()) {
         return 255;
     }
@@ -88,7 +99,9 @@ pub extern "C" fn strided_diagonal_view(
     steps: &mut [i64],
     pairs: &[usize],
     values: &mut [u64],
-) -> u8 {
+) -> u8
+    ensures { λ r. ⌜ Viewing (λ layout. diagonalView layout (pairsOf (now (pairs .entry)))) (now (numbers .entry)) (now (steps .entry)) (now (values .entry)) (now (numbers .exit)) (now (steps .exit)) (now (values .exit)) r ⌝ }
+{
     if !holds_view(numbers.len(), steps.len(), values.len()) {
         return 255;
     }
@@ -104,7 +117,9 @@ pub extern "C" fn strided_broadcast(
     steps: &mut [i64],
     extents: &[u64],
     values: &mut [u64],
-) -> u8 {
+) -> u8
+    ensures { λ r. ⌜ Viewing (λ layout. broadcast layout (now (extents .entry))) (now (numbers .entry)) (now (steps .entry)) (now (values .entry)) (now (numbers .exit)) (now (steps .exit)) (now (values .exit)) r ⌝ }
+{
     if !holds_view(numbers.len(), steps.len(), values.len()) {
         return 255;
     }
@@ -115,7 +130,9 @@ pub extern "C" fn strided_broadcast(
 
 // The normal form, or refusal 1, 3 or 8.
 #[no_mangle]
-pub extern "C" fn strided_normal_form(numbers: &mut [u64], steps: &mut [i64]) -> u8 {
+pub extern "C" fn strided_normal_form(numbers: &mut [u64], steps: &mut [i64]) -> u8
+    ensures { λ r. ⌜ Making (normalForm (modelOfFlat (now (numbers .entry)) (now (steps .entry)))) (now (numbers .entry)) (now (steps .entry)) (now (numbers .exit)) (now (steps .exit)) r ⌝ }
+{
     if !holds_layout(numbers.len(), steps.len()) {
         return 255;
     }

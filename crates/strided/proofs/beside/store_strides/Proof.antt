@@ -1,19 +1,18 @@
+-- `store_strides` copies place by place; what is copied so far stands before what was there.
 use mathlib.Core.Path.{_≡_, refl, ap, _∙_}
+use mathlib.Core.List.{_++_}
 use Prim.Native.Nat.{ℕ, _-_, _≤_}
 use native.Mathlib.Nat.{zero-add}
 use native.Mathlib.Omega.{arith}
-use mathlib.Core.List.{_++_}
 use lib.ListN.{length, take, drop, length-set}
 use lib.Seq.{paste, paste-zero}
-use Rattle.strided.proofs.CopyLaws.{front-turn}
+use lib.IntN.{pos}
 use mir.Syntax.{w64}
 use mir.ValLaws.{toZ-ofZ}
-use lib.IntN.{pos}
 use borrow.Author.Needs.{needs}
+use Rattle.strided.proofs.CopyLaws.{front-turn}
 use Rattle.strided.proofs.beside.store_strides.Statement.{statement}
 use Rattle.strided.proofs.beside.store_strides.Tie as tie
-use Rattle.strided.proofs.beside.store_strides.Reads as reads
-use Rattle.strided.proofs.beside.store_strides.Lts as lts
 
 abbrev Inv-loop : tie.InvT-loop
 Inv-loop count strides₀ from i₀ strides i = (i ≤ count) × (length strides ≡ length strides₀) × (strides ≡ paste strides₀ 0 from i)
@@ -21,46 +20,36 @@ Inv-loop count strides₀ from i₀ strides i = (i ≤ count) × (length strides
 abbrev μ-loop : tie.MeasureT-loop
 μ-loop count strides₀ from i₀ strides i = count - i
 
--- src/beside.rt:69:5
 loop-holds : tie.Need-loop-holds Inv-loop μ-loop
 loop-holds c = (search needs, refl, paste-zero _ 0 (c .args .t1))
 
--- src/beside.rt:70:22
 mul-stride : tie.Need-mul-stride Inv-loop μ-loop
 mul-stride c = search needs
 
--- src/beside.rt:70:22
 array-copy-out-stride : tie.Need-array-copy-out-stride Inv-loop μ-loop
 array-copy-out-stride c = search needs
 
--- src/beside.rt:71:9
 mul-stride-2 : tie.Need-mul-stride-2 Inv-loop μ-loop
 mul-stride-2 c = search needs
 
--- src/beside.rt:71:9
 slice-set-from-stride : tie.Need-slice-set-from-stride Inv-loop μ-loop
 slice-set-from-stride c = search needs
 
--- src/beside.rt:72:9
 add-i : tie.Need-add-i Inv-loop μ-loop
 add-i c = search needs
 
--- src/beside.rt:69:5
 loop-less : tie.Need-loop-less Inv-loop μ-loop
 loop-less c = search needs
 
--- src/beside.rt:69:5
 loop-again : tie.Need-loop-again Inv-loop μ-loop
 loop-again c =
     let l = c .before .before .loop in
     let s = c .before .before .before in
     (search needs, length-set (l .strides) _ _ ∙ l .inv .1, rw (toZ-ofZ w64 _ (record { sfits = c .stride .given })) (front-turn (s .args .strides .now) (s .args .t1) (l .strides) (l .i) (pos 0) (omega arith) (search needs) (l .inv .2)))
 
--- src/beside.rt:64:1
 same-length : tie.Need-same-length Inv-loop μ-loop
 same-length c = search needs
 
--- src/beside.rt:64:1
 returns : tie.Need-returns Inv-loop μ-loop
 returns c =
     let l = c .before .loop in

@@ -1,15 +1,13 @@
-use mathlib.Core.Path.{refl}
-use borrow.Author.Needs.{needs}
-use mathlib.Core.Path.{_≡_, sym, ap, _∙_}
+-- `extents_in` copies 16 words from place 2 on.
+use mathlib.Core.Path.{refl, _≡_, ap, _∙_}
 use Prim.Native.Nat.{_-_, _≤_}
 use native.Mathlib.Omega.{arith}
-use lib.ListN.{length, drop, replicate}
-use lib.Seq.{paste, paste-zero, length-paste}
-use Rattle.strided.proofs.CopyLaws.{read-turn, store-turn, read-end, stored-one, stored-two}
+use lib.ListN.{drop, replicate}
+use lib.Seq.{paste}
+use borrow.Author.Needs.{needs}
+use Rattle.strided.proofs.CopyLaws.{read-turn, read-end}
 use Rattle.strided.proofs.flat.extents_in.Statement.{statement}
 use Rattle.strided.proofs.flat.extents_in.Tie as tie
-use Rattle.strided.proofs.flat.extents_in.Reads as reads
-use Rattle.strided.proofs.flat.extents_in.Lts as lts
 
 abbrev Inv-loop : tie.InvT-loop
 Inv-loop numbers extents₀ i₀ extents i = (i ≤ 16) × (extents ≡ paste extents₀ 0 (drop 2 numbers) i)
@@ -17,45 +15,35 @@ Inv-loop numbers extents₀ i₀ extents i = (i ≤ 16) × (extents ≡ paste ex
 abbrev μ-loop : tie.MeasureT-loop
 μ-loop numbers extents₀ i₀ extents i = 16 - i
 
--- src/flat.rt:38:5
 loop-holds : tie.Need-loop-holds Inv-loop μ-loop
 loop-holds c = search needs
 
--- src/flat.rt:39:30
 add-extents : tie.Need-add-extents Inv-loop μ-loop
 add-extents c = search needs
 
--- src/flat.rt:39:22
 mul-extents : tie.Need-mul-extents Inv-loop μ-loop
 mul-extents c = search needs
 
--- src/flat.rt:39:22
 shared-slice-read-extents : tie.Need-shared-slice-read-extents Inv-loop μ-loop
 shared-slice-read-extents c = search needs
 
--- src/flat.rt:39:9
 mul-extents-2 : tie.Need-mul-extents-2 Inv-loop μ-loop
 mul-extents-2 c = search needs
 
--- src/flat.rt:39:9
 array-write-extents : tie.Need-array-write-extents Inv-loop μ-loop
 array-write-extents c = search needs
 
--- src/flat.rt:40:9
 add-i : tie.Need-add-i Inv-loop μ-loop
 add-i c = search needs
 
--- src/flat.rt:38:5
 loop-less : tie.Need-loop-less Inv-loop μ-loop
 loop-less c = search needs
 
--- src/flat.rt:38:5
 loop-again : tie.Need-loop-again Inv-loop μ-loop
 loop-again c =
     let l = c .before .before .loop in
     (search needs, read-turn _ (c .before .before .before .args .numbers .now) (l .extents) 2 (l .i) 0 (search needs) (omega arith) (l .inv .1))
 
--- src/flat.rt:32:1
 returns : tie.Need-returns Inv-loop μ-loop
 returns c =
     let l = c .before .loop in

@@ -1,18 +1,14 @@
+-- `holds_layout`: both lengths, one after the other.
 use mathlib.Core.Bool.{Bool, _&&_}
 use mathlib.Core.Path.{sym, ap}
 use lib.Dec.{leb}
 use borrow.Author.Tests.{le-leb, lt-leb}
-use borrow.Author.Needs.{needs}
 use Rattle.strided.proofs.flat.holds_layout.Statement.{statement}
 use Rattle.strided.proofs.flat.holds_layout.Tie as tie
-use Rattle.strided.proofs.flat.holds_layout.Reads as reads
-use Rattle.strided.proofs.flat.holds_layout.Lts as lts
 
--- src/flat.rt:16:9
 returns : tie.Need-returns
 returns c = sym (ap (λ (t : Bool). t && leb 17 (c .before .args .steps)) (lt-leb 18 (c .before .args .numbers) (c .if1 .taken)))
 
--- src/flat.rt:12:1
 returns-2 : tie.Need-returns-2
 returns-2 c = sym (ap (λ (t : Bool). t && leb 17 (c .before .args .steps)) (le-leb 18 (c .before .args .numbers) (c .if1 .left)))
 

@@ -1,18 +1,14 @@
+-- `store_numbers`: two words, then the extents; what is behind them stays.
 use mathlib.Core.List.{List}
-use mathlib.Core.Path.{refl}
-use Prim.Native.Nat.{ℕ, _<_}
-use lib.ListN.{set, length-set}
-use borrow.Author.Needs.{needs}
-use mathlib.Core.Path.{_≡_, sym, ap, _∙_}
-use Prim.Native.Nat.{_-_, _≤_}
+use mathlib.Core.Path.{refl, _≡_, ap, _∙_}
+use Prim.Native.Nat.{ℕ, _<_, _-_, _≤_}
 use native.Mathlib.Omega.{arith}
-use lib.ListN.{length, drop}
-use lib.Seq.{paste, paste-zero, length-paste}
-use Rattle.strided.proofs.CopyLaws.{read-turn, store-turn, read-end, stored-one, stored-two}
+use lib.ListN.{set, length-set, length}
+use lib.Seq.{paste, paste-zero}
+use borrow.Author.Needs.{needs}
+use Rattle.strided.proofs.CopyLaws.{store-turn, stored-two}
 use Rattle.strided.proofs.flat.store_numbers.Statement.{statement}
 use Rattle.strided.proofs.flat.store_numbers.Tie as tie
-use Rattle.strided.proofs.flat.store_numbers.Reads as reads
-use Rattle.strided.proofs.flat.store_numbers.Lts as lts
 
 abbrev Inv-loop : tie.InvT-loop
 Inv-loop numbers₀ layout i₀ numbers i = (i ≤ 16) × (length numbers ≡ length numbers₀) × (numbers ≡ paste numbers₀ 2 (layout .extents) i)
@@ -33,7 +29,6 @@ long c = omega (arith, begun-length (c .before .before .before))
 slice-write-numbers : tie.Need-slice-write-numbers Inv-loop μ-loop
 slice-write-numbers c = search needs
 
--- src/flat.rt:81:5
 slice-write-numbers-2 : tie.Need-slice-write-numbers-2 Inv-loop μ-loop
 slice-write-numbers-2 c =
     let inside : 1 < length (set (c .args .numbers .now) 0 (c .args .t1 .len)) = omega (arith, length-set (c .args .numbers .now) 0 (c .args .t1 .len)) in
@@ -42,46 +37,36 @@ slice-write-numbers-2 c =
 loop-holds : tie.Need-loop-holds Inv-loop μ-loop
 loop-holds c = (search needs, refl, paste-zero _ 2 (c .args .t1 .extents))
 
--- src/flat.rt:84:22
 mul-extent : tie.Need-mul-extent Inv-loop μ-loop
 mul-extent c = search needs
 
--- src/flat.rt:84:22
 element-copy-out-extent : tie.Need-element-copy-out-extent Inv-loop μ-loop
 element-copy-out-extent c = search needs
 
--- src/flat.rt:85:17
 add-numbers : tie.Need-add-numbers Inv-loop μ-loop
 add-numbers c = search needs
 
--- src/flat.rt:85:9
 mul-numbers : tie.Need-mul-numbers Inv-loop μ-loop
 mul-numbers c = search needs
 
--- src/flat.rt:85:9
 slice-write-numbers-3 : tie.Need-slice-write-numbers-3 Inv-loop μ-loop
 slice-write-numbers-3 c = omega (arith, long c)
 
--- src/flat.rt:86:9
 add-i : tie.Need-add-i Inv-loop μ-loop
 add-i c = search needs
 
--- src/flat.rt:83:5
 loop-less : tie.Need-loop-less Inv-loop μ-loop
 loop-less c = search needs
 
--- src/flat.rt:83:5
 loop-again : tie.Need-loop-again Inv-loop μ-loop
 loop-again c =
     let l = c .before .before .loop in
     let s = c .before .before .before in
     (search needs, length-set (l .numbers) _ _ ∙ l .inv .1, store-turn (begun s) (s .args .t1 .extents) (l .numbers) 2 (l .i) 0 (omega (arith, begun-length s)) (search needs) (l .inv .2))
 
--- src/flat.rt:76:1
 same-length : tie.Need-same-length Inv-loop μ-loop
 same-length c = c .before .loop .inv .1 ∙ begun-length (c .before .before)
 
--- src/flat.rt:76:1
 returns : tie.Need-returns Inv-loop μ-loop
 returns c =
     let l = c .before .loop in

@@ -1,22 +1,18 @@
+-- `store_steps`: the offset, then the strides; what is behind them stays.
 use mathlib.Core.List.{List, _∷_, _++_}
-use mathlib.Core.Path.{refl}
-use lib.IntN.{ℤ}
-use mir.Val.{toZ, ofZ}
-use lib.ListN.{set, length-set}
-use mir.Syntax.{w64}
-use mir.ValLaws.{toZ-ofZ}
-use lib.IntN.{pos}
-use borrow.Author.Needs.{needs}
-use mathlib.Core.Path.{_≡_, sym, ap, _∙_}
+use mathlib.Core.Path.{refl, _≡_, ap, _∙_}
 use Prim.Native.Nat.{_-_, _≤_}
 use native.Mathlib.Omega.{arith}
-use lib.ListN.{length, drop}
-use lib.Seq.{paste, paste-zero, length-paste}
-use Rattle.strided.proofs.CopyLaws.{read-turn, store-turn, read-end, stored-one, stored-two}
+use lib.IntN.{ℤ, pos}
+use lib.ListN.{set, length-set, length, drop}
+use lib.Seq.{paste, paste-zero}
+use mir.Val.{toZ, ofZ}
+use mir.Syntax.{w64}
+use mir.ValLaws.{toZ-ofZ}
+use borrow.Author.Needs.{needs}
+use Rattle.strided.proofs.CopyLaws.{store-turn, stored-one}
 use Rattle.strided.proofs.flat.store_steps.Statement.{statement}
 use Rattle.strided.proofs.flat.store_steps.Tie as tie
-use Rattle.strided.proofs.flat.store_steps.Reads as reads
-use Rattle.strided.proofs.flat.store_steps.Lts as lts
 
 abbrev Inv-loop : tie.InvT-loop
 Inv-loop steps₀ layout i₀ steps i = (i ≤ 16) × (length steps ≡ length steps₀) × (steps ≡ paste steps₀ 1 (layout .strides) i)
@@ -37,50 +33,39 @@ long c = omega (arith, begun-length (c .before .before .before))
 slice-set-from-steps : tie.Need-slice-set-from-steps Inv-loop μ-loop
 slice-set-from-steps c = search needs
 
--- src/flat.rt:97:5
 loop-holds : tie.Need-loop-holds Inv-loop μ-loop
 loop-holds c = (search needs, refl, paste-zero _ 1 (c .before .args .t1 .strides))
 
--- src/flat.rt:98:22
 mul-stride : tie.Need-mul-stride Inv-loop μ-loop
 mul-stride c = search needs
 
--- src/flat.rt:98:22
 element-copy-out-stride : tie.Need-element-copy-out-stride Inv-loop μ-loop
 element-copy-out-stride c = search needs
 
--- src/flat.rt:99:15
 add-stride : tie.Need-add-stride Inv-loop μ-loop
 add-stride c = search needs
 
--- src/flat.rt:99:9
 mul-stride-2 : tie.Need-mul-stride-2 Inv-loop μ-loop
 mul-stride-2 c = search needs
 
--- src/flat.rt:99:9
 slice-set-from-stride : tie.Need-slice-set-from-stride Inv-loop μ-loop
 slice-set-from-stride c = omega (arith, long c)
 
--- src/flat.rt:100:9
 add-i : tie.Need-add-i Inv-loop μ-loop
 add-i c = search needs
 
--- src/flat.rt:97:5
 loop-less : tie.Need-loop-less Inv-loop μ-loop
 loop-less c = search needs
 
--- src/flat.rt:97:5
 loop-again : tie.Need-loop-again Inv-loop μ-loop
 loop-again c =
     let l = c .before .before .loop in
     let s = c .before .before .before in
     (search needs, length-set (l .steps) _ _ ∙ l .inv .1, rw (toZ-ofZ w64 _ (record { sfits = c .stride .given })) (store-turn (begun s) (s .before .args .t1 .strides) (l .steps) 1 (l .i) (pos 0) (omega (arith, begun-length s)) (search needs) (l .inv .2)))
 
--- src/flat.rt:91:1
 same-length : tie.Need-same-length Inv-loop μ-loop
 same-length c = c .before .loop .inv .1 ∙ begun-length (c .before .before)
 
--- src/flat.rt:91:1
 returns : tie.Need-returns Inv-loop μ-loop
 returns c =
     let l = c .before .loop in

@@ -1,18 +1,16 @@
-use mathlib.Core.Path.{refl}
-use mir.Syntax.{w64}
-use mir.ValLaws.{toZ-ofZ}
-use lib.IntN.{pos}
-use borrow.Author.Needs.{needs}
-use mathlib.Core.Path.{_≡_, sym, ap, _∙_}
+-- `strides_in` copies 16 words from place 1 on.
+use mathlib.Core.Path.{refl, _≡_, ap, _∙_}
 use Prim.Native.Nat.{_-_, _≤_}
 use native.Mathlib.Omega.{arith}
-use lib.ListN.{length, drop, replicate}
-use lib.Seq.{paste, paste-zero, length-paste}
-use Rattle.strided.proofs.CopyLaws.{read-turn, store-turn, read-end, stored-one, stored-two}
+use lib.IntN.{pos}
+use lib.ListN.{drop, replicate}
+use lib.Seq.{paste}
+use mir.Syntax.{w64}
+use mir.ValLaws.{toZ-ofZ}
+use borrow.Author.Needs.{needs}
+use Rattle.strided.proofs.CopyLaws.{read-turn, read-end}
 use Rattle.strided.proofs.flat.strides_in.Statement.{statement}
 use Rattle.strided.proofs.flat.strides_in.Tie as tie
-use Rattle.strided.proofs.flat.strides_in.Reads as reads
-use Rattle.strided.proofs.flat.strides_in.Lts as lts
 
 abbrev Inv-loop : tie.InvT-loop
 Inv-loop steps strides₀ i₀ strides i = (i ≤ 16) × (strides ≡ paste strides₀ 0 (drop 1 steps) i)
@@ -20,45 +18,35 @@ Inv-loop steps strides₀ i₀ strides i = (i ≤ 16) × (strides ≡ paste stri
 abbrev μ-loop : tie.MeasureT-loop
 μ-loop steps strides₀ i₀ strides i = 16 - i
 
--- src/flat.rt:52:5
 loop-holds : tie.Need-loop-holds Inv-loop μ-loop
 loop-holds c = search needs
 
--- src/flat.rt:53:28
 add-strides : tie.Need-add-strides Inv-loop μ-loop
 add-strides c = search needs
 
--- src/flat.rt:53:22
 mul-strides : tie.Need-mul-strides Inv-loop μ-loop
 mul-strides c = search needs
 
--- src/flat.rt:53:22
 shared-slice-copy-out-strides : tie.Need-shared-slice-copy-out-strides Inv-loop μ-loop
 shared-slice-copy-out-strides c = search needs
 
--- src/flat.rt:53:9
 mul-strides-2 : tie.Need-mul-strides-2 Inv-loop μ-loop
 mul-strides-2 c = search needs
 
--- src/flat.rt:53:9
 array-set-from-strides : tie.Need-array-set-from-strides Inv-loop μ-loop
 array-set-from-strides c = search needs
 
--- src/flat.rt:54:9
 add-i : tie.Need-add-i Inv-loop μ-loop
 add-i c = search needs
 
--- src/flat.rt:52:5
 loop-less : tie.Need-loop-less Inv-loop μ-loop
 loop-less c = search needs
 
--- src/flat.rt:52:5
 loop-again : tie.Need-loop-again Inv-loop μ-loop
 loop-again c =
     let l = c .before .before .loop in
     (search needs, rw (toZ-ofZ w64 _ (record { sfits = c .strides .given })) (read-turn _ (c .before .before .before .args .steps .now) (l .strides) 1 (l .i) (pos 0) (search needs) (omega arith) (l .inv .1)))
 
--- src/flat.rt:46:1
 returns : tie.Need-returns Inv-loop μ-loop
 returns c =
     let l = c .before .loop in

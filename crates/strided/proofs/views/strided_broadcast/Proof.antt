@@ -1,57 +1,55 @@
-use mathlib.Core.Path.{sym, _∙_}
+-- `strided_broadcast`: no room; or the view of the layout that the buffers hold.
+use mathlib.Core.Path.{ap, sym, _∙_}
 use Prim.Native.Nat.{_≤_}
 use lib.ListN.{length}
-use borrow.Author.Tests.{not-false}
-use Rattle.strided.proofs.RoomLaws.{view-room}
+use borrow.Author.Tests.{not-true, not-false}
 use borrow.Author.Needs.{needs}
+use Rattle.specification.specs.Layout.{LayoutM}
+use Rattle.specification.specs.Views.{broadcast}
+use Rattle.view.specs.Model.{viewedOf}
+use Rattle.strided.specs.Flat.{holdsView, modelOfFlat}
+use Rattle.strided.specs.Crossing.{layoutOf}
+use Rattle.strided.proofs.CrossingLaws.{view-short, view-there}
+use Rattle.strided.proofs.RoomLaws.{view-room}
 use Rattle.strided.proofs.views.strided_broadcast.Statement.{statement}
 use Rattle.strided.proofs.views.strided_broadcast.Tie as tie
-use Rattle.strided.proofs.views.strided_broadcast.Reads as reads
-use Rattle.strided.proofs.views.strided_broadcast.Lts as lts
-use Rattle.strided.proofs.flat.holds_view.Reads as holds-view-reads
-use Rattle.strided.proofs.flat.layout_in.Reads as layout-in-reads
-use Rattle.strided.proofs.views.answer_viewed.Reads as answer-viewed-reads
-use Rattle.view.proofs.layout.Layout.broadcast.Reads as broadcast-reads
 
 -- there is room
 room : (e : tie.Else1) → ((18 ≤ length (e .before .before .before .before .before .args .numbers .now)) × (17 ≤ length (e .before .before .before .before .before .args .steps .now))) × (2 ≤ length (e .before .before .before .before .before .args .values .now))
 room e = view-room (length (e .before .before .before .before .before .args .numbers .now)) (length (e .before .before .before .before .before .args .steps .now)) (length (e .before .before .before .before .before .args .values .now)) (sym (e .before .holds-view .ensures) ∙ not-false _ (e .if1 .left))
 
--- src/views.rt:92:9
 holds-view-requires : tie.Need-holds-view-requires
 holds-view-requires c κs = search needs
 
--- src/views.rt:93:9
 returns : tie.Need-returns
-returns c = search needs
+returns c =
+    let s = c .before .before .before .before .before in view-short (holdsView (length (s .args .numbers .now)) (length (s .args .steps .now)) (length (s .args .values .now))) (layoutOf (broadcast (modelOfFlat (s .args .numbers .now) (s .args .steps .now)) (s .args .extents .now))) (sym (c .before .holds-view .ensures) ∙ not-true _ (c .if1 .taken))
 
--- src/views.rt:95:9
 layout-in-requires : tie.Need-layout-in-requires
 layout-in-requires c κs = room (c .before .before) .0
 
--- src/views.rt:96:9
 broadcast-requires : tie.Need-broadcast-requires
 broadcast-requires c κs = search needs
 
--- src/views.rt:97:5
 answer-viewed-requires : tie.Need-answer-viewed-requires
 answer-viewed-requires c κs = let r = room (c .before .before .before .before .before .before .before) in (r .0 .0, r .0 .1, r .1)
 
--- src/views.rt:89:1
 same-length : tie.Need-same-length
 same-length c = search needs
 
--- src/views.rt:89:1
 same-length-2 : tie.Need-same-length-2
 same-length-2 c = search needs
 
--- src/views.rt:89:1
 same-length-3 : tie.Need-same-length-3
 same-length-3 c = search needs
 
--- src/views.rt:89:1
 returns-2 : tie.Need-returns-2
-returns-2 c = search needs
+returns-2 c =
+    let s = c .before .before .before .before .before .before .before .before .before .before .before .before .before .before .before .before .before .before in
+    let e = c .before .before .before .before .before .before .before .before .before .before .before .before .before in
+    let v = c .before .before .before .before .before .before .before .before .before in
+    view-there (holdsView (length (s .args .numbers .now)) (length (s .args .steps .now)) (length (s .args .values .now))) (layoutOf (broadcast (modelOfFlat (s .args .numbers .now) (s .args .steps .now)) (s .args .extents .now))) (layoutOf (viewedOf (v .broadcast .result))) (sym (e .before .holds-view .ensures) ∙ not-false _ (e .if1 .left))
+    (ap layoutOf (v .broadcast .ensures ∙ ap (λ (l : LayoutM). broadcast l (s .args .extents .now)) (c .before .before .before .before .before .before .before .before .before .before .layout-in .ensures))) (c .before .before .before .before .before .answer-viewed .ensures)
 
 pub strided-broadcast-spec : {M : Type 1} → statement M
 strided-broadcast-spec =
