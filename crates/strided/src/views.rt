@@ -17,6 +17,7 @@ use view::layout::Answer;
 use view::layout::Layout;
 use view::layout::ReadingOffset;
 use view::layout::Viewed;
+use view::numbers::diagonal_by_numbers;
 
 // The layout after a call into the buffers; on a refusal its number alone, and the buffers as they were.
 fn store_viewed(viewed: Viewed, numbers: &mut [u64], steps: &mut [i64]) -> u8
@@ -106,7 +107,7 @@ pub extern "C" fn strided_diagonal_view(
         return 255;
     }
     let layout = layout_in(numbers, steps);
-    let viewed = layout.diagonal_view(pairs);
+    let viewed = diagonal_by_numbers(layout, pairs);
     answer_viewed(viewed, numbers, steps, values)
 }
 
