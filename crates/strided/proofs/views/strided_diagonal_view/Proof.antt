@@ -28,8 +28,8 @@ returns c =
 layout-in-requires : tie.Need-layout-in-requires
 layout-in-requires c κs = room (c .before .before) .0
 
-diagonal-view-requires : tie.Need-diagonal-view-requires
-diagonal-view-requires c κs = search needs
+diagonal-by-numbers-requires : tie.Need-diagonal-by-numbers-requires
+diagonal-by-numbers-requires c κs = search needs
 
 answer-viewed-requires : tie.Need-answer-viewed-requires
 answer-viewed-requires c κs = let r = room (c .before .before .before .before .before .before .before) in (r .0 .0, r .0 .1, r .1)
@@ -48,8 +48,8 @@ returns-2 c =
     let s = c .before .before .before .before .before .before .before .before .before .before .before .before .before .before .before .before .before .before in
     let e = c .before .before .before .before .before .before .before .before .before .before .before .before .before in
     let v = c .before .before .before .before .before .before .before .before .before in
-    view-there (holdsView (length (s .args .numbers .now)) (length (s .args .steps .now)) (length (s .args .values .now))) (layoutOf (diagonalView (modelOfFlat (s .args .numbers .now) (s .args .steps .now)) (pairsOf (s .args .pairs .now)))) (layoutOf (viewedOf (v .diagonal-view .result))) (sym (e .before .holds-view .ensures) ∙ not-false _ (e .if1 .left))
-    (ap layoutOf (v .diagonal-view .ensures ∙ ap (λ (l : LayoutM). diagonalView l (pairsOf (s .args .pairs .now))) (c .before .before .before .before .before .before .before .before .before .before .layout-in .ensures))) (c .before .before .before .before .before .answer-viewed .ensures)
+    view-there (holdsView (length (s .args .numbers .now)) (length (s .args .steps .now)) (length (s .args .values .now))) (layoutOf (diagonalView (modelOfFlat (s .args .numbers .now) (s .args .steps .now)) (pairsOf (s .args .pairs .now)))) (layoutOf (viewedOf (v .diagonal-by-numbers .result))) (sym (e .before .holds-view .ensures) ∙ not-false _ (e .if1 .left))
+    (ap layoutOf (v .diagonal-by-numbers .ensures ∙ ap (λ (l : LayoutM). diagonalView l (pairsOf (s .args .pairs .now))) (c .before .before .before .before .before .before .before .before .before .before .layout-in .ensures))) (c .before .before .before .before .before .answer-viewed .ensures)
 
 pub strided-diagonal-view-spec : {M : Type 1} → statement M
 strided-diagonal-view-spec =
@@ -58,7 +58,7 @@ strided-diagonal-view-spec =
     holds-view-requires
     returns
     layout-in-requires
-    diagonal-view-requires
+    diagonal-by-numbers-requires
     answer-viewed-requires
     same-length
     same-length-2
