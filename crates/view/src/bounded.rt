@@ -9,8 +9,18 @@ pub enum Bounded {
     Over,
 }
 
+// n, where it is at most the limit.
+fn at_most(n: u64, limit: u64) -> Bounded
+    ensures { λ r. ⌜ r ≡ boundedBy limit n ⌝ }
+{
+    if limit < n {
+        return Bounded::Over;
+    }
+    Bounded::Is(n)
+}
+
 // a * b, where that is at most the limit: told by a division, before the product is made.
-pub fn bounded_product(a: u64, b: u64, limit: u64) -> Bounded
+fn bounded_by_division(a: u64, b: u64, limit: u64) -> Bounded
     ensures { λ r. ⌜ r ≡ boundedBy limit (a * b) ⌝ }
 {
     if b == 0 {
@@ -20,4 +30,16 @@ pub fn bounded_product(a: u64, b: u64, limit: u64) -> Bounded
         return Bounded::Over;
     }
     Bounded::Is(a * b)
+}
+
+// a * b, where that is at most the limit. A product of two numbers below 2^32 fits a word and needs no division.
+pub fn bounded_product(a: u64, b: u64, limit: u64) -> Bounded
+    ensures { λ r. ⌜ r ≡ boundedBy limit (a * b) ⌝ }
+{
+    if a <= 0xffff_ffff {
+        if b <= 0xffff_ffff {
+            return at_most(a * b, limit);
+        }
+    }
+    bounded_by_division(a, b, limit)
 }

@@ -1,35 +1,27 @@
--- The quotient of the limit tells whether the product passes it.
-use mathlib.Core.Path.{sym}
-use Prim.Native.Nat.{_*_, _<_, _≤_}
-use native.Mathlib.Nat.{le-div-iff-mul-le, div-lt-iff-lt-mul, mul-zero}
+-- Two factors below 2^32 have a product that fits a word; else a division tells.
+use native.Mathlib.Nat.{le-refl}
 use native.Mathlib.Omega.{arith}
 use borrow.Author.Needs.{needs}
-use Rattle.view.proofs.BoundedLaws.{bounded-is, bounded-over}
+use Rattle.integer.proofs.ModularLaws.{product-fits}
 use Rattle.view.proofs.bounded.bounded_product.Statement.{statement}
 use Rattle.view.proofs.bounded.bounded_product.Tie as tie
 
+mul-at-most : tie.Need-mul-at-most
+mul-at-most c = record { fits = product-fits _ _ 4294967296 (omega arith) (omega arith) (omega arith) }
+
+at-most-requires : tie.Need-at-most-requires
+at-most-requires c κs = search needs
+
 returns : tie.Need-returns
-returns c = rw (c .if1 .taken, mul-zero) (sym (bounded-is (c .before .args .limit) 0 (omega arith)))
+returns c = search needs
 
-div-if2 : tie.Need-div-if2
-div-if2 c = search needs
-
-above-zero : (c : tie.Else1) → 0 < c .before .args .b
-above-zero c = omega arith
+bounded-by-division-requires : tie.Need-bounded-by-division-requires
+bounded-by-division-requires c κs = search needs
 
 returns-2 : tie.Need-returns-2
-returns-2 c =
-    let a = c .before .before .args in
-    sym (bounded-over (a .limit) (a .a * a .b) (omega (arith, div-lt-iff-lt-mul (above-zero (c .before)) .0 (c .if2 .taken))))
-
-holds : (c : tie.Else2) → let a = c .before .before .args in a .a * a .b ≤ a .limit
-holds c = omega (arith, le-div-iff-mul-le (above-zero (c .before)) .0 (c .if2 .left))
-
-mul-t5 : tie.Need-mul-t5
-mul-t5 c = omega (arith, holds c)
-
-returns-3 : tie.Need-returns-3
-returns-3 c = sym (bounded-is _ _ (holds c))
+returns-2 c = search needs
 
 pub bounded-product-spec : {M : Type 1} → statement M
-bounded-product-spec = tie.close (tie.spec returns div-if2 returns-2 mul-t5 returns-3)
+bounded-product-spec =
+    tie.close
+    (tie.spec mul-at-most at-most-requires returns bounded-by-division-requires returns-2)
