@@ -1,12 +1,12 @@
 -- Loops that copy between a list and a flat buffer: what a turn adds, and what stands there at the end.
 use mathlib.Core.List.{List, [], _∷_, _++_, append-nil}
 use mathlib.Core.Path.{_≡_, sym, ap, _∙_}
-use Prim.Native.Nat.{ℕ, _+_, _<_, _≤_}
+use Prim.Native.Nat.{ℕ, _+_, _-_, _<_, _≤_}
 use native.Mathlib.Nat.{add-comm, zero-add}
 use native.Mathlib.Numerals.{add-one}
 use native.Mathlib.Omega.{arith}
 use lib.ListN.{length, getD, take, drop, set, length-drop, drop-of-length-le}
-use lib.Seq.{paste, paste-suc, getD-drop, take-all}
+use lib.Seq.{paste, paste-suc, getD-drop, take-all, drop-drop, drop-append-add}
 
 module _ {A : Type 0} where
   pub copy-turn : (d s : List A) (at i : ℕ) (x : A) → at + i < length d → i < length s → set (paste d at s i) (at + i) (getD s i x) ≡ paste d at s (i + 1)
@@ -50,3 +50,15 @@ module _ {A : Type 0} where
   pub stored-one : (e s : List A) (a : A) → length s ≡ 16 → 17 ≤ length e → paste (set e 0 a) 1 s 16 ≡ (a ∷ s) ++ drop 17 e
   stored-one [] s a all room = absurd (omega arith)
   stored-one (x ∷ e) s a all room = ap (λ (l : List A). a ∷ (l ++ drop 16 e)) (take-all 16 s (omega arith))
+
+  -- a whole list, copied to place k on
+  pub pasted-whole : (d s : List A) (k n : ℕ) → length s ≡ n → paste d k s n ≡ take k d ++ s ++ drop n (drop k d)
+  pasted-whole d s k n all =
+      ap (λ (l : List A). take k d ++ l ++ drop (k + n) d) (take-all n s (omega arith)) ∙ ap (λ (l : List A). take k d ++ s ++ l) (sym (drop-drop n k d))
+
+  -- what stands behind a list that was put in front
+  pub behind-front : (s e : List A) (n k : ℕ) → length s ≡ n → n ≤ k → drop k (s ++ drop n e) ≡ drop k e
+  behind-front s e n k all most =
+      let from : k ≡ length s + (k - n) = omega arith in
+      let to : n + (k - n) ≡ k = omega arith in
+      ap (λ (m : ℕ). drop m (s ++ drop n e)) from ∙ drop-append-add s (drop n e) (k - n) ∙ drop-drop (k - n) n e ∙ ap (λ (m : ℕ). drop m e) to

@@ -10,7 +10,6 @@ use Rattle.specification.specs.Outcome.{Outcome, done, refused}
 use Rattle.specification.specs.Layout.{LayoutM}
 use Rattle.specification.specs.Record.{WasRead}
 use Rattle.view.specs.Answers.{numberOf, valuesOf, outcomeOf, answerOf}
-use Rattle.view.specs.Model.{afterOf}
 use Rattle.view.specs.declared.layout.Answer.{Answer}
 use Rattle.view.specs.declared.layout.Answer.the-variants.{Done, Refused}
 use Rattle.view.specs.declared.layout.Refusal.{Refusal}
@@ -54,10 +53,6 @@ pub values-done : (answer : Answer) (l : LayoutM) (before : List ℕ) → answer
 values-done answer l before told = sym (ap (λ (a : Answer). valuesAfter (besideAnswer (outcomeOf a) l) before) told)
 
 -- ---- outcomes as answers, and back
-
-pub checked-back : (o : Outcome LayoutM) → layoutOf (afterOf o) ≡ o
-checked-back (done l) = refl
-checked-back (refused number values) = refl
 
 pub normal-back : (old : LayoutM) (o : Outcome LayoutM) → layoutOf (orOld old o) ≡ o
 normal-back old (done l) = refl

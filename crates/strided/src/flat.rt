@@ -3,7 +3,7 @@ ghost use mathlib.Core.Path.{_≡_};
 ghost use mathlib.Core.List.{_++_};
 ghost use Prim.Native.Nat.{_≤_};
 ghost use lib.ListN.{length, take, drop};
-ghost use Rattle.view.specs.Model.{modelOf};
+ghost use Rattle.view.specs.Model.{modelOf, modelFrom};
 ghost use Rattle.strided.specs.Flat.{holdsLayout, holdsView, modelOfFlat, numbersOf, stepsOf, Stored};
 use view::layout::Layout;
 use view::layout::ReadingOffset;
@@ -108,4 +108,29 @@ pub fn store_layout(layout: Layout, numbers: &mut [u64], steps: &mut [i64])
 {
     store_numbers(layout, numbers);
     store_steps(layout, steps);
+}
+
+// The layout that two lists of equal length give, into two flat buffers; the places past its rank stay as they were.
+pub fn store_lists(
+    numbers: &mut [u64],
+    steps: &mut [i64],
+    len: u64,
+    offset: i64,
+    extents: &[u64],
+    strides: &[i64],
+)
+    requires { ⌜ (18 ≤ length (now numbers)) × (17 ≤ length (now steps)) × (length (now extents) ≤ 16) × (length (now strides) ≡ length (now extents)) ⌝ }
+    ensures { λ _. ⌜ Stored (modelFrom len offset (now (extents .entry)) (now (strides .entry))) (now (numbers .entry)) (now (steps .entry)) (now (numbers .exit)) (now (steps .exit)) ⌝ }
+{
+    numbers[0] = len;
+    numbers[1] = extents.len() as u64;
+    steps[0] = offset;
+    let mut i = 0;
+    while i < extents.len() {
+        let extent = extents[i];
+        let stride = strides[i];
+        numbers[i + 2] = extent;
+        steps[i + 1] = stride;
+        i += 1;
+    }
 }

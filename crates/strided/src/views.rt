@@ -11,10 +11,11 @@ use crate::flat::holds_layout;
 use crate::flat::holds_view;
 use crate::flat::layout_in;
 use crate::flat::store_layout;
+use crate::flat::store_lists;
 use crate::refusals::refuse;
 use record::normal::normal_form;
+use view::bounds::validate_bounds;
 use view::layout::Answer;
-use view::layout::Layout;
 use view::layout::ReadingOffset;
 use view::layout::Viewed;
 use view::numbers::diagonal_by_numbers;
@@ -71,8 +72,14 @@ pub extern "C" fn strided_new(
     if !holds_layout(numbers.len(), steps.len()) {
         return 255;
     }
-    let viewed = Layout::new(len, ReadingOffset(offset), extents, strides);
-    store_viewed(viewed, numbers, steps)
+    let answer = validate_bounds(len, ReadingOffset(offset), extents, strides);
+    match answer {
+        Answer::Refused(why) => why.number(),
+        Answer::Done => {
+            store_lists(numbers, steps, len, offset, extents, strides);
+            0
+        }
+    }
 }
 
 // The axes in the order of the list.

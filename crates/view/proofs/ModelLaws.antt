@@ -18,6 +18,10 @@ axesIn-store es ss n e s h k = table-snoc (axisOf (set es n e) (set ss n s)) (ax
     (λ i l. let ne : i ≡ n → ⊥ = λ q. absurd (omega arith) in rw (getD-set-other es n i e 0 ne, getD-set-other ss n i s (pos 0) ne))
     (rw (getD-set-same es n e 0 h, getD-set-same ss n s (pos 0) k))
 
+-- a store at place n leaves the axes behind it
+pub axisOf-behind : (es : List ℕ) (ss : List ℤ) (n k e : ℕ) (s : ℤ) → n + 1 ≤ k → axisOf (set es n e) (set ss n s) k ≡ axisOf es ss k
+axisOf-behind es ss n k e s h = let ne : k ≡ n → ⊥ = λ q. absurd (omega arith) in rw (getD-set-other es n k e 0 ne, getD-set-other ss n k s (pos 0) ne)
+
 pub axesIn-suc : (es : List ℕ) (ss : List ℤ) (n : ℕ) → axesIn es ss (n + 1) ≡ axesIn es ss n ++ (axisOf es ss n ∷ [])
 axesIn-suc es ss n = table-suc (axisOf es ss) n
 

@@ -90,16 +90,20 @@ pub fn sum_spans(extents: &[u64], strides: &[i64], above: u64, below: u64) -> Sp
     while i < extents.len() {
         let last = last_index(extents[i]);
         let stride = strides[i];
-        let Bounded::Is(more_up) = bounded_product(last, positive_part(stride), above - up) else {
-            return Spans::Over;
-        };
-        let Bounded::Is(more_down) = bounded_product(last, negative_part(stride), below - down)
-        else {
-            return Spans::Over;
-        };
-        up += more_up;
-        down += more_down;
-        i += 1;
+        if stride < 0 {
+            let Bounded::Is(more) = bounded_product(last, negative_part(stride), below - down)
+            else {
+                return Spans::Over;
+            };
+            down += more;
+            i += 1;
+        } else {
+            let Bounded::Is(more) = bounded_product(last, positive_part(stride), above - up) else {
+                return Spans::Over;
+            };
+            up += more;
+            i += 1;
+        }
     }
     Spans::Of(up, down)
 }

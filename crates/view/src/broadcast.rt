@@ -60,8 +60,8 @@ pub fn stretched(l: Layout, targets: &[u64]) -> Layout
     let mut i = 0;
     while i < targets.len() {
         let target = targets[i];
-        let extent = l.extents[i];
-        let stride = l.strides[i];
+        let extent = next.extents[i];
+        let stride = next.strides[i];
         next.extents[i] = target;
         next.strides[i] = stretched_stride(extent, target, stride);
         i += 1;

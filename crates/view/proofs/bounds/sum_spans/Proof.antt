@@ -1,4 +1,5 @@
 -- Each sum and the spans still left make the whole sum, so a sum that passes its limit on the way passes it in the end.
+-- By the sign of its stride an axis adds to one of the sums alone.
 use mathlib.Core.Path.{_≡_, sym, ap, _∙_}
 use mathlib.Core.List.{List}
 use Prim.Native.Nat.{ℕ, _+_, _*_, _-_, _≤_}
@@ -10,6 +11,7 @@ use mir.Val.{toZ, ofZ}
 use mir.Syntax.{w64}
 use mir.ValLaws.{toZ-ofZ}
 use Rattle.integer.specs.Parts.{posPart, negPart}
+use Rattle.integer.proofs.MachineInteger.{negative-tested, nonnegative-tested}
 use Rattle.specification.specs.Axis.{axesOf, upward, downward}
 use Rattle.view.proofs.BoundedLaws.{is-bounded, over-bounded}
 use Rattle.view.proofs.SpanLaws.{spans-are, spans-above, spans-below, upward-turn, downward-turn, upward-end, downward-end}
@@ -48,44 +50,57 @@ module _ (a : tie.After-stride Inv-loop μ-loop) where
   stride-is : toZ w64 (ofZ w64 (getD ss i (pos 0))) ≡ getD ss i (pos 0)
   stride-is = toZ-ofZ w64 _ (record { sfits = a .stride .given })
 
-abbrev turn : tie.After-bounded-product Inv-loop μ-loop → tie.After-stride Inv-loop μ-loop
-turn t = t .before .before
+  -- the sums with the span of axis i, and what is left behind it
+  up-turn : (step : ℕ) → step ≡ posPart (getD ss i (pos 0))
+      → (atLoop .loop .up + a .before .last-index .result * step) + upward (axesOf (drop (i + 1) es) (drop (i + 1) ss)) ≡ upward (axesOf es ss)
+  up-turn step is-step =
+      upward-turn es ss i (atLoop .loop .up) _ (a .before .last-index .result) step (omega arith) (omega arith) (a .before .last-index .ensures) is-step (atLoop .loop .inv .3)
 
-abbrev turn-down : tie.After-bounded-product2 Inv-loop μ-loop → tie.After-stride Inv-loop μ-loop
-turn-down t = turn (t .before .before .before .before .before)
+  down-turn : (step : ℕ) → step ≡ negPart (getD ss i (pos 0))
+      → (atLoop .loop .down + a .before .last-index .result * step) + downward (axesOf (drop (i + 1) es) (drop (i + 1) ss)) ≡ downward (axesOf es ss)
+  down-turn step is-step =
+      downward-turn es ss i (atLoop .loop .down) _ (a .before .last-index .result) step (omega arith) (omega arith) (a .before .last-index .ensures) is-step (atLoop .loop .inv .4)
 
--- the span of axis i, above 0 and below
-abbrev span-up : tie.After-bounded-product Inv-loop μ-loop → ℕ
-span-up t = turn t .before .last-index .result * t .before .positive-part .result
+-- a stride below 0
+module _ (t : tie.After-bounded-product Inv-loop μ-loop) where
+  abbrev falling : tie.After-stride Inv-loop μ-loop
+  falling = t .before .before .before
 
-abbrev span-down : tie.After-bounded-product2 Inv-loop μ-loop → ℕ
-span-down t = turn-down t .before .last-index .result * t .before .negative-part .result
+  abbrev span-down : ℕ
+  span-down = falling .before .last-index .result * t .before .negative-part .result
 
-up-turn : (t : tie.After-bounded-product Inv-loop μ-loop) → let a = turn t in
-    (atLoop a .loop .up + span-up t) + upward (axesOf (drop (i a + 1) (es a)) (drop (i a + 1) (ss a))) ≡ upward (axesOf (es a) (ss a))
-up-turn t = let a = turn t in
-    upward-turn (es a) (ss a) (i a) (atLoop a .loop .up) _ (a .before .last-index .result) (t .before .positive-part .result)
-    (omega arith) (omega arith) (a .before .last-index .ensures) (t .before .positive-part .ensures ∙ ap posPart (stride-is a)) (atLoop a .loop .inv .3)
+  falls : (atLoop falling .loop .down + span-down) + downward (axesOf (drop (i falling + 1) (es falling)) (drop (i falling + 1) (ss falling))) ≡ downward (axesOf (es falling) (ss falling))
+  falls = down-turn falling (t .before .negative-part .result) (t .before .negative-part .ensures ∙ ap negPart (stride-is falling))
 
-down-turn : (t : tie.After-bounded-product2 Inv-loop μ-loop) → let a = turn-down t in
-    (atLoop a .loop .down + span-down t) + downward (axesOf (drop (i a + 1) (es a)) (drop (i a + 1) (ss a))) ≡ downward (axesOf (es a) (ss a))
-down-turn t = let a = turn-down t in
-    downward-turn (es a) (ss a) (i a) (atLoop a .loop .down) _ (a .before .last-index .result) (t .before .negative-part .result)
-    (omega arith) (omega arith) (a .before .last-index .ensures) (t .before .negative-part .ensures ∙ ap negPart (stride-is a)) (atLoop a .loop .inv .4)
+  stays-up : atLoop falling .loop .up + upward (axesOf (drop (i falling + 1) (es falling)) (drop (i falling + 1) (ss falling))) ≡ upward (axesOf (es falling) (ss falling))
+  stays-up =
+      let e = up-turn falling 0 (sym (negative-tested (getD (ss falling) (i falling) (pos 0)) (record { sfits = falling .stride .given }) (t .before .before .if1 .taken) .no-positive)) in
+      omega arith
 
--- the two products where both were made
-module _ (c : tie.After-known-told2 Inv-loop μ-loop) where
-  abbrev down-place : tie.After-bounded-product2 Inv-loop μ-loop
-  down-place = c .before .before .before
+-- a stride that is not below 0
+module _ (t : tie.After-bounded-product2 Inv-loop μ-loop) where
+  abbrev rising : tie.After-stride Inv-loop μ-loop
+  rising = t .before .before .before
 
-  abbrev up-place : tie.After-bounded-product Inv-loop μ-loop
-  up-place = down-place .before .before .before .before .before
+  abbrev span-up : ℕ
+  span-up = rising .before .last-index .result * t .before .positive-part .result
 
-  more-up-is : (down-place .before .before .before .more-up .given .0 .0 ≡ span-up up-place) × (span-up up-place ≤ above (turn up-place) - atLoop (turn up-place) .loop .up)
-  more-up-is = is-bounded _ (span-up up-place) _ (up-place .bounded-product .ensures) (down-place .before .before .before .more-up .given .1)
+  rises : (atLoop rising .loop .up + span-up) + upward (axesOf (drop (i rising + 1) (es rising)) (drop (i rising + 1) (ss rising))) ≡ upward (axesOf (es rising) (ss rising))
+  rises = up-turn rising (t .before .positive-part .result) (t .before .positive-part .ensures ∙ ap posPart (stride-is rising))
 
-  more-down-is : (c .before .more-down .given .0 .0 ≡ span-down down-place) × (span-down down-place ≤ below (turn up-place) - atLoop (turn up-place) .loop .down)
-  more-down-is = is-bounded _ (span-down down-place) _ (down-place .bounded-product2 .ensures) (c .before .more-down .given .1)
+  stays-down : atLoop rising .loop .down + downward (axesOf (drop (i rising + 1) (es rising)) (drop (i rising + 1) (ss rising))) ≡ downward (axesOf (es rising) (ss rising))
+  stays-down =
+      let e = down-turn rising 0 (sym (nonnegative-tested (getD (ss rising) (i rising) (pos 0)) (record { sfits = rising .stride .given }) (t .before .before .if1 .left) .no-negative)) in
+      omega arith
+
+-- the span where it was made
+more-down-is : (c : tie.After-known-told Inv-loop μ-loop) → let t = c .before .before .before in
+    (c .before .more .given .0 .0 ≡ span-down t) × (span-down t ≤ below (falling t) - atLoop (falling t) .loop .down)
+more-down-is c = let t = c .before .before .before in is-bounded _ (span-down t) _ (t .bounded-product .ensures) (c .before .more .given .1)
+
+more-up-is : (c : tie.After-known-told2 Inv-loop μ-loop) → let t = c .before .before .before in
+    (c .before .more2 .given .0 .0 ≡ span-up t) × (span-up t ≤ above (rising t) - atLoop (rising t) .loop .up)
+more-up-is c = let t = c .before .before .before in is-bounded _ (span-up t) _ (t .bounded-product2 .ensures) (c .before .more2 .given .1)
 
 loop-holds : tie.Need-loop-holds Inv-loop μ-loop
 loop-holds c = search needs
@@ -105,8 +120,8 @@ mul-stride c = search needs
 shared-slice-copy-out-stride : tie.Need-shared-slice-copy-out-stride Inv-loop μ-loop
 shared-slice-copy-out-stride c = search needs
 
-positive-part-requires : tie.Need-positive-part-requires Inv-loop μ-loop
-positive-part-requires c κs = search needs
+negative-part-requires : tie.Need-negative-part-requires Inv-loop μ-loop
+negative-part-requires c κs = search needs
 
 sub-bounded-product : tie.Need-sub-bounded-product Inv-loop μ-loop
 sub-bounded-product c = search needs
@@ -114,8 +129,8 @@ sub-bounded-product c = search needs
 bounded-product-requires : tie.Need-bounded-product-requires Inv-loop μ-loop
 bounded-product-requires c κs = search needs
 
-enum-known-more-up : tie.Need-enum-known-more-up Inv-loop μ-loop
-enum-known-more-up c = search needs
+enum-known-more : tie.Need-enum-known-more Inv-loop μ-loop
+enum-known-more c = search needs
 
 enum-told : tie.Need-enum-told Inv-loop μ-loop
 enum-told c = search needs
@@ -123,35 +138,12 @@ enum-told c = search needs
 returns : tie.Need-returns Inv-loop μ-loop
 returns c =
     let t = c .before .before in
-    sym (spans-above (above (turn t)) (below (turn t)) (axesOf (es (turn t)) (ss (turn t)))
-    (omega (arith, up-turn t, over-bounded (above (turn t) - atLoop (turn t) .loop .up) (span-up t) (t .bounded-product .ensures) (c .enum-told .given .1))))
-
-negative-part-requires : tie.Need-negative-part-requires Inv-loop μ-loop
-negative-part-requires c κs = search needs
-
-sub-bounded-product-2 : tie.Need-sub-bounded-product-2 Inv-loop μ-loop
-sub-bounded-product-2 c = search needs
-
-bounded-product-requires-2 : tie.Need-bounded-product-requires-2 Inv-loop μ-loop
-bounded-product-requires-2 c κs = search needs
-
-enum-known-more-down : tie.Need-enum-known-more-down Inv-loop μ-loop
-enum-known-more-down c = search needs
-
-enum-told-2 : tie.Need-enum-told-2 Inv-loop μ-loop
-enum-told-2 c = search needs
-
-returns-2 : tie.Need-returns-2 Inv-loop μ-loop
-returns-2 c =
-    let t = c .before .before in
-    sym (spans-below (above (turn-down t)) (below (turn-down t)) (axesOf (es (turn-down t)) (ss (turn-down t)))
-    (omega (arith, down-turn t, over-bounded (below (turn-down t) - atLoop (turn-down t) .loop .down) (span-down t) (t .bounded-product2 .ensures) (c .enum-told2 .given .1))))
-
-add-up : tie.Need-add-up Inv-loop μ-loop
-add-up c = let f = atLoop (turn (up-place c)) .before .before .fits in record { fits = omega (arith, more-up-is c, f) }
+    let a = falling t in
+    sym (spans-below (above a) (below a) (axesOf (es a) (ss a))
+    (omega (arith, falls t, over-bounded (below a - atLoop a .loop .down) (span-down t) (t .bounded-product .ensures) (c .enum-told .given .1))))
 
 add-down : tie.Need-add-down Inv-loop μ-loop
-add-down c = let f = atLoop (turn (up-place c)) .before .before .fits in record { fits = omega (arith, more-down-is c, f) }
+add-down c = let f = atLoop (falling (c .before .before .before)) .before .before .fits in record { fits = omega (arith, more-down-is c, f) }
 
 add-i : tie.Need-add-i Inv-loop μ-loop
 add-i c = search needs
@@ -160,7 +152,41 @@ loop-less : tie.Need-loop-less Inv-loop μ-loop
 loop-less c = search needs
 
 loop-again : tie.Need-loop-again Inv-loop μ-loop
-loop-again c = let x = more-up-is c in let y = more-down-is c in omega (arith, up-turn (up-place c), down-turn (down-place c))
+loop-again c = let x = more-down-is c in let t = c .before .before .before in omega (arith, falls t, stays-up t)
+
+positive-part-requires : tie.Need-positive-part-requires Inv-loop μ-loop
+positive-part-requires c κs = search needs
+
+sub-bounded-product-2 : tie.Need-sub-bounded-product-2 Inv-loop μ-loop
+sub-bounded-product-2 c = search needs
+
+bounded-product-requires-2 : tie.Need-bounded-product-requires-2 Inv-loop μ-loop
+bounded-product-requires-2 c κs = search needs
+
+enum-known-more-2 : tie.Need-enum-known-more-2 Inv-loop μ-loop
+enum-known-more-2 c = search needs
+
+enum-told-2 : tie.Need-enum-told-2 Inv-loop μ-loop
+enum-told-2 c = search needs
+
+returns-2 : tie.Need-returns-2 Inv-loop μ-loop
+returns-2 c =
+    let t = c .before .before in
+    let a = rising t in
+    sym (spans-above (above a) (below a) (axesOf (es a) (ss a))
+    (omega (arith, rises t, over-bounded (above a - atLoop a .loop .up) (span-up t) (t .bounded-product2 .ensures) (c .enum-told2 .given .1))))
+
+add-up : tie.Need-add-up Inv-loop μ-loop
+add-up c = let f = atLoop (rising (c .before .before .before)) .before .before .fits in record { fits = omega (arith, more-up-is c, f) }
+
+add-i-2 : tie.Need-add-i-2 Inv-loop μ-loop
+add-i-2 c = search needs
+
+loop-less-2 : tie.Need-loop-less-2 Inv-loop μ-loop
+loop-less-2 c = search needs
+
+loop-again-2 : tie.Need-loop-again-2 Inv-loop μ-loop
+loop-again-2 c = let x = more-up-is c in let t = c .before .before .before in omega (arith, rises t, stays-down t)
 
 returns-3 : tie.Need-returns-3 Inv-loop μ-loop
 returns-3 c =
@@ -182,21 +208,24 @@ sum-spans-spec =
     last-index-requires
     mul-stride
     shared-slice-copy-out-stride
-    positive-part-requires
+    negative-part-requires
     sub-bounded-product
     bounded-product-requires
-    enum-known-more-up
+    enum-known-more
     enum-told
     returns
-    negative-part-requires
-    sub-bounded-product-2
-    bounded-product-requires-2
-    enum-known-more-down
-    enum-told-2
-    returns-2
-    add-up
     add-down
     add-i
     loop-less
     loop-again
+    positive-part-requires
+    sub-bounded-product-2
+    bounded-product-requires-2
+    enum-known-more-2
+    enum-told-2
+    returns-2
+    add-up
+    add-i-2
+    loop-less-2
+    loop-again-2
     returns-3)
