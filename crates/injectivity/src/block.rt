@@ -12,7 +12,7 @@ pub struct InterleavedBlock {
 
 // Of sorted axes, those up to the last whose absolute stride is at most the sum of absolute spans before it; none where every
 // axis is separated.
-pub fn up_to_last(
+pub fn interleaved_block(
     count: usize,
     axes: &[usize; 16],
     extents: &[u64; 16],

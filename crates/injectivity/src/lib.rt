@@ -9,7 +9,7 @@ ghost use Rattle.specification.specs.Verdict.{verdict};
 ghost use Rattle.injectivity.specs.Inputs.{LeftToBlock};
 ghost use Rattle.injectivity.specs.Judgement.{JudgedAs};
 use axes::sort_by_stride;
-use block::up_to_last;
+use block::interleaved_block;
 use inputs::Inputs;
 use inputs::validate_injective_layout_inputs;
 use judge::judge_block;
@@ -38,7 +38,7 @@ fn judge_active_axes(extents: &[u64], strides: &[i64], scratch: &mut [u64]) -> J
         &mut sorted_extents,
         &mut sorted_strides,
     );
-    let block = up_to_last(count, &sorted_axes, &sorted_extents, &sorted_strides);
+    let block = interleaved_block(count, &sorted_axes, &sorted_extents, &sorted_strides);
     let len = block.len;
     judge_block(
         &sorted_axes[..len],

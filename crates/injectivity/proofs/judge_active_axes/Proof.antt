@@ -43,30 +43,30 @@ module _ (t : tie.After-sort-by-stride) where
   few = left-length _ _ (start .pre)
 
 -- their block
-module _ (u : tie.After-up-to-last) where
+module _ (u : tie.After-interleaved-block) where
   abbrev list : tie.After-sort-by-stride
   list = u .before .before .before .before
 
   abbrev len : ℕ
-  len = u .up-to-last .result .len
+  len = u .interleaved-block .result .len
 
   low : len ≤ 16
-  low = in-16 (axes list) (start list .pre .to-block) _ (numbers list) (extents list) (strides list) (sorted list) _ (u .up-to-last .ensures)
+  low = in-16 (axes list) (start list .pre .to-block) _ (numbers list) (extents list) (strides list) (sorted list) _ (u .interleaved-block .ensures)
       (sixteen list .axes-16) (sixteen list .extents-16) (sixteen list .strides-16) (few list)
 
-  ready : Judgeable (take len (numbers list)) (take len (extents list)) (take len (strides list)) (u .up-to-last .result .total) (u .up-to-last .result .span)
-  ready = judgeable (axes list) (start list .pre .to-block) _ (numbers list) (extents list) (strides list) (sorted list) _ (u .up-to-last .ensures)
+  ready : Judgeable (take len (numbers list)) (take len (extents list)) (take len (strides list)) (u .interleaved-block .result .total) (u .interleaved-block .result .span)
+  ready = judgeable (axes list) (start list .pre .to-block) _ (numbers list) (extents list) (strides list) (sorted list) _ (u .interleaved-block .ensures)
       (sixteen list .axes-16) (sixteen list .extents-16) (sixteen list .strides-16) (few list)
 
   is-block : blockFrom (take len (numbers list)) (take len (extents list)) (take len (strides list)) ≡ blockOf (axes list)
-  is-block = block-is (axes list) (start list .pre .to-block) _ (numbers list) (extents list) (strides list) (sorted list) _ (u .up-to-last .ensures)
+  is-block = block-is (axes list) (start list .pre .to-block) _ (numbers list) (extents list) (strides list) (sorted list) _ (u .interleaved-block .ensures)
       (sixteen list .axes-16) (sixteen list .extents-16) (sixteen list .strides-16) (few list)
 
 sort-by-stride-requires : tie.Need-sort-by-stride-requires
 sort-by-stride-requires c κs = search needs
 
-up-to-last-requires : tie.Need-up-to-last-requires
-up-to-last-requires c κs =
+interleaved-block-requires : tie.Need-interleaved-block-requires
+interleaved-block-requires c κs =
     let t = c .before .before .before in (
       sorted-few (axes t) (start t .pre .to-block) (axisFrom (numbers t) (extents t) (strides t)) _ (sorted t) (few t),
       subst WithinWords (sym (sorted t)) (sorted-within (axes t) (start t .pre .to-block)),
@@ -106,7 +106,7 @@ judge-active-axes-spec =
     tie.close
     (tie.spec
     sort-by-stride-requires
-    up-to-last-requires
+    interleaved-block-requires
     array-share-prefix-sorted-axes
     slice-aggregate-judge-block
     array-share-prefix-sorted-extents

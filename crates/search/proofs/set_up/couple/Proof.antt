@@ -1,5 +1,4 @@
 -- `couple` meets its contract: the one that is solved for is set first, with the same greatest common divisor.
-use borrow.Author.Needs.{needs}
 use Rattle.search.proofs.set_up.couple.Statement.{statement}
 use Rattle.search.proofs.set_up.couple.Tie as tie
 use mathlib.Core.Path.{_∙_, subst}

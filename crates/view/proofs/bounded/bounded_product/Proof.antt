@@ -1,5 +1,4 @@
 -- Two factors below 2^32 have a product that fits a word; else a division tells.
-use native.Mathlib.Nat.{le-refl}
 use native.Mathlib.Omega.{arith}
 use borrow.Author.Needs.{needs}
 use Rattle.integer.proofs.ModularLaws.{product-fits}

@@ -1,12 +1,12 @@
--- `up_to_last`: what is covered so far says whether an axis is separated, and the last one that is not ends the block.
+-- `interleaved_block`: what is covered so far says whether an axis is separated, and the last one that is not ends the block.
 use Prim.Native.Nat.{_+_, _*_, _-_, _^_, _<_}
 use native.Mathlib.Omega.{arith}
 use borrow.Author.Tests.{ltb-true, ltb-false}
 use Rattle.injectivity.specs.Axes.{axisFrom}
 use Rattle.injectivity.proofs.CoverLaws.{Covering, cover-none, cover-near, cover-far, cover-fits, cover-all}
 use borrow.Author.Needs.{needs}
-use Rattle.injectivity.proofs.block.up_to_last.Statement.{statement}
-use Rattle.injectivity.proofs.block.up_to_last.Tie as tie
+use Rattle.injectivity.proofs.block.interleaved_block.Statement.{statement}
+use Rattle.injectivity.proofs.block.interleaved_block.Tie as tie
 
 abbrev Inv-loop : tie.InvT-loop
 Inv-loop count axes extents strides len₀ total₀ span₀ covered-total₀ covered-span₀ i₀ len total span covered-total covered-span i =
@@ -73,8 +73,8 @@ returns c =
     let v = c .before .loop .inv in
     record { to = v .len-to; axes-are = cover-all v (omega arith); total-is = v .total-is; span-is = v .span-is }
 
-pub up-to-last-spec : {M : Type 1} → statement M
-up-to-last-spec =
+pub interleaved-block-spec : {M : Type 1} → statement M
+interleaved-block-spec =
     tie.close
     (tie.spec
     Inv-loop
