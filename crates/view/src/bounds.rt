@@ -1,4 +1,5 @@
 // How far the offsets of a layout reach, and check-in by it.
+ghost use mathlib.Core.Bool.{false, not, _&&_};
 ghost use mathlib.Core.Path.{_≡_};
 ghost use Prim.Native.Nat.{_+_, _-_};
 ghost use lib.ListN.{length};
@@ -44,18 +45,22 @@ pub fn empty_layout(extents: &[u64]) -> bool
     false
 }
 
-// Whether an extent minus 1 is above 2^63 - 1.
-fn too_wide(extents: &[u64]) -> bool
-    ensures { λ r. ⌜ r ≡ some tooWideExtent (now (extents .entry)) ⌝ }
+// Whether each extent is between 1 and 2^63: the layout is not empty, and no extent minus 1 is above 2^63 - 1.
+fn ordinary(extents: &[u64]) -> bool
+    ensures { λ r. ⌜ r ≡ (not (zeroAmong (now (extents .entry))) && not (some tooWideExtent (now (extents .entry)))) ⌝ }
 {
     let mut i = 0;
     while i < extents.len() {
-        if 9223372036854775808 < extents[i] {
-            return true;
+        let extent = extents[i];
+        if extent == 0 {
+            return false;
+        }
+        if 9223372036854775808 < extent {
+            return false;
         }
         i += 1;
     }
-    false
+    true
 }
 
 // The part of an integer that is above 0: itself, or 0.
@@ -108,15 +113,12 @@ pub fn sum_spans(extents: &[u64], strides: &[i64], above: u64, below: u64) -> Sp
     Spans::Of(up, down)
 }
 
-// The reach of the layout that two lists of equal length give. The positive spans have room from the offset up to 2^63 - 1,
+// The reach of a layout that is not empty. The positive spans have room from the offset up to 2^63 - 1,
 // the negative spans from the offset down to 0.
-pub fn reach_of(len: u64, offset: ReadingOffset, extents: &[u64], strides: &[i64]) -> Reach
-    requires { ⌜ length (now extents) ≡ length (now strides) ⌝ }
+fn filled_reach(len: u64, offset: ReadingOffset, extents: &[u64], strides: &[i64]) -> Reach
+    requires { ⌜ (length (now extents) ≡ length (now strides)) × (zeroAmong (now extents) ≡ false) ⌝ }
     ensures { λ r. ⌜ r ≡ reachOf (modelFrom len (offset .0) (now (extents .entry)) (now (strides .entry))) ⌝ }
 {
-    if empty_layout(extents) {
-        return Reach::Empty;
-    }
     let start = offset.0;
     if start < 0 {
         return Reach::Outside;
@@ -135,22 +137,33 @@ pub fn reach_of(len: u64, offset: ReadingOffset, extents: &[u64], strides: &[i64
     }
 }
 
+// The reach of the layout that two lists of equal length give.
+pub fn reach_of(len: u64, offset: ReadingOffset, extents: &[u64], strides: &[i64]) -> Reach
+    requires { ⌜ length (now extents) ≡ length (now strides) ⌝ }
+    ensures { λ r. ⌜ r ≡ reachOf (modelFrom len (offset .0) (now (extents .entry)) (now (strides .entry))) ⌝ }
+{
+    if empty_layout(extents) {
+        return Reach::Empty;
+    }
+    filled_reach(len, offset, extents, strides)
+}
+
 // Check-in's refusal 3, for two lists of equal length. Where the offsets are in reach each span fits, so only a wide extent is left to test.
 pub fn bounds_refusal(len: u64, offset: ReadingOffset, extents: &[u64], strides: &[i64]) -> Answer
     requires { ⌜ length (now extents) ≡ length (now strides) ⌝ }
     ensures { λ r. ⌜ outcomeOf r ≡ bounds (modelFrom len (offset .0) (now (extents .entry)) (now (strides .entry))) ⌝ }
 {
-    let found = reach_of(len, offset, extents, strides);
-    match found {
-        Reach::Empty => Answer::Done,
-        Reach::Outside => Answer::Refused(Refusal::OutOfRange),
-        Reach::Between(_, _) => {
-            if too_wide(extents) {
-                Answer::Refused(Refusal::OutOfRange)
-            } else {
-                Answer::Done
-            }
+    if !ordinary(extents) {
+        if empty_layout(extents) {
+            return Answer::Done;
         }
+        return Answer::Refused(Refusal::OutOfRange);
+    }
+    let found = filled_reach(len, offset, extents, strides);
+    match found {
+        Reach::Outside => Answer::Refused(Refusal::OutOfRange),
+        Reach::Empty => Answer::Done,
+        Reach::Between(_, _) => Answer::Done,
     }
 }
 

@@ -1,11 +1,15 @@
 -- Within reach no span is out of range, so that of the five cases only the extent that is too wide is left to test.
-use mathlib.Core.Path.{_≡_, sym, _∙_}
-use mathlib.Core.Bool.{Bool, true, false}
+use mathlib.Core.Path.{_≡_, refl, sym, subst, _∙_}
+use mathlib.Core.Bool.{Bool, true, false, not, _&&_}
+use lib.Dec.{T, eqb}
 use borrow.Author.Needs.{needs}
+use borrow.Author.Tests.{not-true, not-false}
 use Rattle.specification.specs.Tests.{some}
+use Rattle.specification.specs.Beside.{zeroAmong}
 use Rattle.specification.specs.Axis.{isEmpty}
-use Rattle.specification.specs.Layout.{LayoutM, inReach}
+use Rattle.specification.specs.Layout.{LayoutM}
 use Rattle.specification.specs.CheckIn.{tooWide}
+use Rattle.specification.proofs.ReachLaws.{and-true}
 use Rattle.view.specs.Model.{modelFrom}
 use Rattle.view.specs.Reach.{tooWideExtent}
 use Rattle.view.proofs.SomeLaws.{some-axesOf}
@@ -14,20 +18,51 @@ use Rattle.view.proofs.bounds.bounds_refusal.Statement.{statement}
 use Rattle.view.proofs.bounds.bounds_refusal.Tie as tie
 
 -- the layout that the arguments give
-abbrev layout : tie.After-reach-of → LayoutM
-layout a = modelFrom (a .before .before .args .len) (a .before .before .args .offset .0) (a .before .before .args .extents .now) (a .before .before .args .strides .now)
+abbrev layout : tie.Start → LayoutM
+layout s = modelFrom (s .args .len) (s .args .offset .0) (s .args .extents .now) (s .args .strides .now)
 
-abbrev found : tie.After-too-wide → tie.After-reach-of
-found a = a .before .before .before
+-- the two tests, said of its axes
+zero-tested : (s : tie.Start) {t : Bool} → zeroAmong (s .args .extents .now) ≡ t → isEmpty (layout s .axes) ≡ t
+unfolding isEmpty
+zero-tested s e = some-axesOf (λ n. eqb n 0) (s .args .extents .now) (s .args .strides .now) (s .pre) ∙ e
 
-between : (a : tie.After-too-wide) → (isEmpty (layout (found a) .axes) ≡ false) × (inReach (layout (found a)) ≡ true)
-between a = between-means (layout (found a)) (sym (found a .reach-of .ensures) ∙ a .before .enum-told3 .given .1)
+wide-tested : (s : tie.Start) {t : Bool} → some tooWideExtent (s .args .extents .now) ≡ t → some tooWide (layout s .axes) ≡ t
+wide-tested s e = some-axesOf tooWideExtent (s .args .extents .now) (s .args .strides .now) (s .pre) ∙ e
 
-wide-tested : (a : tie.After-too-wide) {t : Bool} → a .too-wide .result ≡ t → some tooWide (layout (found a) .axes) ≡ t
-wide-tested a e = let s = found a .before .before in some-axesOf tooWideExtent (s .args .extents .now) (s .args .strides .now) (s .pre) ∙ sym (a .too-wide .ensures) ∙ e
+-- not ordinary and not empty: an extent is too wide
+wide-left : (zero wide : Bool) → (not zero && not wide) ≡ false → zero ≡ false → wide ≡ true
+wide-left false true e z = refl
+wide-left false false e z = absurd (subst T e tt)
+wide-left true wide e z = absurd (subst T z tt)
 
-reach-of-requires : tie.Need-reach-of-requires
-reach-of-requires c κs = search needs
+-- ordinary: no extent is 0, none too wide
+neither : (a : tie.Else1) → let es = a .before .before .before .args .extents .now in (zeroAmong es ≡ false) × (some tooWideExtent es ≡ false)
+neither a =
+    let es = a .before .before .before .args .extents .now in
+    let p = and-true (not (zeroAmong es)) (not (some tooWideExtent es)) (sym (a .before .ordinary .ensures) ∙ not-false _ (a .if1 .left)) in
+    (not-true (zeroAmong es) (p .0), not-true (some tooWideExtent es) (p .1))
+
+ordinary-requires : tie.Need-ordinary-requires
+ordinary-requires c κs = search needs
+
+empty-layout-requires : tie.Need-empty-layout-requires
+empty-layout-requires c κs = search needs
+
+returns : tie.Need-returns
+returns c =
+    let s = c .before .before .before .before .before in
+    sym (empty-bounds (layout s) (zero-tested s (sym (c .before .empty-layout .ensures) ∙ c .if2 .taken)))
+
+returns-2 : tie.Need-returns-2
+returns-2 c =
+    let n = c .before .before in
+    let s = n .before .before .before in
+    let zero = sym (c .before .empty-layout .ensures) ∙ c .if2 .left in
+    let wide = wide-left (zeroAmong (s .args .extents .now)) (some tooWideExtent (s .args .extents .now)) (sym (n .before .ordinary .ensures) ∙ not-true _ (n .if1 .taken)) zero in
+    sym (wide-bounds (layout s) (zero-tested s zero) (wide-tested s wide))
+
+filled-reach-requires : tie.Need-filled-reach-requires
+filled-reach-requires c κs = (search needs, neither c .0)
 
 enum-told : tie.Need-enum-told
 enum-told c = search needs
@@ -38,31 +73,35 @@ enum-told-2 c = search needs
 enum-told-3 : tie.Need-enum-told-3
 enum-told-3 c = search needs
 
-too-wide-requires : tie.Need-too-wide-requires
-too-wide-requires c κs = search needs
-
-returns : tie.Need-returns
-returns c = sym (empty-bounds (layout (c .before .before)) (empty-means _ (sym (c .before .before .reach-of .ensures) ∙ c .enum-told .given .1)))
-
-returns-2 : tie.Need-returns-2
-returns-2 c = sym (outside-bounds (layout (c .before .before)) (outside-means _ (sym (c .before .before .reach-of .ensures) ∙ c .enum-told2 .given .1)))
-
 returns-3 : tie.Need-returns-3
-returns-3 c = sym (wide-bounds (layout (found (c .before))) (between (c .before) .0) (wide-tested (c .before) (c .if1 .taken)))
+returns-3 c =
+    let r = c .before .before in
+    sym (outside-bounds (layout (r .before .before .before .before)) (outside-means _ (sym (r .filled-reach .ensures) ∙ c .enum-told .given .1)))
 
 returns-4 : tie.Need-returns-4
-returns-4 c = sym (narrow-bounds (layout (found (c .before))) (between (c .before) .0) (wide-tested (c .before) (c .if1 .left)) (between (c .before) .1))
+returns-4 c =
+    let r = c .before .before in
+    sym (empty-bounds (layout (r .before .before .before .before)) (empty-means _ (sym (r .filled-reach .ensures) ∙ c .enum-told2 .given .1)))
+
+returns-5 : tie.Need-returns-5
+returns-5 c =
+    let r = c .before .before in
+    let s = r .before .before .before .before in
+    let b = between-means (layout s) (sym (r .filled-reach .ensures) ∙ c .enum-told3 .given .1) in
+    sym (narrow-bounds (layout s) (b .0) (wide-tested s (neither (r .before) .1)) (b .1))
 
 pub bounds-refusal-spec : {M : Type 1} → statement M
 bounds-refusal-spec =
     tie.close
     (tie.spec
-    reach-of-requires
+    ordinary-requires
+    empty-layout-requires
+    returns
+    returns-2
+    filled-reach-requires
     enum-told
     enum-told-2
     enum-told-3
-    too-wide-requires
-    returns
-    returns-2
     returns-3
-    returns-4)
+    returns-4
+    returns-5)
