@@ -58,7 +58,14 @@ pub fn handed_refusal(layout: Layout, entries: usize) -> Answer
     if 16 < entries {
         return Answer::Refused(Refusal::TooManyAxes);
     }
-    let reach = layout_reach(layout);
+    let extents = layout.extents;
+    let strides = layout.strides;
+    let reach = reach_of(
+        layout.len,
+        layout.offset,
+        &extents[..rank],
+        &strides[..rank],
+    );
     match reach {
         Reach::Outside => Answer::Refused(Refusal::OutOfRange),
         Reach::Empty => Answer::Done,
