@@ -7,7 +7,7 @@ ghost use Rattle.specification.specs.Record.{bigEndian, twos, numberFrom};
 ghost use Rattle.record.specs.Bytes.{signedOf};
 
 // The 8 bytes of x at the front of out.
-pub fn put_u64(out: &mut [u8], x: u64)
+fn put_u64(out: &mut [u8], x: u64)
     requires { ⌜ 8 ≤ length (now out) ⌝ }
     ensures { λ _. ⌜ now (out .exit) ≡ bigEndian 8 x ++ drop 8 (now (out .entry)) ⌝ }
 {
@@ -22,7 +22,7 @@ pub fn put_u64(out: &mut [u8], x: u64)
 }
 
 // The same from a place on; the other bytes stay.
-pub fn put_u64_at(out: &mut [u8], at: usize, x: u64)
+pub(crate) fn put_u64_at(out: &mut [u8], at: usize, x: u64)
     requires { ⌜ at + 8 ≤ length (now out) ⌝ }
     ensures { λ _. ⌜ now (out .exit) ≡ take at (now (out .entry)) ++ (bigEndian 8 x ++ drop (at + 8) (now (out .entry))) ⌝ }
 {
@@ -71,7 +71,7 @@ fn u32_at(bytes: &[u8], at: usize) -> u64
 }
 
 // The number that the 8 bytes from a place on hold.
-pub fn u64_at(bytes: &[u8], at: usize) -> u64
+pub(crate) fn u64_at(bytes: &[u8], at: usize) -> u64
     requires { ⌜ at + 8 ≤ length (now bytes) ⌝ }
     ensures { λ r. ⌜ r ≡ numberFrom (now (bytes .entry)) at 8 ⌝ }
 {

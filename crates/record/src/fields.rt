@@ -52,7 +52,7 @@ fn put_axis_at(out: &mut [u8], at: usize, extent: u64, stride: i64)
 }
 
 // The record of a layout with a verdict byte at the front; the bytes past it stay.
-pub fn put_record(out: &mut [u8], layout: Layout, verdict: u8)
+pub(crate) fn put_record(out: &mut [u8], layout: Layout, verdict: u8)
     requires { ⌜ (layout .rank ≤ 16) × (recordLength (layout .rank) ≤ length (now out)) ⌝ }
     ensures { λ _. ⌜ now (out .exit) ≡ recordFields (modelOf layout) verdict ++ drop (recordLength (layout .rank)) (now (out .entry)) ⌝ }
 {

@@ -79,7 +79,7 @@ fn longest_reach(layout: Layout) -> Reach
 }
 
 // Whether the layout is a normal form of at most 2^64 - 1 positions with offsets within 0 to 2^63 - 1.
-pub fn is_normal(layout: Layout) -> bool
+pub(crate) fn is_normal(layout: Layout) -> bool
     requires { ⌜ layout .rank ≤ 16 ⌝ }
     ensures { λ r. ⌜ r ≡ isNormal (modelOf layout) ⌝ }
 {
@@ -99,7 +99,7 @@ pub fn is_normal(layout: Layout) -> bool
 }
 
 // The buffer length of such a layout: the highest offset + 1, or 0 where there is no position.
-pub fn buffer_length(layout: Layout) -> u64
+pub(crate) fn buffer_length(layout: Layout) -> u64
     requires { ⌜ (layout .rank ≤ 16) × (isNormal (modelOf layout) ≡ true) ⌝ }
     ensures { λ r. ⌜ r ≡ withBuffer (modelOf layout) .buffer ⌝ }
 {

@@ -20,7 +20,7 @@ use view::layout::Refusal;
 use view::layout::Viewed;
 
 // Whether the next stride is extent × stride. A product that 64 bits do not hold equals no stride.
-pub fn continues(extent: u64, stride: i64, next: i64) -> bool
+pub(crate) fn continues(extent: u64, stride: i64, next: i64) -> bool
     ensures { λ r. ⌜ r ≡ eqZ next (extent · stride) ⌝ }
 {
     let product = checked_mul(stride, extent);
@@ -89,7 +89,7 @@ fn empty_form(layout: Layout) -> Layout
 }
 
 // The number of positions, or that 64 bits do not hold it.
-pub fn layout_count(layout: Layout) -> Count
+pub(crate) fn layout_count(layout: Layout) -> Count
     requires { ⌜ layout .rank ≤ 16 ⌝ }
     ensures { λ r. ⌜ r ≡ countOf (modelOf layout .axes) ⌝ }
 {

@@ -11,7 +11,7 @@ pub fn wide(x: u8) -> usize
 }
 
 // The length field: the number that the first 2 bytes hold.
-pub fn length_field(bytes: &[u8]) -> usize
+pub(crate) fn length_field(bytes: &[u8]) -> usize
     requires { ⌜ 2 ≤ length (now bytes) ⌝ }
     ensures { λ r. ⌜ r ≡ numberFrom (now (bytes .entry)) 0 2 ⌝ }
 {

@@ -31,7 +31,7 @@ pub enum VerdictByte {
 }
 
 // 1 Distinct, 2 Repeated, 3 Undecided.
-pub fn verdict_byte(judged: Judgement) -> VerdictByte
+pub(crate) fn verdict_byte(judged: Judgement) -> VerdictByte
     ensures { λ r. ⌜ r ≡ bytesOf judged ⌝ }
 {
     match judged {

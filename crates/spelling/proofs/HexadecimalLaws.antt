@@ -1,12 +1,12 @@
 -- The value of a digit by range, and the bytes of the pairs by place.
 use mathlib.Core.List.{List, [], _∷_}
-use mathlib.Core.Path.{_≡_, refl}
+use mathlib.Core.Path.{_≡_, refl, sym, ap, _∙_}
 use Prim.Native.Nat.{ℕ, zero, suc, _+_, _-_, _*_, _≤_, _<_}
 use native.Mathlib.Numerals.{add-one}
 use native.Mathlib.Omega.{arith}
 use borrow.Author.Tests.{le-leb, lt-leb}
-use lib.ListN.{length, getD, take, set}
-use lib.Seq.{take-suc, take-suc-set}
+use lib.ListN.{length, getD, take, drop, set}
+use lib.Seq.{take-suc, take-suc-set, drop-cons, drop-set-lt}
 use Rattle.spelling.specs.Hexadecimal.{digitOf, byteOf, bytesOf}
 
 module _ (byte : ℕ) where
@@ -59,3 +59,12 @@ pub byte-stored : (text out : List ℕ) (i : ℕ) → 2 * i + 1 < length text �
 byte-stored text out i h o e =
     let b = byte-at text i h in
     rw (add-one, take-suc-set out i _ o, take-suc (bytesOf text) i 0 (b .0), e, b .1)
+
+-- and what is behind it stays
+pub behind-stored : (out before : List ℕ) (i v : ℕ) → i < length out → length out ≡ length before → drop i out ≡ drop i before → drop (i + 1) (set out i v) ≡ drop (i + 1) before
+behind-stored out before i v h l e =
+    rw add-one (drop-set-lt (suc i) out i v (omega arith) ∙ ap rest (sym (drop-cons out i 0 h) ∙ e ∙ drop-cons before i 0 (omega arith)))
+  where
+    rest : List ℕ → List ℕ
+    rest [] = []
+    rest (x ∷ xs) = xs

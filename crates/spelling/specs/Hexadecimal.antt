@@ -1,8 +1,10 @@
 -- Bytes written as pairs of hexadecimal digits. Assumes nothing.
 use mathlib.Core.Bool.{Bool, _&&_}
-use mathlib.Core.List.{List, [], _∷_}
-use Prim.Native.Nat.{ℕ, _+_, _-_, _*_, _%_}
+use mathlib.Core.List.{List, [], _∷_, _++_}
+use mathlib.Core.Path.{_≡_}
+use Prim.Native.Nat.{ℕ, _+_, _-_, _*_, _/_, _%_, min}
 use lib.Dec.{eqb, leb}
+use lib.ListN.{length, take, drop}
 use Rattle.specification.specs.Tests.{if_then_else_}
 
 -- from the first byte to the last
@@ -29,3 +31,8 @@ unfoldable pub bytesOf : List ℕ → List ℕ
 bytesOf [] = []
 bytesOf (high ∷ []) = []
 bytesOf (high ∷ low ∷ rest) = byteOf high low ∷ bytesOf rest
+
+-- the bytes of as many pairs as there is room for, put to the front; what is behind them stays
+pub record BytesPut (text before after : List ℕ) (count : ℕ) : Type 0 where
+  pub count-is : count ≡ min (length text / 2) (length before)
+  pub put : after ≡ take count (bytesOf text) ++ drop count before

@@ -1,14 +1,13 @@
 // Bytes written as pairs of hexadecimal digits.
 ghost use mathlib.Core.Path.{_≡_};
-ghost use Prim.Native.Nat.{_≤_};
-ghost use lib.ListN.{take};
+ghost use Prim.Native.Nat.{_≤_, min};
 ghost use Rattle.specification.specs.Tests.{some};
 ghost use Rattle.spelling.specs.Front.{Front};
-ghost use Rattle.spelling.specs.Hexadecimal.{digitOf, notHexadecimal, byteOf, bytesOf};
+ghost use Rattle.spelling.specs.Hexadecimal.{digitOf, notHexadecimal, byteOf, BytesPut};
 
 // The smaller of two numbers.
 pub fn least(a: usize, b: usize) -> usize
-    ensures { λ r. ⌜ (r ≤ a) × (r ≤ b) ⌝ }
+    ensures { λ r. ⌜ (r ≤ a) × (r ≤ b) × (r ≡ min a b) ⌝ }
 {
     if a < b { a } else { b }
 }
@@ -57,7 +56,7 @@ fn pair_value(high: u8, low: u8) -> u8
 
 // Puts the bytes that the pairs write to the front, as many as there is room for, and answers how many.
 pub fn byte_list(text: &[u8], out: &mut [u8]) -> usize
-    ensures { λ r. ⌜ Front r (now (out .exit)) × (take r (now (out .exit)) ≡ take r (bytesOf (now (text .entry)))) ⌝ }
+    ensures { λ r. ⌜ Front r (now (out .exit)) × BytesPut (now (text .entry)) (now (out .entry)) (now (out .exit)) r ⌝ }
 {
     let count = least(text.len() / 2, out.len());
     let mut i = 0;

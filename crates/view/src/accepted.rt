@@ -32,7 +32,7 @@ pub fn layout_reach(layout: Layout) -> Reach
 }
 
 // Check-in's refusal 3 of a layout.
-pub fn layout_bounds(layout: Layout) -> Answer
+pub(crate) fn layout_bounds(layout: Layout) -> Answer
     requires { ⌜ layout .rank ≤ 16 ⌝ }
     ensures { λ r. ⌜ outcomeOf r ≡ bounds (modelOf layout) ⌝ }
 {

@@ -138,7 +138,7 @@ fn filled_reach(len: u64, offset: ReadingOffset, extents: &[u64], strides: &[i64
 }
 
 // The reach of the layout that two lists of equal length give.
-pub fn reach_of(len: u64, offset: ReadingOffset, extents: &[u64], strides: &[i64]) -> Reach
+pub(crate) fn reach_of(len: u64, offset: ReadingOffset, extents: &[u64], strides: &[i64]) -> Reach
     requires { ⌜ length (now extents) ≡ length (now strides) ⌝ }
     ensures { λ r. ⌜ r ≡ reachOf (modelFrom len (offset .0) (now (extents .entry)) (now (strides .entry))) ⌝ }
 {
@@ -149,7 +149,12 @@ pub fn reach_of(len: u64, offset: ReadingOffset, extents: &[u64], strides: &[i64
 }
 
 // Check-in's refusal 3, for two lists of equal length. Where the offsets are in reach each span fits, so only a wide extent is left to test.
-pub fn bounds_refusal(len: u64, offset: ReadingOffset, extents: &[u64], strides: &[i64]) -> Answer
+pub(crate) fn bounds_refusal(
+    len: u64,
+    offset: ReadingOffset,
+    extents: &[u64],
+    strides: &[i64],
+) -> Answer
     requires { ⌜ length (now extents) ≡ length (now strides) ⌝ }
     ensures { λ r. ⌜ outcomeOf r ≡ bounds (modelFrom len (offset .0) (now (extents .entry)) (now (strides .entry))) ⌝ }
 {

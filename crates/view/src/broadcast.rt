@@ -34,7 +34,7 @@ fn stretched_stride(extent: u64, target: u64, stride: i64) -> i64
 }
 
 // The first axis whose extent is neither equal to the target nor 1.
-pub fn target_fault(l: Layout, targets: &[u64]) -> Answer
+fn target_fault(l: Layout, targets: &[u64]) -> Answer
     requires { ⌜ (l .rank ≤ 16) × (length (now targets) ≡ l .rank) ⌝ }
     ensures { λ r. ⌜ outcomeOf r ≡ targetFault 0 (modelOf l .axes) (now (targets .entry)) ⌝ }
 {
@@ -52,7 +52,7 @@ pub fn target_fault(l: Layout, targets: &[u64]) -> Answer
 }
 
 // The layout with the targets for extents.
-pub fn stretched(l: Layout, targets: &[u64]) -> Layout
+fn stretched(l: Layout, targets: &[u64]) -> Layout
     requires { ⌜ (l .rank ≤ 16) × (length (now targets) ≡ l .rank) ⌝ }
     ensures { λ r. ⌜ modelOf r ≡ withAxes (modelOf l) (spread (modelOf l .axes) (now (targets .entry))) ⌝ }
 {

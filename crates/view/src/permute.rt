@@ -14,7 +14,7 @@ use crate::layout::Refusal;
 use crate::layout::Viewed;
 
 // The first entry that is outside the rank, or was named before: a mask has the axes named so far.
-pub fn order_fault(order: &[usize], rank: usize) -> Answer
+fn order_fault(order: &[usize], rank: usize) -> Answer
     requires { ⌜ rank ≤ 16 ⌝ }
     ensures { λ r. ⌜ outcomeOf r ≡ orderFault rank [] (now (order .entry)) ⌝ }
 {
@@ -35,7 +35,7 @@ pub fn order_fault(order: &[usize], rank: usize) -> Answer
 }
 
 // The axes in the order of the list, whose entries are below the rank.
-pub fn reordered(l: Layout, order: &[usize]) -> Layout
+fn reordered(l: Layout, order: &[usize]) -> Layout
     requires { ⌜ (l .rank ≤ 16) × (length (now order) ≡ l .rank) × AllBelow (l .rank) (now order) ⌝ }
     ensures { λ r. ⌜ modelOf r ≡ withAxes (modelOf l) (map (axisAt (modelOf l .axes)) (now (order .entry))) ⌝ }
 {
