@@ -1,68 +1,59 @@
--- `target_fault` is the first fault: from each axis on it is the whole.
-use mathlib.Core.Path.{_≡_, refl, sym, _∙_}
-use Prim.Native.Nat.{_≤_, _<_, _-_}
-use native.Mathlib.Omega.{arith}
-use lib.ListN.{length, drop}
-use Rattle.specification.specs.Views.{targetFault}
-use Rattle.view.specs.Model.{modelOf}
-use Rattle.view.proofs.ModelLaws.{axisAt-axesIn, length-axesIn}
-use Rattle.view.proofs.TargetLaws.{fault-here, fault-later, fault-none}
 use borrow.Author.Needs.{needs}
 use Rattle.view.proofs.broadcast.target_fault.Statement.{statement}
 use Rattle.view.proofs.broadcast.target_fault.Tie as tie
+use Rattle.view.proofs.broadcast.target_fault.Reads as reads
+use Rattle.view.proofs.broadcast.target_fault.Lts as lts
+use Rattle.view.proofs.broadcast.stretches.Reads as stretches-reads
 
 abbrev Inv-loop : tie.InvT-loop
-Inv-loop targets l i₀ i = (i ≤ length targets) × (targetFault 0 (modelOf l .axes) targets ≡ targetFault i (drop i (modelOf l .axes)) (drop i targets))
+Inv-loop extents targets i₀ i = ?
 
 abbrev μ-loop : tie.MeasureT-loop
-μ-loop targets l i₀ i = length targets - i
+μ-loop extents targets i₀ i = ?
 
+-- src/broadcast.rt:47:5
 loop-holds : tie.Need-loop-holds Inv-loop μ-loop
-loop-holds c = (search needs, refl)
+loop-holds c = search needs
 
-mul-extent : tie.Need-mul-extent Inv-loop μ-loop
-mul-extent c = search needs
+-- src/broadcast.rt:48:22
+mul-stretches : tie.Need-mul-stretches Inv-loop μ-loop
+mul-stretches c = search needs
 
-element-copy-out-extent : tie.Need-element-copy-out-extent Inv-loop μ-loop
-element-copy-out-extent c = search needs
+-- src/broadcast.rt:48:22
+shared-slice-read-stretches : tie.Need-shared-slice-read-stretches Inv-loop μ-loop
+shared-slice-read-stretches c = search needs
 
-mul-target : tie.Need-mul-target Inv-loop μ-loop
-mul-target c = search needs
+-- src/broadcast.rt:48:34
+mul-stretches-2 : tie.Need-mul-stretches-2 Inv-loop μ-loop
+mul-stretches-2 c = search needs
 
-shared-slice-read-target : tie.Need-shared-slice-read-target Inv-loop μ-loop
-shared-slice-read-target c = search needs
+-- src/broadcast.rt:48:34
+shared-slice-read-stretches-2 : tie.Need-shared-slice-read-stretches-2 Inv-loop μ-loop
+shared-slice-read-stretches-2 c = search needs
 
+-- src/broadcast.rt:48:12
 stretches-requires : tie.Need-stretches-requires Inv-loop μ-loop
 stretches-requires c κs = search needs
 
+-- src/broadcast.rt:49:13
 add-i : tie.Need-add-i Inv-loop μ-loop
 add-i c = search needs
 
+-- src/broadcast.rt:47:5
 loop-less : tie.Need-loop-less Inv-loop μ-loop
 loop-less c = search needs
 
+-- src/broadcast.rt:47:5
 loop-again : tie.Need-loop-again Inv-loop μ-loop
-loop-again c =
-    let l = c .before .before .before .before .before .loop in
-    let s = c .before .before .before .before .before .before .before in
-    let h : l .i < s .args .t1 .rank = omega arith in (
-      search needs,
-      l .inv .1 ∙ fault-later (modelOf (s .args .t1) .axes) (s .args .targets .now) (l .i) (omega (arith, length-axesIn (s .args .t1 .extents) (s .args .t1 .strides) (s .args .t1 .rank))) (omega arith)
-          (rw (axisAt-axesIn (s .args .t1 .extents) (s .args .t1 .strides) (s .args .t1 .rank) (l .i) h) (sym (c .before .stretches .ensures) ∙ c .if1 .taken)),
-    )
+loop-again c = search needs
 
+-- src/broadcast.rt:51:13
 returns : tie.Need-returns Inv-loop μ-loop
-returns c =
-    let l = c .before .before .before .before .before .loop in
-    let s = c .before .before .before .before .before .before .before in
-    let h : l .i < s .args .t1 .rank = omega arith in
-    sym (l .inv .1 ∙ fault-here (modelOf (s .args .t1) .axes) (s .args .targets .now) (l .i) (omega (arith, length-axesIn (s .args .t1 .extents) (s .args .t1 .strides) (s .args .t1 .rank))) (omega arith)
-    (rw (axisAt-axesIn (s .args .t1 .extents) (s .args .t1 .strides) (s .args .t1 .rank) (l .i) h) (sym (c .before .stretches .ensures) ∙ c .if1 .left)))
+returns c = search needs
 
+-- src/broadcast.rt:42:1
 returns-2 : tie.Need-returns-2 Inv-loop μ-loop
-returns-2 c =
-    let s = c .before .before .before in
-    sym (c .before .loop .inv .1 ∙ fault-none (modelOf (s .args .t1) .axes) (s .args .targets .now) (c .before .loop .i) (c .before .loop .i) (omega arith) (omega (arith, length-axesIn (s .args .t1 .extents) (s .args .t1 .strides) (s .args .t1 .rank))))
+returns-2 c = search needs
 
 pub target-fault-spec : {M : Type 1} → statement M
 target-fault-spec =
@@ -71,10 +62,10 @@ target-fault-spec =
     Inv-loop
     μ-loop
     loop-holds
-    mul-extent
-    element-copy-out-extent
-    mul-target
-    shared-slice-read-target
+    mul-stretches
+    shared-slice-read-stretches
+    mul-stretches-2
+    shared-slice-read-stretches-2
     stretches-requires
     add-i
     loop-less
