@@ -36,7 +36,7 @@ length-axesIn es ss n = length-table (axisOf es ss) n
 pub drop-axesIn : (es : List ℕ) (ss : List ℤ) (n i : ℕ) → i < n → drop i (axesIn es ss n) ≡ axisOf es ss i ∷ drop (i + 1) (axesIn es ss n)
 drop-axesIn es ss n i h = drop-table (axisOf es ss) n i h
 
-length-axesOf : (es : List ℕ) (ss : List ℤ) → length es ≡ length ss → length (axesOf es ss) ≡ length es
+pub length-axesOf : (es : List ℕ) (ss : List ℤ) → length es ≡ length ss → length (axesOf es ss) ≡ length es
 unfolding axesOf
 length-axesOf [] ss h = refl
 length-axesOf (e ∷ es) [] h = absurd (omega arith)
