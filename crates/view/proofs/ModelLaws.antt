@@ -43,7 +43,7 @@ length-axesOf (e ∷ es) [] h = absurd (omega arith)
 length-axesOf (e ∷ es) (s ∷ ss) h = let r = length-axesOf es ss (omega arith) in omega arith
 
 -- axis i of two lists that are equally long
-axisAt-axesOf : (es : List ℕ) (ss : List ℤ) (i : ℕ) → length es ≡ length ss → i < length es → axisAt (axesOf es ss) i ≡ axisOf es ss i
+pub axisAt-axesOf : (es : List ℕ) (ss : List ℤ) (i : ℕ) → length es ≡ length ss → i < length es → axisAt (axesOf es ss) i ≡ axisOf es ss i
 unfolding axesOf
 axisAt-axesOf [] ss i h k = absurd (omega arith)
 axisAt-axesOf (e ∷ es) [] i h k = absurd (omega arith)

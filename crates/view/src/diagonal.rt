@@ -54,6 +54,7 @@ fn least(a: u64, b: u64) -> u64
 
 // Each axis whose root is `from` gets the root `to`.
 fn relabel(roots: &mut [usize; 16], from: usize, to: usize)
+    requires { ⌜ length (now roots) ≡ 16 ⌝ }
     ensures { λ _. ⌜ now (roots .exit) ≡ map (renamed from to) (now (roots .entry)) ⌝ }
 {
     let mut axis = 0;
@@ -105,8 +106,8 @@ pub(crate) fn tie_pair(
     a: usize,
     b: usize,
 ) -> Answer
-    requires { ⌜ rank ≤ 16 ⌝ }
-    ensures { λ r. ⌜ ((pairs : List (ℕ × ℕ)) → TiesOf rank pairs (tiesIn (now (roots .entry)) rank earlier) → TiesOf rank (pairs ++ ((a, b) ∷ [])) (tiesIn (now (roots .exit)) rank r)) ⌝ }
+    requires { ⌜ (rank ≤ 16) × (length (now roots) ≡ 16) ⌝ }
+    ensures { λ r. ⌜ (length (now (roots .exit)) ≡ 16) × ((pairs : List (ℕ × ℕ)) → TiesOf rank pairs (tiesIn (now (roots .entry)) rank earlier) → TiesOf rank (pairs ++ ((a, b) ∷ [])) (tiesIn (now (roots .exit)) rank r)) ⌝ }
 {
     if let Answer::Refused(why) = earlier {
         return Answer::Refused(why);
@@ -134,8 +135,8 @@ fn fuse(
     numbers: &mut [u64; 16],
     steps: &mut [i64; 16],
 ) -> bool
-    requires { ⌜ (length (now extents) ≡ length (now strides)) × (mask ≡ maskOf (now roots) (length (now extents))) × SomeTies (length (now extents)) (tiesIn (now roots) (length (now extents)) Answer.Done) ⌝ }
-    ensures { λ r. ⌜ ((pairs : List (ℕ × ℕ)) → TiesOf (length (now (extents .entry))) pairs (tiesIn (now (roots .entry)) (length (now (extents .entry))) Answer.Done)
+    requires { ⌜ (length (now extents) ≡ length (now strides)) × (length (now numbers) ≡ 16) × (length (now steps) ≡ 16) × (mask ≡ maskOf (now roots) (length (now extents))) × SomeTies (length (now extents)) (tiesIn (now roots) (length (now extents)) Answer.Done) ⌝ }
+    ensures { λ r. ⌜ (length (now (numbers .exit)) ≡ 16) × (length (now (steps .exit)) ≡ 16) × ((pairs : List (ℕ × ℕ)) → TiesOf (length (now (extents .entry))) pairs (tiesIn (now (roots .entry)) (length (now (extents .entry))) Answer.Done)
         → (l : LayoutM) → l .axes ≡ axesOf (now (extents .entry)) (now (strides .entry)) → FusedInto l pairs (ones mask) (now (numbers .exit)) (now (steps .exit)) r) ⌝ }
 {
     let mut axis = 0;

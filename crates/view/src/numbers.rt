@@ -19,7 +19,7 @@ use crate::layout::Viewed;
 
 // The ties of all pairs, in axes that are untied yet. Two numbers are a pair; an odd last one is passed over.
 fn tie_numbers(roots: &mut [usize; 16], rank: usize, numbers: &[usize]) -> Answer
-    requires { ⌜ TiesOf rank [] (tiesIn (now roots) rank Answer.Done) ⌝ }
+    requires { ⌜ (length (now roots) ≡ 16) × TiesOf rank [] (tiesIn (now roots) rank Answer.Done) ⌝ }
     ensures { λ r. ⌜ TiesOf rank (pairsOf (now (numbers .entry))) (tiesIn (now (roots .exit)) rank r) ⌝ }
 {
     let count = numbers.len() / 2;

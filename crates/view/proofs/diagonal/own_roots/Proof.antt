@@ -1,12 +1,13 @@
-use borrow.Author.Needs.{needs}
+-- The roots are 0, 1, .. 15.
+use mathlib.Core.Path.{refl}
+use Rattle.specification.specs.Tests.{upFrom}
+use Rattle.view.proofs.TieLaws.{ties-none}
 use Rattle.view.proofs.diagonal.own_roots.Statement.{statement}
 use Rattle.view.proofs.diagonal.own_roots.Tie as tie
-use Rattle.view.proofs.diagonal.own_roots.Reads as reads
-use Rattle.view.proofs.diagonal.own_roots.Lts as lts
 
--- src/diagonal.rt:93:1
 returns : tie.Need-returns
-returns c = search needs
+unfolding upFrom
+returns c rank few = ties-none rank _ few refl refl refl
 
 pub own-roots-spec : {M : Type 1} → statement M
 own-roots-spec = tie.close (tie.spec returns)

@@ -1,50 +1,54 @@
+-- `root_mask`: the mask so far is that of the axes passed.
+use mathlib.Core.Path.{_≡_, ap, _∙_}
+use mathlib.Core.Logic.{⊎-elim}
+use Prim.Native.Nat.{_≤_, _-_}
+use native.Mathlib.Nat.{le-antisymm}
+use native.Mathlib.Omega.{arith}
+use Rattle.view.specs.Ties.{maskOf}
+use Rattle.view.proofs.RootLaws.{mask-set, mask-clear}
 use borrow.Author.Needs.{needs}
 use Rattle.view.proofs.diagonal.root_mask.Statement.{statement}
 use Rattle.view.proofs.diagonal.root_mask.Tie as tie
-use Rattle.view.proofs.diagonal.root_mask.Reads as reads
-use Rattle.view.proofs.diagonal.root_mask.Lts as lts
 
 abbrev Inv-loop : tie.InvT-loop
-Inv-loop roots rank mask₀ axis₀ mask axis = ?
+Inv-loop roots rank mask₀ axis₀ mask axis = (axis ≤ rank) × (mask ≡ maskOf roots axis)
 
 abbrev μ-loop : tie.MeasureT-loop
-μ-loop roots rank mask₀ axis₀ mask axis = ?
+μ-loop roots rank mask₀ axis₀ mask axis = rank - axis
 
--- src/diagonal.rt:75:5
 loop-holds : tie.Need-loop-holds Inv-loop μ-loop
+unfolding maskOf
 loop-holds c = search needs
 
--- src/diagonal.rt:76:12
 mul-if1 : tie.Need-mul-if1 Inv-loop μ-loop
 mul-if1 c = search needs
 
--- src/diagonal.rt:76:12
 element-copy-out-if1 : tie.Need-element-copy-out-if1 Inv-loop μ-loop
 element-copy-out-if1 c = search needs
 
--- src/diagonal.rt:77:33
 cast-mask : tie.Need-cast-mask Inv-loop μ-loop
 cast-mask c = search needs
 
--- src/diagonal.rt:77:28
 shl-mask : tie.Need-shl-mask Inv-loop μ-loop
 shl-mask c = search needs
 
--- src/diagonal.rt:79:9
 add-axis : tie.Need-add-axis Inv-loop μ-loop
 add-axis c = search needs
 
--- src/diagonal.rt:75:5
 loop-less : tie.Need-loop-less Inv-loop μ-loop
 loop-less c = search needs
 
--- src/diagonal.rt:75:5
 loop-again : tie.Need-loop-again Inv-loop μ-loop
-loop-again c = search needs
+loop-again c =
+    let l = c .before .before .before .loop in
+    let roots = c .before .before .before .before .args .roots .now in
+    ⊎-elim
+    (λ w. (omega arith, w .1 ∙ mask-set roots (l .axis) (l .mask) (omega arith) (w .0 .taken) (l .inv .1)))
+    (λ w. (omega arith, w .1 ∙ l .inv .1 ∙ mask-clear roots (l .axis) (w .0 .left)))
+    (c .if1 .came)
 
--- src/diagonal.rt:69:1
 returns : tie.Need-returns Inv-loop μ-loop
-returns c = search needs
+returns c = c .before .loop .inv .1 ∙ ap (maskOf _) (le-antisymm (c .before .loop .inv .0) (c .loop-test .left))
 
 pub root-mask-spec : {M : Type 1} → statement M
 root-mask-spec =
