@@ -1,6 +1,6 @@
 -- A view of a layout in place, in the first entries of its arrays, is the view of the layout.
 use mathlib.Core.List.{List, [], _++_}
-use mathlib.Core.Path.{_≡_, sym, ap, _∙_}
+use mathlib.Core.Path.{_≡_}
 use Prim.Native.Nat.{ℕ, _≤_, _<_}
 use native.Mathlib.Omega.{arith}
 use lib.IntN.{ℤ, pos}
