@@ -40,14 +40,14 @@ axisOf-front es es′ ss ss′ i h k = rw (List·getD-append es es′ 0 i h, Lis
 pub drop-axesIn : (es : List ℕ) (ss : List ℤ) (n i : ℕ) → i < n → drop i (axesIn es ss n) ≡ axisOf es ss i ∷ drop (i + 1) (axesIn es ss n)
 drop-axesIn es ss n i h = drop-table (axisOf es ss) n i h
 
-length-axesOf : (es : List ℕ) (ss : List ℤ) → length es ≡ length ss → length (axesOf es ss) ≡ length es
+pub length-axesOf : (es : List ℕ) (ss : List ℤ) → length es ≡ length ss → length (axesOf es ss) ≡ length es
 unfolding axesOf
 length-axesOf [] ss h = refl
 length-axesOf (e ∷ es) [] h = absurd (omega arith)
 length-axesOf (e ∷ es) (s ∷ ss) h = let r = length-axesOf es ss (omega arith) in omega arith
 
 -- axis i of two lists that are equally long
-axisAt-axesOf : (es : List ℕ) (ss : List ℤ) (i : ℕ) → length es ≡ length ss → i < length es → axisAt (axesOf es ss) i ≡ axisOf es ss i
+pub axisAt-axesOf : (es : List ℕ) (ss : List ℤ) (i : ℕ) → length es ≡ length ss → i < length es → axisAt (axesOf es ss) i ≡ axisOf es ss i
 unfolding axesOf
 axisAt-axesOf [] ss i h k = absurd (omega arith)
 axisAt-axesOf (e ∷ es) [] i h k = absurd (omega arith)

@@ -34,7 +34,7 @@ fn bounded_by_division(a: u64, b: u64, limit: u64) -> Bounded
 
 // a * b of two numbers below 2^32, where that is at most the limit; else nothing is said.
 pub(crate) fn small_product(a: u64, b: u64, limit: u64) -> Bounded
-    ensures { λ r. ⌜ ((n : ℕ) → r ≡ Bounded.Is n → (n ≡ a * b) × (n ≤ limit)) ⌝ }
+    ensures { λ r. ⌜ ((n : ℕ) → r ≡ Bounded.Is n → (n ≡ a * b) × (a * b ≤ limit) × (a ≤ 4294967295)) ⌝ }
 {
     if 0xffff_ffff < a {
         return Bounded::Over;
