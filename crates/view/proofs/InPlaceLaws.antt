@@ -3,8 +3,8 @@ use mathlib.Core.List.{List, [], _++_}
 use mathlib.Core.Path.{_≡_}
 use Prim.Native.Nat.{ℕ, _≤_, _<_}
 use native.Mathlib.Omega.{arith}
-use lib.IntN.{ℤ, pos}
-use lib.ListN.{length, take, drop, List·getD-append}
+use lib.IntN.{ℤ}
+use lib.ListN.{length, take, drop}
 use Rattle.lists.proofs.TableLaws.{table-ext}
 use Rattle.specification.specs.Outcome.{Check, refused, _>>_}
 use Rattle.specification.specs.Layout.{LayoutM, handed}
@@ -16,12 +16,12 @@ use Rattle.view.specs.declared.layout.RankAfter.{RankAfter}
 use Rattle.view.specs.declared.layout.RankAfter.the-variants.{Is, Refused}
 use Rattle.view.proofs.HandedLaws.{handed-many-axes}
 use Rattle.view.proofs.ListedLaws.{rank-modelOf}
-use Rattle.view.proofs.ModelLaws.{axesOf-take}
+use Rattle.view.proofs.ModelLaws.{axisOf-front, axesOf-take}
 
 -- what is behind the first axes does not matter to them
 axesIn-front : (es es' : List ℕ) (ss ss' : List ℤ) (n : ℕ) → n ≤ length es → n ≤ length ss → axesIn (es ++ es') (ss ++ ss') n ≡ axesIn es ss n
 axesIn-front es es' ss ss' n h k = table-ext (axisOf (es ++ es') (ss ++ ss')) (axisOf es ss) n
-    (λ i l. rw (List·getD-append es es' 0 i (omega arith), List·getD-append ss ss' (pos 0) i (omega arith)))
+    (λ i l. axisOf-front es es' ss ss' i (omega arith) (omega arith))
 
 -- a layout of more than 16 axes is refused by each view
 pub too-many-axes : (l : Layout) (list : List ℕ) (next : Check) (new : LayoutM) → 16 < l .rank

@@ -3,7 +3,6 @@ use mathlib.Core.Path.{_≡_}
 use mathlib.Core.Bool.{not}
 use mathlib.Core.List.{List}
 use Prim.Native.Nat.{ℕ, _≤_}
-use native.Mathlib.Omega.{arith}
 use lib.Dec.{eqb}
 use lib.ListN.{length}
 use borrow.Author.Tests.{eq-eqb, ne-eqb, eqb-true}
@@ -19,9 +18,6 @@ use Rattle.view.proofs.ModelLaws.{length-axesIn}
 -- the rank of the model is the layout's
 pub rank-modelOf : (l : Layout) → rank (modelOf l) ≡ l .rank
 rank-modelOf l = length-axesIn (l .extents) (l .strides) (l .rank)
-
-pub handed-rank : (l : Layout) (list : List ℕ) → handed (modelOf l) list ≡ pass → l .rank ≤ 16
-handed-rank l list e = omega (arith, handed-passed (modelOf l) list e .0, rank-modelOf l)
 
 module _ (l : LayoutM) (list values : List ℕ) (next : Check) where
   -- the chain of rules

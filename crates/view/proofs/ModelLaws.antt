@@ -33,8 +33,8 @@ pub length-axesIn : (es : List ℕ) (ss : List ℤ) (n : ℕ) → length (axesIn
 length-axesIn es ss n = length-table (axisOf es ss) n
 
 -- entries behind leave an axis
-pub axisOf-front : (es es′ : List ℕ) (ss ss′ : List ℤ) (i : ℕ) → i < length es → i < length ss → axisOf (es ++ es′) (ss ++ ss′) i ≡ axisOf es ss i
-axisOf-front es es′ ss ss′ i h k = rw (List·getD-append es es′ 0 i h, List·getD-append ss ss′ (pos 0) i k)
+pub axisOf-front : (es es' : List ℕ) (ss ss' : List ℤ) (i : ℕ) → i < length es → i < length ss → axisOf (es ++ es') (ss ++ ss') i ≡ axisOf es ss i
+axisOf-front es es' ss ss' i h k = rw (List·getD-append es es' 0 i h, List·getD-append ss ss' (pos 0) i k)
 
 -- from axis i on
 pub drop-axesIn : (es : List ℕ) (ss : List ℤ) (n i : ℕ) → i < n → drop i (axesIn es ss n) ≡ axisOf es ss i ∷ drop (i + 1) (axesIn es ss n)
