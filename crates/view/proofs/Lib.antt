@@ -22,3 +22,4 @@ pub mod ClassLaws
 pub mod StrideSumLaws
 pub mod FusedLaws
 pub mod DiagonalLaws
+pub mod InPlaceLaws

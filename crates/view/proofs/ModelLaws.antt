@@ -4,7 +4,7 @@ use mathlib.Core.List.{List, [], _∷_, _++_}
 use Prim.Native.Nat.{ℕ, zero, suc, _+_, _≤_, _<_}
 use native.Mathlib.Omega.{arith}
 use lib.IntN.{ℤ, pos}
-use lib.ListN.{length, take, drop, set}
+use lib.ListN.{length, take, drop, set, List·getD-append}
 use lib.Seq.{getD-set-same, getD-set-other, getD-take, ext-getD, length-take-le}
 use Rattle.lists.proofs.TableLaws.{table-ext, table-snoc, table-suc, getD-table, drop-table, length-table}
 use Rattle.specification.specs.Axis.{axesOf}
@@ -31,6 +31,10 @@ axisAt-axesIn es ss n i h = getD-table (axisOf es ss) n i _ h
 
 pub length-axesIn : (es : List ℕ) (ss : List ℤ) (n : ℕ) → length (axesIn es ss n) ≡ n
 length-axesIn es ss n = length-table (axisOf es ss) n
+
+-- entries behind leave an axis
+pub axisOf-front : (es es' : List ℕ) (ss ss' : List ℤ) (i : ℕ) → i < length es → i < length ss → axisOf (es ++ es') (ss ++ ss') i ≡ axisOf es ss i
+axisOf-front es es' ss ss' i h k = rw (List·getD-append es es' 0 i h, List·getD-append ss ss' (pos 0) i k)
 
 -- from axis i on
 pub drop-axesIn : (es : List ℕ) (ss : List ℤ) (n i : ℕ) → i < n → drop i (axesIn es ss n) ≡ axisOf es ss i ∷ drop (i + 1) (axesIn es ss n)
