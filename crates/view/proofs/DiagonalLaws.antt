@@ -79,7 +79,7 @@ module _ (l : LayoutM) (pairs : List (ℕ × ℕ)) where
     pair-refused e = rw (first, e)
 
     module _ (second : pairFault (rank l) pairs ≡ pass) where
-      pub sum-refused : {number : ℕ} {values : List ℕ} → sums ≡ refused number values → diagonalView l pairs ≡ unlessRefused l sums new
+      pub sum-refused : {number : ℕ} {values : List ℕ} → sums ≡ refused number values → diagonalView l pairs ≡ stays number values
       unfolding diagonalView unlessRefused _>>_
       sum-refused e = rw (first, second, e)
 
@@ -87,6 +87,6 @@ module _ (l : LayoutM) (pairs : List (ℕ × ℕ)) where
       unfolding diagonalView unlessRefused _>>_
       bounds-refused third e = rw (first, second, third, e)
 
-      pub none-refused : sums ≡ pass → bounds new ≡ pass → diagonalView l pairs ≡ unlessRefused l sums new
+      pub none-refused : sums ≡ pass → bounds new ≡ pass → diagonalView l pairs ≡ record { answer = pass; layout = new }
       unfolding diagonalView unlessRefused _>>_
       none-refused third e = rw (first, second, third, e)
