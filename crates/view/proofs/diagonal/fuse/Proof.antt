@@ -11,11 +11,10 @@ use mir.Val.{SFits}
 use mir.ValLaws.{toZ-ofZ}
 use Rattle.integer.specs.Range.{checkedOf}
 use Rattle.integer.proofs.CheckedLaws.{fits-of-sfits, fits-arm, over-arm, checked-add-is}
-use Rattle.specification.specs.Axis.{Axis, axesOf}
+use Rattle.specification.specs.Axis.{axesOf}
 use Rattle.specification.specs.Layout.{LayoutM, rank}
 use Rattle.specification.specs.Outcome.{refused, pass}
 use Rattle.specification.specs.Views.{axisAt, kept, sumFaults, diagonalAxes}
-use Rattle.view.specs.Answers.{outcomeOf}
 use Rattle.view.specs.Model.{axesIn, axisOf}
 use Rattle.view.specs.Ties.{rootAt, isRoot, tiesIn, TiesOf}
 use Rattle.view.specs.declared.layout.Answer.the-variants.{Done}
@@ -118,9 +117,10 @@ module _ (s : tie.Start Inv-loop μ-loop) (pairs : List (ℕ × ℕ)) (of : Ties
   held : {numbers : List ℕ} {steps : List ℤ} → Stored (axesOf (es s) (ss s)) (roots s) (length (es s)) numbers steps
       → (sumFaults m pairs (kept pairs (rank m)) ≡ pass) × (axesIn numbers steps (ones (s .args .mask)) ≡ diagonalAxes m pairs)
   held {numbers} {steps} stored =
-      let now-stored : Stored (m .axes) (roots s) (rank m) numbers steps = rw (size, same) stored in
-      (sums-none m of-model (sym (of-model .answer-is)) now-stored,
-      ap (axesIn numbers steps) (ap ones (s .pre .3) ∙ mask-ones (roots s) (length (es s)) ∙ ap (count (isRoot (roots s))) (sym size)) ∙ axes-stored m of-model (sym (of-model .answer-is)) now-stored)
+      let now-stored : Stored (m .axes) (roots s) (rank m) numbers steps = rw (size, same) stored in (
+        sums-none m of-model (sym (of-model .answer-is)) now-stored,
+        ap (axesIn numbers steps) (ap ones (s .pre .3) ∙ mask-ones (roots s) (length (es s)) ∙ ap (count (isRoot (roots s))) (sym size)) ∙ axes-stored m of-model (sym (of-model .answer-is)) now-stored,
+      )
 
 loop-holds : tie.Need-loop-holds Inv-loop μ-loop
 loop-holds c = (search needs, c .before .pre .1, c .before .pre .2, stored-none _ _ _ _)
