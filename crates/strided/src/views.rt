@@ -145,7 +145,13 @@ pub extern "C" fn strided_diagonal_view(
     let offset = ReadingOffset(steps[0]);
     let end = rank + 2;
     let last = rank + 1;
-    let after = diagonal_in_place(len, offset, &mut numbers[2..end], &mut steps[1..last], pairs);
+    let after = diagonal_in_place(
+        len,
+        offset,
+        &mut numbers[2..end],
+        &mut steps[1..last],
+        pairs,
+    );
     answer_in_place(after, numbers, values)
 }
 
@@ -170,7 +176,13 @@ pub extern "C" fn strided_broadcast(
     let offset = ReadingOffset(steps[0]);
     let end = rank + 2;
     let last = rank + 1;
-    let after = broadcast_in_place(len, offset, &mut numbers[2..end], &mut steps[1..last], extents);
+    let after = broadcast_in_place(
+        len,
+        offset,
+        &mut numbers[2..end],
+        &mut steps[1..last],
+        extents,
+    );
     answer_in_place(after, numbers, values)
 }
 
