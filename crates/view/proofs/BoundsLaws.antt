@@ -44,7 +44,7 @@ module _ (l : LayoutM) (e : isEmpty (l .axes) ≡ false) where
   unfolding inReach
   within-reach w = rw (e, le-leZ (pos 0) (lowest l) (omega (arith, w .w-low)), le-leZ (highest l) (pos mostSigned) (omega (arith, w .w-most)), lt-ltZ (highest l) (pos (l .buffer)) (omega (arith, w .w-in)))
 
-  pub reach-within : inReach l ≡ true → Within l
+  reach-within : inReach l ≡ true → Within l
   unfolding inReach
   reach-within r =
       let q = rw e at r in

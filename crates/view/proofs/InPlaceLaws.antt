@@ -16,7 +16,7 @@ use Rattle.view.specs.declared.layout.RankAfter.{RankAfter}
 use Rattle.view.specs.declared.layout.RankAfter.the-variants.{Is, Refused}
 use Rattle.view.proofs.HandedLaws.{handed-many-axes}
 use Rattle.view.proofs.ListedLaws.{rank-modelOf}
-use Rattle.view.proofs.ModelLaws.{axisOf-front, axesOf-take}
+use Rattle.view.proofs.ModelLaws.{Lent, axisOf-front}
 
 -- what is behind the first axes does not matter to them
 axesIn-front : (es es' : List ℕ) (ss ss' : List ℤ) (n : ℕ) → n ≤ length es → n ≤ length ss → axesIn (es ++ es') (ss ++ ss') n ≡ axesIn es ss n
@@ -31,9 +31,9 @@ too-many-axes l list next new h = rw (handed-many-axes (modelOf l) list (omega (
 
 module _ (l : Layout) (view : LayoutM → After) (es : List ℕ) (ss : List ℤ) where
   -- the first entries of the arrays were lent, and came back as two other lists
-  pub left-in-arrays : (told : RankAfter) → l .rank ≤ length (l .extents) → l .rank ≤ length (l .strides) → length es ≡ length ss
+  pub left-in-arrays : (told : RankAfter) → Lent l → length es ≡ length (take (l .rank) (l .extents)) → length ss ≡ length (take (l .rank) (l .strides))
       → LeftInPlace (l .len) (l .offset .0) (take (l .rank) (l .extents)) (take (l .rank) (l .strides)) es ss told (view (modelFrom (l .len) (l .offset .0) (take (l .rank) (l .extents)) (take (l .rank) (l .strides))))
       → afterIn (modelOf l) (es ++ drop (l .rank) (l .extents)) (ss ++ drop (l .rank) (l .strides)) told ≡ view (modelOf l)
-  left-in-arrays (Is rank) h k e left =
-      rw (axesIn-front es (drop (l .rank) (l .extents)) ss (drop (l .rank) (l .strides)) rank (left .kept-in) (omega (arith, left .kept-in)), ← axesOf-take (l .extents) (l .strides) (l .rank) h k) (left .after-is)
-  left-in-arrays (Refused why) h k e left = rw (← axesOf-take (l .extents) (l .strides) (l .rank) h k) (left .after-is)
+  left-in-arrays (Is rank) lent h k left =
+      rw (axesIn-front es (drop (l .rank) (l .extents)) ss (drop (l .rank) (l .strides)) rank (left .kept-in) (omega (arith, left .kept-in, lent .alike)), ← lent .axes-are) (left .after-is)
+  left-in-arrays (Refused why) lent h k left = rw (← lent .axes-are) (left .after-is)

@@ -21,7 +21,7 @@ rank-modelOf l = length-axesIn (l .extents) (l .strides) (l .rank)
 
 module _ (l : LayoutM) (list values : List ℕ) (next : Check) where
   -- the chain of rules
-  abbrev pub listed : Check
+  abbrev listed : Check
   listed = handed l list >> (refuseIf (not (eqb (length list) (rank l))) 4 values >> next)
 
   pub listed-refused : {number : ℕ} {given : List ℕ} → handed l list ≡ refused number given → listed ≡ refused number given

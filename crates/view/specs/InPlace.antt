@@ -18,7 +18,7 @@ afterIn old extents strides (Is rank) = record { answer = pass; layout = withAxe
 afterIn old extents strides (Refused why) = record { answer = refused (numberOf why) (valuesOf why); layout = old }
 
 -- the lists have room for the rank; after a refusal they are as they were
-abbrev pub KeptIn : RankAfter → List ℕ → List ℤ → List ℕ → List ℤ → Type 0
+abbrev KeptIn : RankAfter → List ℕ → List ℤ → List ℕ → List ℤ → Type 0
 KeptIn (Is rank) extents strides extents-then strides-then = rank ≤ length extents-then
 KeptIn (Refused why) extents strides extents-then strides-then = (extents-then ≡ extents) × (strides-then ≡ strides)
 

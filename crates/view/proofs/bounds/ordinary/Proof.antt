@@ -1,8 +1,7 @@
 -- What was passed is neither 0 nor too wide, so the answer is that of the extents still left.
-use mathlib.Core.Path.{_≡_, sym, ap, _∙_}
-use mathlib.Core.Bool.{Bool, not, _&&_, and-false}
-use mathlib.Core.List.{List}
-use Prim.Native.Nat.{ℕ, _≤_, _-_}
+use mathlib.Core.Path.{_≡_, sym, _∙_}
+use mathlib.Core.Bool.{not, and-false}
+use Prim.Native.Nat.{_≤_, _-_}
 use lib.Dec.{eqb}
 use lib.ListN.{length, drop}
 use borrow.Author.Tests.{eq-eqb, ne-eqb}

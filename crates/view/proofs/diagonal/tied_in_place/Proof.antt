@@ -1,6 +1,6 @@
 -- `tied_in_place`: the rules in the order of the definition; the fused axes stand in arrays of their own until their bounds are looked at.
 use mathlib.Core.Path.{_≡_, refl, sym, ap, subst, _∙_}
-use mathlib.Core.Bool.{Bool, true, false}
+use mathlib.Core.Bool.{Bool}
 use mathlib.Core.List.{List, []}
 use Prim.Native.Nat.{ℕ, _≤_}
 use native.Mathlib.Omega.{arith}

@@ -1,47 +1,37 @@
 -- `permute` is `permute_in_place` in the first entries of the arrays.
-use mathlib.Core.Path.{_≡_, sym, _∙_}
-use Prim.Native.Nat.{_≤_}
+use mathlib.Core.Path.{_∙_}
 use native.Mathlib.Omega.{arith}
-use lib.ListN.{length, take}
-use lib.Seq.{length-take-le}
 use Rattle.specification.specs.Views.{permute}
+use Rattle.view.proofs.ModelLaws.{Lent, lent}
 use Rattle.view.proofs.InPlaceLaws.{too-many-axes, left-in-arrays}
 use borrow.Author.Needs.{needs}
 use Rattle.view.proofs.layout.Layout.permute.Statement.{statement}
 use Rattle.view.proofs.layout.Layout.permute.Tie as tie
 
--- both arrays have room for the rank
-room : (a : tie.After-strides) → let l = a .before .before .before .before .args .self in (l .rank ≤ length (l .extents)) × (l .rank ≤ length (l .strides))
-room a =
-    let l = a .before .before .before .before .args .self in
-    let h : length (l .extents) ≡ 16 = search needs in
-    let k : length (l .strides) ≡ 16 = search needs in
-    (omega arith, omega arith)
-
-taken : (a : tie.After-strides) → let l = a .before .before .before .before .args .self in
-    (length (take (l .rank) (l .extents)) ≡ l .rank) × (length (take (l .rank) (l .strides)) ≡ l .rank)
-taken a = (length-take-le _ _ (room a .0), length-take-le _ _ (room a .1))
+-- the first entries of both arrays
+lends : (a : tie.After-strides) → Lent (a .before .before .before .before .args .self)
+lends a = lent _ (omega arith) (search needs) (search needs)
 
 returns : tie.Need-returns
 unfolding permute
 returns c = too-many-axes (c .before .before .args .self) (c .before .before .args .order .now) _ _ (c .if1 .taken)
 
 array-borrow-prefix-extents : tie.Need-array-borrow-prefix-extents
-array-borrow-prefix-extents c = room c .0
+array-borrow-prefix-extents c = lends c .extents-room
 
 slice-aggregate-permute-in-place : tie.Need-slice-aggregate-permute-in-place
-slice-aggregate-permute-in-place c = sym (taken (c .before) .0)
+slice-aggregate-permute-in-place c = lends (c .before) .extents-long
 
 array-borrow-prefix-strides : tie.Need-array-borrow-prefix-strides
-array-borrow-prefix-strides c = room (c .before) .1
+array-borrow-prefix-strides c = lends (c .before) .strides-room
 
 slice-aggregate-permute-in-place-2 : tie.Need-slice-aggregate-permute-in-place-2
-slice-aggregate-permute-in-place-2 c = sym (taken (c .before .before) .1)
+slice-aggregate-permute-in-place-2 c = lends (c .before .before) .strides-long
 
 permute-in-place-requires : tie.Need-permute-in-place-requires
 permute-in-place-requires c κs =
-    let t = taken (c .before .before) in
-    (t .0 ∙ sym (t .1), omega arith)
+    let t = lends (c .before .before) in
+    (t .alike, omega (arith, t .extents-long))
 
 with-axes-requires : tie.Need-with-axes-requires
 with-axes-requires c κs = search needs
@@ -51,9 +41,8 @@ returns-2 c =
     let b = c .before .before .before .permute-in-place in
     let a = c .before .before .before .before .before .before in
     let s = a .before .before .before .before in
-    let t = taken a in
     c .with-axes .ensures
-    ∙ left-in-arrays (s .args .self) (λ m. permute m (s .args .order .now)) (b .last .1 .1 .0) (b .last .1 .1 .1 .0) (b .result) (room a .0) (room a .1) (b .kept .1 .1 .0 ∙ t .0 ∙ sym (b .kept .1 .1 .1 .0 ∙ t .1)) (b .ensures)
+    ∙ left-in-arrays (s .args .self) (λ m. permute m (s .args .order .now)) (b .last .1 .1 .0) (b .last .1 .1 .1 .0) (b .result) (lends a) (b .kept .1 .1 .0) (b .kept .1 .1 .1 .0) (b .ensures)
 
 pub permute-spec : {M : Type 1} → statement M
 permute-spec =

@@ -1,5 +1,4 @@
 -- `untied`: each axis is its own root, below the rank or below 0.
-use mathlib.Core.Path.{sym, _∙_}
 use mathlib.Core.Logic.{⊎-elim}
 use native.Mathlib.Omega.{arith}
 use borrow.Author.Needs.{needs}
