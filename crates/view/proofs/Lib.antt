@@ -2,7 +2,6 @@ pub mod ModelLaws
 pub mod MaskLaws
 pub mod OrderLaws
 pub mod TargetLaws
-pub mod SomeLaws
 pub mod BoundedLaws
 pub mod SpanLaws
 pub mod BoundsLaws

@@ -12,7 +12,7 @@ use Rattle.specification.specs.CheckIn.{tooWide}
 use Rattle.specification.proofs.ReachLaws.{and-true}
 use Rattle.view.specs.Model.{modelFrom}
 use Rattle.view.specs.Reach.{tooWideExtent}
-use Rattle.view.proofs.SomeLaws.{some-axesOf}
+use Rattle.specification.proofs.SomeLaws.{some-axesOf}
 use Rattle.view.proofs.BoundsLaws.{empty-means, outside-means, between-means, empty-bounds, outside-bounds, wide-bounds, narrow-bounds}
 use Rattle.view.proofs.bounds.bounds_by_cases.Statement.{statement}
 use Rattle.view.proofs.bounds.bounds_by_cases.Tie as tie

@@ -16,7 +16,7 @@ use Rattle.integer.proofs.PartLaws.{posPart-below}
 use Rattle.specification.specs.Axis.{isEmpty, upward, downward}
 use Rattle.specification.specs.Layout.{LayoutM}
 use Rattle.view.specs.Model.{modelFrom}
-use Rattle.view.proofs.SomeLaws.{some-axesOf}
+use Rattle.specification.proofs.SomeLaws.{some-axesOf}
 use Rattle.view.proofs.SpanLaws.{spans-of, spans-over}
 use Rattle.view.proofs.BoundsLaws.{reach-between, reach-outside, low-parts, high-parts}
 use Rattle.view.proofs.bounds.filled_reach.Statement.{statement}

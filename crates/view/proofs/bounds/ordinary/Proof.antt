@@ -10,7 +10,7 @@ use Rattle.specification.specs.Tests.{some}
 use Rattle.specification.specs.Beside.{zeroAmong}
 use Rattle.view.specs.Reach.{tooWideExtent}
 use Rattle.view.proofs.BoundsLaws.{wide-extent, narrow-extent}
-use Rattle.view.proofs.SomeLaws.{some-found, some-behind, some-end}
+use Rattle.specification.proofs.SomeLaws.{some-found, some-behind, some-end}
 use Rattle.view.proofs.bounds.ordinary.Statement.{statement}
 use Rattle.view.proofs.bounds.ordinary.Tie as tie
 

@@ -17,7 +17,7 @@ use Rattle.specification.specs.Axis.{isEmpty}
 use Rattle.specification.specs.Layout.{LayoutM}
 use Rattle.view.specs.Model.{modelFrom}
 use Rattle.view.specs.Reach.{tooWideExtent, SmallSpans}
-use Rattle.view.proofs.SomeLaws.{some-axesOf}
+use Rattle.specification.proofs.SomeLaws.{some-axesOf}
 use Rattle.view.proofs.BoundsLaws.{reach-between, between-means}
 use Rattle.view.proofs.bounds.plainly_within.Statement.{statement}
 use Rattle.view.proofs.bounds.plainly_within.Tie as tie

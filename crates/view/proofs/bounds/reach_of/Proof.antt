@@ -4,7 +4,7 @@ use lib.Dec.{eqb}
 use borrow.Author.Needs.{needs}
 use Rattle.specification.specs.Axis.{isEmpty}
 use Rattle.view.specs.Reach.{reachOf}
-use Rattle.view.proofs.SomeLaws.{some-axesOf}
+use Rattle.specification.proofs.SomeLaws.{some-axesOf}
 use Rattle.view.proofs.bounds.reach_of.Statement.{statement}
 use Rattle.view.proofs.bounds.reach_of.Tie as tie
 

@@ -18,7 +18,7 @@ use Rattle.specification.specs.Beside.{zeroAmong}
 use Rattle.specification.specs.Tests.{some}
 use Rattle.view.specs.Reach.{tooWideExtent}
 use Rattle.view.proofs.BoundsLaws.{narrow-extent}
-use Rattle.view.proofs.SomeLaws.{some-behind, some-end}
+use Rattle.specification.proofs.SomeLaws.{some-behind, some-end}
 use Rattle.view.proofs.SpanLaws.{upward-turn, downward-turn, upward-end, downward-end}
 use Rattle.view.proofs.bounds.small_spans.Statement.{statement}
 use Rattle.view.proofs.bounds.small_spans.Tie as tie
