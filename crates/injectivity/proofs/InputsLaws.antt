@@ -24,7 +24,7 @@ use Rattle.view.specs.declared.bounds.Spans.{Spans}
 use Rattle.view.specs.declared.bounds.Spans.the-variants.{Of, Over}
 use Rattle.view.proofs.ModelLaws.{axesIn-axesOf, length-axesIn}
 use Rattle.view.proofs.SpanLaws.{spans-of, spans-over}
-use Rattle.view.proofs.SomeLaws.{some-found, some-behind, some-end}
+use Rattle.specification.proofs.SomeLaws.{some-found, some-behind, some-end}
 use Rattle.injectivity.specs.Inputs.{unfit}
 
 -- ---- a test of the axes of two lists, one after another

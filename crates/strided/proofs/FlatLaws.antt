@@ -1,13 +1,12 @@
 -- A layout that was put into two buffers is the layout that they hold: from a struct, and from two lists.
 use mathlib.Core.List.{List, [], _∷_, _++_}
-use mathlib.Core.Path.{_≡_, sym, ap, _∙_}
+use mathlib.Core.Path.{_≡_, ap, _∙_}
 use Prim.Native.Nat.{ℕ, _<_, _≤_}
 use native.Mathlib.Omega.{arith}
 use lib.IntN.{ℤ, pos}
 use lib.ListN.{length, take, drop, set, List·getD-append}
 use lib.Seq.{paste, take-at, drop-at, getD-take}
 use Rattle.lists.proofs.TableLaws.{table-ext}
-use Rattle.specification.specs.Axis.{axesOf}
 use Rattle.view.specs.Model.{modelOf, modelFrom, axisOf, axesIn}
 use Rattle.view.proofs.ModelLaws.{axesIn-axesOf}
 use Rattle.strided.proofs.CopyLaws.{pasted-whole, behind-front}
@@ -28,14 +27,13 @@ stored l numbers steps numbers-then steps-then wide long same-numbers same-steps
 
 -- ---- the layout of two lists
 
--- two lists in front of other words hold their axes
-axes-in-front : (es : List ℕ) (ss : List ℤ) (r : List ℕ) (q : List ℤ) (n : ℕ) → length es ≡ n → length ss ≡ n → n ≤ 16
-    → axesIn (take 16 (es ++ r)) (take 16 (ss ++ q)) n ≡ axesOf es ss
+-- the first axes of two lists in front of other words
+pub axes-in-front : (es : List ℕ) (ss : List ℤ) (r : List ℕ) (q : List ℤ) (n : ℕ) → n ≤ length es → n ≤ length ss → n ≤ 16
+    → axesIn (take 16 (es ++ r)) (take 16 (ss ++ q)) n ≡ axesIn es ss n
 axes-in-front es ss r q n wide long few =
     table-ext (axisOf (take 16 (es ++ r)) (take 16 (ss ++ q))) (axisOf es ss) n
     (λ i l. let near : i < 16 = omega arith in
     rw (getD-take 16 (es ++ r) i 0 near, getD-take 16 (ss ++ q) i (pos 0) near, List·getD-append es r 0 i (omega arith), List·getD-append ss q (pos 0) i (omega arith)))
-    ∙ axesIn-axesOf es ss n wide long
 
 -- two words, then the list, in front of a buffer
 words-two : (e s : List ℕ) (a b n : ℕ) → length s ≡ n → 18 ≤ length e → paste (set (set e 0 a) 1 b) 2 s n ≡ a ∷ b ∷ (s ++ drop n (drop 2 e))
@@ -67,7 +65,7 @@ stored-lists len offset es ss numbers steps n numbers-then steps-then wide long 
     record {
       layout-is =
           (λ i. modelOfFlat (front i) (back i))
-          ∙ (λ i. record { buffer = len; offset = offset; axes = axes-in-front es ss (drop n (drop 2 numbers)) (drop n (drop 1 steps)) n wide long few i });
+          ∙ (λ i. record { buffer = len; offset = offset; axes = (axes-in-front es ss (drop n (drop 2 numbers)) (drop n (drop 1 steps)) n (omega arith) (omega arith) few ∙ axesIn-axesOf es ss n wide long) i });
       numbers-behind = ap (drop 18) front ∙ behind-two numbers es n wide few room;
       steps-behind = ap (drop 17) back ∙ behind-one steps ss n long few space;
     }

@@ -3,5 +3,6 @@ pub mod CopyLaws
 pub mod FlatLaws
 pub mod StepLaws
 pub mod CrossingLaws
+pub mod InPlaceLaws
 pub mod CallLaws
 pub mod DenseLaws

@@ -5,10 +5,13 @@ use mathlib.Core.List.{List, [], _++_}
 use mathlib.Core.Path.{_≡_}
 use Prim.Native.Nat.{ℕ}
 use lib.IntN.{ℤ}
-use lib.ListN.{length, drop}
+use lib.ListN.{length, drop, set}
 use Rattle.specification.specs.Outcome.{Outcome, Check, done, refused}
 use Rattle.specification.specs.Layout.{LayoutM}
 use Rattle.specification.specs.Views.{After}
+use Rattle.view.specs.Answers.{numberOf, valuesOf}
+use Rattle.view.specs.declared.layout.RankAfter.{RankAfter}
+use Rattle.view.specs.declared.layout.RankAfter.the-variants.{Is, Refused}
 use Rattle.strided.specs.Flat.{holdsLayout, holdsView, modelOfFlat, Stored}
 
 -- the outcome where there is room, else 255
@@ -58,6 +61,11 @@ pub record Crossed (outcome : Outcome LayoutM) (numbers : List ℕ) (steps : Lis
 pub record CrossedWithValues (outcome : Outcome LayoutM) (numbers : List ℕ) (steps : List ℤ) (values : List ℕ) (numbers-then : List ℕ) (steps-then : List ℤ) (values-then : List ℕ) (answer : ℕ) : Type 0 where
   pub crossed : Crossed outcome numbers steps numbers-then steps-then answer
   pub values-are : values-then ≡ valuesAfter outcome values
+
+-- what a view that was made in the buffers answers: the rank in its word, or the number and the values of the refusal
+abbrev pub Answered : RankAfter → List ℕ → List ℕ → List ℕ → List ℕ → ℕ → Type 0
+Answered (Is rank) numbers values numbers-then values-then answer = (answer ≡ 0) × (numbers-then ≡ set numbers 1 rank) × (values-then ≡ values)
+Answered (Refused why) numbers values numbers-then values-then answer = (answer ≡ numberOf why) × (numbers-then ≡ numbers) × (values-then ≡ valuesOf why ++ drop (length (valuesOf why)) values)
 
 -- a view of the layout that two buffers hold: what crosses, by the definition of the view
 abbrev pub Viewing : (LayoutM → After) → List ℕ → List ℤ → List ℕ → List ℕ → List ℤ → List ℕ → ℕ → Type 0

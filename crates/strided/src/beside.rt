@@ -6,8 +6,6 @@ ghost use lib.Dec.{leb};
 ghost use lib.ListN.{length, take, drop};
 ghost use Rattle.specification.specs.CheckIn.{checkIn};
 ghost use Rattle.specification.specs.Beside.{indexedOffset, indexOrder, colMajor, rowMajor};
-ghost use Rattle.view.specs.Dense.{denseOf};
-ghost use Rattle.view.specs.Indexed.{indexedOf};
 ghost use Rattle.strided.specs.Flat.{holdsView, modelOfFlat};
 ghost use Rattle.strided.specs.Crossing.{ifRoom, answerNumber};
 ghost use Rattle.strided.specs.Calls.{Located, OrderCrossed, denseInto, DenseCrossed, DenseTold};

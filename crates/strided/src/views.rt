@@ -6,7 +6,7 @@ ghost use Rattle.specification.specs.Normal.{normalForm};
 ghost use Rattle.specification.specs.Views.{permute, pairsOf, diagonalView, broadcast};
 ghost use Rattle.view.specs.Model.{viewedOf};
 ghost use Rattle.strided.specs.Flat.{modelOfFlat};
-ghost use Rattle.strided.specs.Crossing.{layoutOf, Crossed, CrossedWithValues, Viewing, Making};
+ghost use Rattle.strided.specs.Crossing.{layoutOf, Answered, Crossed, CrossedWithValues, Viewing, Making};
 use crate::flat::holds_layout;
 use crate::flat::holds_view;
 use crate::flat::layout_in;
@@ -15,10 +15,13 @@ use crate::flat::store_lists;
 use crate::refusals::refuse;
 use record::normal::normal_form;
 use view::bounds::validate_bounds;
+use view::broadcast::broadcast_in_place;
 use view::layout::Answer;
+use view::layout::RankAfter;
 use view::layout::ReadingOffset;
 use view::layout::Viewed;
-use view::numbers::diagonal_by_numbers;
+use view::numbers::diagonal_in_place;
+use view::permute::permute_in_place;
 
 // The layout after a call into the buffers; on a refusal its number alone, and the buffers as they were.
 fn store_viewed(viewed: Viewed, numbers: &mut [u64], steps: &mut [i64]) -> u8
@@ -52,6 +55,20 @@ pub fn answer_viewed(
         Answer::Done => {
             let layout = viewed.layout;
             store_layout(layout, numbers, steps);
+            0
+        }
+    }
+}
+
+// The rank after a view that was made in the buffers; on a refusal its number and its values.
+fn answer_in_place(after: RankAfter, numbers: &mut [u64], values: &mut [u64]) -> u8
+    requires { ⌜ (2 ≤ length (now numbers)) × (2 ≤ length (now values)) ⌝ }
+    ensures { λ r. ⌜ Answered after (now (numbers .entry)) (now (values .entry)) (now (numbers .exit)) (now (values .exit)) r ⌝ }
+{
+    match after {
+        RankAfter::Refused(why) => refuse(why, values),
+        RankAfter::Is(rank) => {
+            numbers[1] = rank as u64;
             0
         }
     }
@@ -95,9 +112,16 @@ pub extern "C" fn strided_permute(
     if !holds_view(numbers.len(), steps.len(), values.len()) {
         return 255;
     }
-    let layout = layout_in(numbers, steps);
-    let viewed = layout.permute(axes);
-    answer_viewed(viewed, numbers, steps, values)
+    let rank = numbers[1] as usize;
+    if 16 < rank {
+        return 1;
+    }
+    let len = numbers[0];
+    let offset = ReadingOffset(steps[0]);
+    let end = rank + 2;
+    let last = rank + 1;
+    let after = permute_in_place(len, offset, &mut numbers[2..end], &mut steps[1..last], axes);
+    answer_in_place(after, numbers, values)
 }
 
 // Tied axes as one axis; two numbers of the list are a pair.
@@ -113,9 +137,22 @@ pub extern "C" fn strided_diagonal_view(
     if !holds_view(numbers.len(), steps.len(), values.len()) {
         return 255;
     }
-    let layout = layout_in(numbers, steps);
-    let viewed = diagonal_by_numbers(layout, pairs);
-    answer_viewed(viewed, numbers, steps, values)
+    let rank = numbers[1] as usize;
+    if 16 < rank {
+        return 1;
+    }
+    let len = numbers[0];
+    let offset = ReadingOffset(steps[0]);
+    let end = rank + 2;
+    let last = rank + 1;
+    let after = diagonal_in_place(
+        len,
+        offset,
+        &mut numbers[2..end],
+        &mut steps[1..last],
+        pairs,
+    );
+    answer_in_place(after, numbers, values)
 }
 
 // The layout stretched to the target extents.
@@ -131,9 +168,22 @@ pub extern "C" fn strided_broadcast(
     if !holds_view(numbers.len(), steps.len(), values.len()) {
         return 255;
     }
-    let layout = layout_in(numbers, steps);
-    let viewed = layout.broadcast(extents);
-    answer_viewed(viewed, numbers, steps, values)
+    let rank = numbers[1] as usize;
+    if 16 < rank {
+        return 1;
+    }
+    let len = numbers[0];
+    let offset = ReadingOffset(steps[0]);
+    let end = rank + 2;
+    let last = rank + 1;
+    let after = broadcast_in_place(
+        len,
+        offset,
+        &mut numbers[2..end],
+        &mut steps[1..last],
+        extents,
+    );
+    answer_in_place(after, numbers, values)
 }
 
 // The normal form, or refusal 1, 3 or 8.

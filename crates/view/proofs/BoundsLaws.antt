@@ -6,12 +6,12 @@ use mathlib.Core.Logic.{_⊎_, inl, inr}
 use Prim.Native.Nat.{ℕ, _+_, _-_, _≤_, _<_}
 use native.Mathlib.Omega.{arith}
 use lib.Dec.{T, ltb}
-use lib.IntN.{ℤ, pos, natAbs}
+use lib.IntN.{pos, natAbs}
 use lib.Signed.{leZ, ltZ}
 use borrow.Author.Tests.{lt-ltb, le-ltb}
 use Rattle.integer.specs.Parts.{posPart, negPart}
 use Rattle.integer.specs.Range.{fits, mostSigned}
-use Rattle.integer.proofs.PartLaws.{parts-add, parts-minus, parts-ext, parts-fit, leZ-true, ltZ-true, ltZ-false, le-leZ, lt-leZ}
+use Rattle.integer.proofs.PartLaws.{parts-add, parts-minus, parts-ext, parts-fit, leZ-true, ltZ-true, le-leZ, lt-leZ, lt-ltZ, le-ltZ}
 use Rattle.integer.proofs.CheckedLaws.{fits-of-sfits}
 use Rattle.specification.specs.Tests.{if_then_else_, some}
 use Rattle.specification.specs.Outcome.{Check, refused, pass, refuseIf}
@@ -23,20 +23,6 @@ use Rattle.view.specs.Reach.{reachOf, tooWideExtent}
 use Rattle.view.specs.declared.bounds.Reach.{Reach}
 use Rattle.view.specs.declared.bounds.Reach.the-variants.{Empty, Between, Outside}
 
-lt-ltZ : (x y : ℤ) → posPart x + negPart y < posPart y + negPart x → ltZ x y ≡ true
-lt-ltZ x y h = go (ltZ x y) (ltZ-false x y)
-  where
-    go : (t : Bool) → (t ≡ false → posPart y + negPart x ≤ posPart x + negPart y) → t ≡ true
-    go true f = refl
-    go false f = absurd (omega (arith, f refl))
-
-le-ltZ : (x y : ℤ) → posPart y + negPart x ≤ posPart x + negPart y → ltZ x y ≡ false
-le-ltZ x y h = go (ltZ x y) (ltZ-true x y)
-  where
-    go : (t : Bool) → (t ≡ true → posPart x + negPart y < posPart y + negPart x) → t ≡ false
-    go true f = absurd (omega (arith, f refl))
-    go false f = refl
-
 -- ---- a layout that is not empty
 
 module _ (l : LayoutM) (e : isEmpty (l .axes) ≡ false) where
@@ -44,7 +30,7 @@ module _ (l : LayoutM) (e : isEmpty (l .axes) ≡ false) where
   unfolding inReach
   within-reach w = rw (e, le-leZ (pos 0) (lowest l) (omega (arith, w .w-low)), le-leZ (highest l) (pos mostSigned) (omega (arith, w .w-most)), lt-ltZ (highest l) (pos (l .buffer)) (omega (arith, w .w-in)))
 
-  pub reach-within : inReach l ≡ true → Within l
+  reach-within : inReach l ≡ true → Within l
   unfolding inReach
   reach-within r =
       let q = rw e at r in

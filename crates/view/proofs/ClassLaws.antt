@@ -1,21 +1,19 @@
--- What the roots say of the classes: the kept axes are the roots, the class of a root are the axes with that root, and its place is counted by the mask.
+-- What the roots say of the classes: the kept axes are the roots, and the class of a root are the axes with that root.
 use mathlib.Core.Path.{_≡_, refl, sym, subst, _∙_}
 use mathlib.Core.Bool.{Bool, true, false, not}
 use mathlib.Core.List.{List}
-use Prim.Native.Nat.{ℕ, _%_, _^_, _≤_, _<_, min}
+use Prim.Native.Nat.{ℕ, _≤_, _<_}
 use native.Mathlib.Omega.{arith}
-use lib.Count.{ones}
 use lib.Dec.{eqb, ltb}
 use borrow.Author.Tests.{lt-ltb, le-ltb, eqb-true, eqb-false}
 use Rattle.specification.specs.Tests.{isYes, some}
 use Rattle.specification.specs.Outcome.{pass}
 use Rattle.specification.specs.Tied.{Tied, turned}
 use Rattle.specification.specs.TiedDecided.{tied?}
-use Rattle.specification.specs.Views.{pairFault, classOf, kept, placeOf}
-use Rattle.view.specs.Ties.{rootAt, isRoot, maskOf, TiesOf}
+use Rattle.specification.specs.Views.{pairFault, classOf, kept}
+use Rattle.view.specs.Ties.{rootAt, isRoot, TiesOf}
 use Rattle.view.specs.declared.diagonal.Ties.{Ties}
-use Rattle.view.proofs.RangeLaws.{passing, passing-ext, below-passing, some-none, some-one}
-use Rattle.view.proofs.RootLaws.{ones-below}
+use Rattle.view.proofs.RangeLaws.{passing, passing-ext, some-none, some-one}
 
 decided-yes : {P : Type 0} (d : Dec P) → P → isYes d ≡ true
 decided-yes (yes p) q = refl
@@ -34,7 +32,7 @@ module _ {rank : ℕ} {pairs : List (ℕ × ℕ)} {t : Ties} (of : TiesOf rank p
   root-of-root a h = of .alike none (root a) a (turned (of .tied a (omega (arith, of .few))))
 
   -- the axes with root a
-  abbrev pub withRoot : ℕ → ℕ → Bool
+  abbrev withRoot : ℕ → ℕ → Bool
   withRoot a b = eqb (root b) a
 
   pub class-of-root : (a : ℕ) → root a ≡ a → classOf pairs rank a ≡ passing (withRoot a) rank
@@ -64,10 +62,3 @@ module _ {rank : ℕ} {pairs : List (ℕ × ℕ)} {t : Ties} (of : TiesOf rank p
       by : (a : ℕ) → a < rank → (s : Bool) → isRoot (t .roots) a ≡ s → not (some (λ b. ltb b a) (classOf pairs rank a)) ≡ s
       by a h true e = rw (root-lowest a (eqb-true (root a) a e))
       by a h false e = rw (other-lower a h (eqb-false (root a) a e))
-
-  -- the new place of a class is what the mask counts below its root
-  pub mask-counts-place : (a : ℕ) → a ≤ rank → ones (maskOf (t .roots) rank % 2 ^ a) ≡ placeOf pairs rank a
-  unfolding placeOf
-  mask-counts-place a h =
-      let e : min a rank ≡ a = omega arith in
-      ones-below (t .roots) rank a h ∙ rw (kept-are-roots, below-passing (isRoot (t .roots)) a rank, e)

@@ -1,20 +1,18 @@
 -- diagonal_view at its end: the arrays hold the axes of the diagonal, whose sums are refused where one was over; and which rule refuses.
-use mathlib.Core.Path.{_≡_, refl, sym, ap, _∙_}
+use mathlib.Core.Path.{_≡_, sym, ap, _∙_}
 use mathlib.Core.List.{List, [], map}
-use Prim.Native.Nat.{ℕ, _≤_, _<_}
-use native.Mathlib.Omega.{arith}
+use Prim.Native.Nat.{ℕ, _<_}
 use lib.IntN.{ℤ, pos}
-use lib.ListN.{length, length-map}
 use borrow.Author.Tests.{eq-eqb, eqb-true}
 use Rattle.specification.specs.Axis.{Axis}
 use Rattle.specification.specs.Layout.{LayoutM, rank, handed}
-use Rattle.specification.specs.Outcome.{Check, done, refused, pass, _>>_}
+use Rattle.specification.specs.Outcome.{Check, refused, pass, _>>_}
 use Rattle.specification.specs.CheckIn.{bounds}
 use Rattle.specification.specs.Views.{After, unlessRefused, withAxes, axisAt, pairFault, kept, leastExtent, strideSum, strideFault, members, fused, diagonalAxes, sumFaults, diagonalView}
 use Rattle.view.specs.Model.{axesIn, axisOf}
 use Rattle.view.specs.Ties.{rootAt, isRoot, TiesOf}
 use Rattle.view.specs.declared.diagonal.Ties.{Ties}
-use Rattle.view.proofs.RangeLaws.{count, count-most, table-passing}
+use Rattle.view.proofs.RangeLaws.{count, table-passing}
 use Rattle.view.proofs.ClassLaws.{class-of-root, kept-are-roots}
 use Rattle.view.proofs.StrideSumLaws.{sums-pass, sums-refused}
 use Rattle.view.proofs.FusedLaws.{membersBelow, faultBelow, Stored}
@@ -45,18 +43,7 @@ module _ (l : LayoutM) {pairs : List (ℕ × ℕ)} {t : Ties} (of : TiesOf (rank
         let own = eqb-true (rootAt (t .roots) r) r e in
         stored .axis-is r h own ∙ sym (ap (λ (m : List Axis). record { extent = leastExtent m; stride = strideSum (pos 0) m }) (members-are r own))))
 
-  -- no more axes than before
-  pub diagonal-few : length (diagonalAxes l pairs) ≤ rank l
-  unfolding diagonalAxes
-  diagonal-few = omega (arith, length-map (kept pairs (rank l)) (fused l pairs), ap length (kept-are-roots of none), count-most (isRoot (t .roots)) (rank l))
-
 -- ---- the answer, by the rule that refuses
-
--- whether it refuses is told by the answer
-pub unless-answer : (old new : LayoutM) (c : Check) → unlessRefused old c new .answer ≡ c
-unfolding unlessRefused
-unless-answer old new (done u) = refl
-unless-answer old new (refused number values) = refl
 
 module _ (l : LayoutM) (pairs : List (ℕ × ℕ)) where
   -- the layout as it was, and the refusal
@@ -79,7 +66,7 @@ module _ (l : LayoutM) (pairs : List (ℕ × ℕ)) where
     pair-refused e = rw (first, e)
 
     module _ (second : pairFault (rank l) pairs ≡ pass) where
-      pub sum-refused : {number : ℕ} {values : List ℕ} → sums ≡ refused number values → diagonalView l pairs ≡ unlessRefused l sums new
+      pub sum-refused : {number : ℕ} {values : List ℕ} → sums ≡ refused number values → diagonalView l pairs ≡ stays number values
       unfolding diagonalView unlessRefused _>>_
       sum-refused e = rw (first, second, e)
 
@@ -87,6 +74,6 @@ module _ (l : LayoutM) (pairs : List (ℕ × ℕ)) where
       unfolding diagonalView unlessRefused _>>_
       bounds-refused third e = rw (first, second, third, e)
 
-      pub none-refused : sums ≡ pass → bounds new ≡ pass → diagonalView l pairs ≡ unlessRefused l sums new
+      pub none-refused : sums ≡ pass → bounds new ≡ pass → diagonalView l pairs ≡ record { answer = pass; layout = new }
       unfolding diagonalView unlessRefused _>>_
       none-refused third e = rw (first, second, third, e)

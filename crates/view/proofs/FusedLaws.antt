@@ -24,14 +24,14 @@ module _ (axes : List Axis) (roots : List ℕ) where
   membersBelow n r = map (axisAt axes) (passing (λ b. eqb (rootAt roots b) r) n)
 
   -- the axis and the refusal that they make
-  abbrev pub fusedBelow : ℕ → ℕ → Axis
+  abbrev fusedBelow : ℕ → ℕ → Axis
   fusedBelow n r = record { extent = leastExtent (membersBelow n r); stride = strideSum (pos 0) (membersBelow n r) }
 
   abbrev pub faultBelow : ℕ → ℕ → Check
   faultBelow n r = strideFault (pos 0) (membersBelow n r)
 
   -- the new place of a root
-  abbrev pub placeOfRoot : ℕ → ℕ
+  abbrev placeOfRoot : ℕ → ℕ
   placeOfRoot = count (isRoot roots)
 
   -- ---- members, one axis more

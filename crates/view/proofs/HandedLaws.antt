@@ -27,7 +27,7 @@ module _ (l : LayoutM) (list : List ℕ) where
   handed-many-entries h k = rw (le-ltb 16 (rank l) h, lt-ltb 16 (length list) k)
 
   -- few axes and few entries: the reach decides
-  pub handed-few : rank l ≤ 16 → length list ≤ 16 → handed l list ≡ refuseIf (not (inReach l)) 3 []
+  handed-few : rank l ≤ 16 → length list ≤ 16 → handed l list ≡ refuseIf (not (inReach l)) 3 []
   unfolding handed refuseIf _>>_
   handed-few h k = rw (le-ltb 16 (rank l) h, le-ltb 16 (length list) k)
 

@@ -2,7 +2,6 @@ pub mod ModelLaws
 pub mod MaskLaws
 pub mod OrderLaws
 pub mod TargetLaws
-pub mod SomeLaws
 pub mod BoundedLaws
 pub mod SpanLaws
 pub mod BoundsLaws
@@ -22,3 +21,4 @@ pub mod ClassLaws
 pub mod StrideSumLaws
 pub mod FusedLaws
 pub mod DiagonalLaws
+pub mod InPlaceLaws

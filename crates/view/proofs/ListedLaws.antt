@@ -1,14 +1,13 @@
 -- The refusals that a call with a list on a layout begins with: 1 and 3, then 4 for a length that is not the rank.
-use mathlib.Core.Path.{_≡_, _∙_}
+use mathlib.Core.Path.{_≡_}
 use mathlib.Core.Bool.{not}
 use mathlib.Core.List.{List}
 use Prim.Native.Nat.{ℕ, _≤_}
-use native.Mathlib.Omega.{arith}
 use lib.Dec.{eqb}
 use lib.ListN.{length}
 use borrow.Author.Tests.{eq-eqb, ne-eqb, eqb-true}
 use Rattle.specification.specs.Outcome.{Check, refused, pass, refuseIf, _>>_}
-use Rattle.specification.specs.Layout.{rank, handed}
+use Rattle.specification.specs.Layout.{LayoutM, rank, handed}
 use Rattle.specification.proofs.OutcomeLaws.{passed, passed-check}
 use Rattle.specification.proofs.AcceptedLaws.{not-false}
 use Rattle.view.specs.declared.layout.Layout.{Layout}
@@ -20,29 +19,25 @@ use Rattle.view.proofs.ModelLaws.{length-axesIn}
 pub rank-modelOf : (l : Layout) → rank (modelOf l) ≡ l .rank
 rank-modelOf l = length-axesIn (l .extents) (l .strides) (l .rank)
 
-module _ (l : Layout) (list values : List ℕ) (next : Check) where
+module _ (l : LayoutM) (list values : List ℕ) (next : Check) where
   -- the chain of rules
-  abbrev pub listed : Check
-  listed = handed (modelOf l) list >> (refuseIf (not (eqb (length list) (rank (modelOf l)))) 4 values >> next)
+  abbrev listed : Check
+  listed = handed l list >> (refuseIf (not (eqb (length list) (rank l))) 4 values >> next)
 
-  pub listed-refused : {number : ℕ} {given : List ℕ} → handed (modelOf l) list ≡ refused number given → listed ≡ refused number given
+  pub listed-refused : {number : ℕ} {given : List ℕ} → handed l list ≡ refused number given → listed ≡ refused number given
   unfolding _>>_
   listed-refused e = rw e
 
-  pub listed-wrong : handed (modelOf l) list ≡ pass → (length list ≡ l .rank → ⊥) → listed ≡ refused 4 values
+  pub listed-wrong : handed l list ≡ pass → (length list ≡ rank l → ⊥) → listed ≡ refused 4 values
   unfolding refuseIf _>>_
-  listed-wrong e n = rw (e, rank-modelOf l, ne-eqb (length list) (l .rank) n)
+  listed-wrong e n = rw (e, ne-eqb (length list) (rank l) n)
 
-  pub listed-next : handed (modelOf l) list ≡ pass → length list ≡ l .rank → listed ≡ next
+  pub listed-next : handed l list ≡ pass → length list ≡ rank l → listed ≡ next
   unfolding refuseIf _>>_
-  listed-next e n = rw (e, rank-modelOf l, eq-eqb (length list) (l .rank) n)
+  listed-next e n = rw (e, eq-eqb (length list) (rank l) n)
 
-  pub handed-rank : handed (modelOf l) list ≡ pass → l .rank ≤ 16
-  handed-rank e = omega (arith, handed-passed (modelOf l) list e .0, rank-modelOf l)
-
-  pub listed-passed : listed ≡ pass → (l .rank ≤ 16) × (length list ≡ l .rank) × (next ≡ pass)
+  pub listed-passed : listed ≡ pass → (rank l ≤ 16) × (length list ≡ rank l) × (next ≡ pass)
   listed-passed e =
-      let p = passed-check (handed (modelOf l) list) e in
-      let q = passed (not (eqb (length list) (rank (modelOf l)))) 4 values (p .1) in
-      let n : length list ≡ rank (modelOf l) = eqb-true (length list) (rank (modelOf l)) (not-false (eqb (length list) (rank (modelOf l))) (q .0)) in
-      (handed-rank (p .0), n ∙ rank-modelOf l, q .1)
+      let p = passed-check (handed l list) e in
+      let q = passed (not (eqb (length list) (rank l))) 4 values (p .1) in
+      (handed-passed l list (p .0) .0, eqb-true (length list) (rank l) (not-false (eqb (length list) (rank l)) (q .0)), q .1)

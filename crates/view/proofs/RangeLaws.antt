@@ -2,12 +2,12 @@
 use mathlib.Core.Path.{_≡_, refl, sym, ap, _∙_}
 use mathlib.Core.Bool.{Bool, true, false, _||_}
 use mathlib.Core.List.{List, [], _∷_, _++_, map, append-nil, map-append}
-use Prim.Native.Nat.{ℕ, zero, suc, _+_, _-_, _≤_, _<_, min}
+use Prim.Native.Nat.{ℕ, zero, suc, _+_, _-_, _≤_, _<_}
 use native.Mathlib.Numerals.{add-one}
 use native.Mathlib.Omega.{arith}
-use lib.Dec.{eqb, ltb}
+use lib.Dec.{eqb}
 use lib.ListN.{length, length-append}
-use borrow.Author.Tests.{eqb-true, eqb-false, ltb-true, ltb-false}
+use borrow.Author.Tests.{eqb-true, eqb-false}
 use Rattle.lists.specs.Table.{table}
 use Rattle.lists.proofs.TableLaws.{table-zero, table-suc}
 use Rattle.specification.specs.Tests.{if_then_else_, some, those, upFrom}
@@ -59,34 +59,6 @@ passing-ext f g zero h = passing-zero f ∙ sym (passing-zero g)
 passing-ext f g (suc n) h =
     let e : suc n ≡ n + 1 = omega arith in
     rw (e, passing-last f n, passing-last g n, h n (omega arith), passing-ext f g n (λ k l. h k (omega arith)))
-
--- those of them that are below a
-pub below-passing : (test : ℕ → Bool) (a n : ℕ) → those (λ b. ltb b a) (passing test n) ≡ passing test (min a n)
-unfolding those
-below-passing test a zero = let e : min a 0 ≡ 0 = omega arith in rw (e, passing-zero test)
-below-passing test a (suc n) =
-    let e : suc n ≡ n + 1 = omega arith in
-    rw (e, passing-last test n, those-append (λ b. ltb b a) (passing test n) (if test n then n ∷ [] else []), below-passing test a n) (by (ltb n a) refl (test n) refl)
-  where
-    by : (s : Bool) → ltb n a ≡ s → (t : Bool) → test n ≡ t → passing test (min a n) ++ those (λ b. ltb b a) (if t then n ∷ [] else []) ≡ passing test (min a (n + 1))
-    by true p t q =
-        let h : n < a = ltb-true n a p in
-        let x : min a n ≡ n = omega arith in
-        let y : min a (n + 1) ≡ n + 1 = omega arith in
-        rw (x, y, passing-last test n, q) (kept t)
-      where
-        kept : (t : Bool) → passing test n ++ those (λ b. ltb b a) (if t then n ∷ [] else []) ≡ passing test n ++ (if t then n ∷ [] else [])
-        kept true = rw p
-        kept false = refl
-    by false p t q =
-        let h : a ≤ n = ltb-false n a p in
-        let x : min a n ≡ a = omega arith in
-        let y : min a (n + 1) ≡ a = omega arith in
-        rw (x, y) (gone t)
-      where
-        gone : (t : Bool) → passing test a ++ those (λ b. ltb b a) (if t then n ∷ [] else []) ≡ passing test a
-        gone true = rw (p, append-nil)
-        gone false = append-nil (passing test a)
 
 -- ---- how many
 

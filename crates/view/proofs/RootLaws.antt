@@ -36,7 +36,7 @@ relabel-end from to roots i h = rw (take-all i roots h, drop-of-length-le roots 
 -- ---- the mask of roots
 
 module _ (roots : List ℕ) where
-  pub mask-fits : (n : ℕ) → maskOf roots n < 2 ^ n
+  mask-fits : (n : ℕ) → maskOf roots n < 2 ^ n
   unfolding maskOf
   mask-fits zero = omega arith
   mask-fits (suc n) = by (isRoot roots n) (mask-fits n)

@@ -39,7 +39,7 @@ fault-none axes targets i j h e =
 -- ---- the axes stretched so far
 
 -- an axis stretched to a target, by its parts
-abbrev pub stretchedAxis : Axis → ℕ → Axis
+abbrev stretchedAxis : Axis → ℕ → Axis
 stretchedAxis a t = record { extent = t; stride = if eqb (a .extent) t then a .stride else pos 0 }
 
 stretched-is : (a : Axis) (t : ℕ) → (if eqb (a .extent) t then a else record { extent = t; stride = pos 0 }) ≡ stretchedAxis a t

@@ -36,7 +36,7 @@ fault-append rank (p ∷ ps) qs =
     second = refuseIf (eqb (p .0) (p .1)) 5 (p .0 ∷ rank ∷ [])
 
 -- the pairs and one more
-abbrev pub more : List (ℕ × ℕ) → ℕ → ℕ → List (ℕ × ℕ)
+abbrev more : List (ℕ × ℕ) → ℕ → ℕ → List (ℕ × ℕ)
 more ps a b = ps ++ ((a, b) ∷ [])
 
 module _ (rank : ℕ) (ps : List (ℕ × ℕ)) (a b : ℕ) where
@@ -158,7 +158,7 @@ module _ {rank : ℕ} {ps : List (ℕ × ℕ)} {t : Ties} (of : TiesOf rank ps t
   abbrev lower : ℕ
   lower = min (old a) (old b)
 
-  abbrev pub joined : List ℕ
+  abbrev joined : List ℕ
   joined = map (renamed higher lower) (t .roots)
 
   joined-at : (x : ℕ) → x < 16 → rootAt joined x ≡ renamed higher lower (old x)

@@ -1,5 +1,6 @@
 pub mod Answers
 pub mod Model
+pub mod InPlace
 pub mod Bounded
 pub mod Reach
 pub mod Refusals

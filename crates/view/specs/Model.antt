@@ -51,7 +51,7 @@ abbrev pub noLayout : LayoutM
 noLayout = record { buffer = 0; offset = pos 0; axes = record { extent = 0; stride = pos 0 } ∷ [] }
 
 -- an outcome as an answer with a layout
-abbrev pub afterOf : Outcome LayoutM → After
+abbrev afterOf : Outcome LayoutM → After
 afterOf (done l) = record { answer = pass; layout = l }
 afterOf (refused number values) = record { answer = refused number values; layout = noLayout }
 

@@ -1,12 +1,15 @@
 -- How far the offsets of a layout reach, as the code answers it.
-use mathlib.Core.Bool.{Bool, _&&_}
+use mathlib.Core.Bool.{Bool, true, false, _&&_}
+use mathlib.Core.Path.{_≡_}
 use mathlib.Core.List.{List}
-use Prim.Native.Nat.{ℕ, _-_}
+use Prim.Native.Nat.{ℕ, _-_, _≤_}
 use lib.Dec.{ltb, leb}
-use lib.IntN.{natAbs}
+use lib.IntN.{ℤ, natAbs}
 use Rattle.integer.specs.Range.{mostSigned}
-use Rattle.specification.specs.Tests.{if_then_else_}
-use Rattle.specification.specs.Axis.{Axis, isEmpty, upward, downward}
+use Rattle.specification.specs.Tests.{if_then_else_, some}
+use Rattle.specification.specs.Axis.{Axis, axesOf, isEmpty, upward, downward}
+use Rattle.specification.specs.Beside.{zeroAmong}
+use Rattle.specification.specs.CheckIn.{tooWide}
 use Rattle.specification.specs.Layout.{LayoutM, lowest, highest, inReach}
 use Rattle.view.specs.declared.bounds.Reach.{Reach}
 use Rattle.view.specs.declared.bounds.Reach.the-variants.{Empty, Between, Outside}
@@ -28,3 +31,18 @@ spansUpTo above below axes =
 -- an active extent minus 1 above 2^63 - 1: `tooWide` of an axis with this extent
 abbrev pub tooWideExtent : ℕ → Bool
 tooWideExtent n = ltb 1 n && ltb mostSigned (n - 1)
+
+-- two sums that are those of the spans, each at most its limit, of extents that are not 0 and not too wide
+pub record SmallSpans (above below : ℕ) (extents : List ℕ) (strides : List ℤ) (up down : ℕ) : Type 0 where
+  pub up-is : up ≡ upward (axesOf extents strides)
+  pub down-is : down ≡ downward (axesOf extents strides)
+  pub up-most : up ≤ above
+  pub down-most : down ≤ below
+  pub none-zero : zeroAmong extents ≡ false
+  pub none-wide : some tooWideExtent extents ≡ false
+
+-- a layout that is not empty, has no extent that is too wide, and is in reach
+pub record PlainlyWithin (l : LayoutM) : Type 0 where
+  pub not-empty : isEmpty (l .axes) ≡ false
+  pub not-wide : some tooWide (l .axes) ≡ false
+  pub in-reach : inReach l ≡ true

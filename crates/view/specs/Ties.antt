@@ -1,16 +1,24 @@
 -- Classes of tied axes as the code keeps them: for each axis its root, the lowest axis of its class, and a mask of the roots.
-use mathlib.Core.Bool.{Bool}
-use mathlib.Core.List.{List}
+use mathlib.Core.Bool.{Bool, true, false}
+use mathlib.Core.List.{List, []}
 use mathlib.Core.Path.{_≡_}
 use Prim.Native.Nat.{ℕ, zero, suc, _+_, _*_, _^_, _≤_, _<_}
 use lib.Dec.{eqb, ltb}
+use lib.IntN.{ℤ}
 use lib.ListN.{getD}
 use Rattle.specification.specs.Tests.{if_then_else_}
-use Rattle.specification.specs.Outcome.{pass}
+use Rattle.specification.specs.Layout.{LayoutM, rank}
+use Rattle.specification.specs.Outcome.{refused, pass}
 use Rattle.specification.specs.Tied.{Tied}
-use Rattle.specification.specs.Views.{pairFault}
+use Rattle.specification.specs.Views.{pairFault, kept, sumFaults, diagonalAxes}
 use Rattle.view.specs.Answers.{outcomeOf}
+use Rattle.view.specs.Model.{axesIn}
 use Rattle.view.specs.declared.diagonal.Ties.{Ties}
+use Rattle.view.specs.declared.layout.Answer.{Answer}
+
+-- roots, a rank and an answer that stand apart
+abbrev pub tiesIn : List ℕ → ℕ → Answer → Ties
+tiesIn roots rank answer = record { roots = roots; rank = rank; answer = answer }
 
 -- the root of axis a
 abbrev pub rootAt : List ℕ → ℕ → ℕ
@@ -46,3 +54,8 @@ isRoot roots a = eqb (rootAt roots a) a
 unfoldable pub maskOf : List ℕ → ℕ → ℕ
 maskOf roots zero = 0
 maskOf roots (suc n) = (if isRoot roots n then 1 else 0) * 2 ^ n + maskOf roots n
+
+-- the first n places of two arrays hold the axis of each class, and no sum of strides is out of range; or one is
+abbrev pub FusedInto : LayoutM → List (ℕ × ℕ) → ℕ → List ℕ → List ℤ → Bool → Type 0
+FusedInto l pairs n extents strides true = (sumFaults l pairs (kept pairs (rank l)) ≡ pass) × (axesIn extents strides n ≡ diagonalAxes l pairs)
+FusedInto l pairs n extents strides false = sumFaults l pairs (kept pairs (rank l)) ≡ refused 3 []

@@ -1,6 +1,6 @@
 // A product that stops at a limit.
 ghost use mathlib.Core.Path.{_≡_};
-ghost use Prim.Native.Nat.{_*_};
+ghost use Prim.Native.Nat.{ℕ, _*_, _≤_};
 ghost use Rattle.view.specs.Bounded.{boundedBy};
 
 // A number that is at most a limit, or none.
@@ -30,6 +30,19 @@ fn bounded_by_division(a: u64, b: u64, limit: u64) -> Bounded
         return Bounded::Over;
     }
     Bounded::Is(a * b)
+}
+
+// a * b of two numbers below 2^32, where that is at most the limit; else nothing is said.
+pub(crate) fn small_product(a: u64, b: u64, limit: u64) -> Bounded
+    ensures { λ r. ⌜ ((n : ℕ) → r ≡ Bounded.Is n → (n ≡ a * b) × (a * b ≤ limit) × (a ≤ 4294967295)) ⌝ }
+{
+    if 0xffff_ffff < a {
+        return Bounded::Over;
+    }
+    if 0xffff_ffff < b {
+        return Bounded::Over;
+    }
+    at_most(a * b, limit)
 }
 
 // a * b, where that is at most the limit. A product of two numbers below 2^32 fits a word and needs no division.

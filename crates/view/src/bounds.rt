@@ -1,7 +1,7 @@
 // How far the offsets of a layout reach, and check-in by it.
-ghost use mathlib.Core.Bool.{false, not, _&&_};
+ghost use mathlib.Core.Bool.{true, false, not, _&&_};
 ghost use mathlib.Core.Path.{_≡_};
-ghost use Prim.Native.Nat.{_+_, _-_};
+ghost use Prim.Native.Nat.{ℕ, _+_, _-_};
 ghost use lib.ListN.{length};
 ghost use Rattle.integer.specs.Parts.{posPart, negPart};
 ghost use Rattle.specification.specs.Tests.{some};
@@ -10,9 +10,10 @@ ghost use Rattle.specification.specs.CheckIn.{bounds, checkIn};
 ghost use Rattle.specification.specs.Beside.{zeroAmong};
 ghost use Rattle.view.specs.Answers.{outcomeOf, answerOf};
 ghost use Rattle.view.specs.Model.{modelFrom};
-ghost use Rattle.view.specs.Reach.{reachOf, spansUpTo, tooWideExtent};
+ghost use Rattle.view.specs.Reach.{reachOf, spansUpTo, tooWideExtent, SmallSpans, PlainlyWithin};
 use crate::bounded::Bounded;
 use crate::bounded::bounded_product;
+use crate::bounded::small_product;
 use crate::layout::Answer;
 use crate::layout::ReadingOffset;
 use crate::layout::Refusal;
@@ -148,13 +149,62 @@ pub(crate) fn reach_of(len: u64, offset: ReadingOffset, extents: &[u64], strides
     filled_reach(len, offset, extents, strides)
 }
 
-// Check-in's refusal 3, for two lists of equal length. Where the offsets are in reach each span fits, so only a wide extent is left to test.
-pub(crate) fn bounds_refusal(
+// The two sums where each is at most its limit, no extent is 0, and every factor is below 2^32, so that no product needs a division; else nothing is said.
+fn small_spans(extents: &[u64], strides: &[i64], above: u64, below: u64) -> Spans
+    requires { ⌜ length (now extents) ≡ length (now strides) ⌝ }
+    ensures { λ r. ⌜ ((up down : ℕ) → r ≡ Spans.Of up down → SmallSpans above below (now (extents .entry)) (now (strides .entry)) up down) ⌝ }
+{
+    let mut up: u64 = 0;
+    let mut down: u64 = 0;
+    let mut i = 0;
+    while i < extents.len() {
+        let extent = extents[i];
+        if extent == 0 {
+            return Spans::Over;
+        }
+        let last = extent - 1;
+        let stride = strides[i];
+        if stride < 0 {
+            let Bounded::Is(more) = small_product(last, negative_part(stride), below - down) else {
+                return Spans::Over;
+            };
+            down += more;
+            i += 1;
+        } else {
+            let Bounded::Is(more) = small_product(last, positive_part(stride), above - up) else {
+                return Spans::Over;
+            };
+            up += more;
+            i += 1;
+        }
+    }
+    Spans::Of(up, down)
+}
+
+// Whether a layout of small numbers is seen at once to be in bounds, as most are. Where it is false nothing is said.
+pub(crate) fn plainly_within(
     len: u64,
     offset: ReadingOffset,
     extents: &[u64],
     strides: &[i64],
-) -> Answer
+) -> bool
+    requires { ⌜ length (now extents) ≡ length (now strides) ⌝ }
+    ensures { λ r. ⌜ (r ≡ true → PlainlyWithin (modelFrom len (offset .0) (now (extents .entry)) (now (strides .entry)))) ⌝ }
+{
+    let start = offset.0;
+    if start < 0 {
+        return false;
+    }
+    let base = positive_part(start);
+    let spans = small_spans(extents, strides, 9223372036854775807 - base, base);
+    match spans {
+        Spans::Over => false,
+        Spans::Of(up, _) => base + up < len,
+    }
+}
+
+// Check-in's refusal 3 by its five cases. Where the offsets are in reach each span fits, so only a wide extent is left to test.
+fn bounds_by_cases(len: u64, offset: ReadingOffset, extents: &[u64], strides: &[i64]) -> Answer
     requires { ⌜ length (now extents) ≡ length (now strides) ⌝ }
     ensures { λ r. ⌜ outcomeOf r ≡ bounds (modelFrom len (offset .0) (now (extents .entry)) (now (strides .entry))) ⌝ }
 {
@@ -170,6 +220,22 @@ pub(crate) fn bounds_refusal(
         Reach::Empty => Answer::Done,
         Reach::Between(_, _) => Answer::Done,
     }
+}
+
+// Check-in's refusal 3, for two lists of equal length.
+pub(crate) fn bounds_refusal(
+    len: u64,
+    offset: ReadingOffset,
+    extents: &[u64],
+    strides: &[i64],
+) -> Answer
+    requires { ⌜ length (now extents) ≡ length (now strides) ⌝ }
+    ensures { λ r. ⌜ outcomeOf r ≡ bounds (modelFrom len (offset .0) (now (extents .entry)) (now (strides .entry))) ⌝ }
+{
+    if plainly_within(len, offset, extents, strides) {
+        return Answer::Done;
+    }
+    bounds_by_cases(len, offset, extents, strides)
 }
 
 // Check-in without the layout: refusals 1 and 2, then the bounds.

@@ -34,6 +34,12 @@ pub enum Answer {
     Refused(Refusal),
 }
 
+// What a view of a layout in two lent lists answers: the rank after it, or the refusal.
+pub enum RankAfter {
+    Is(usize),
+    Refused(Refusal),
+}
+
 // The layout after a call, and what the call answered.
 pub struct Viewed {
     pub layout: Layout,

@@ -1,5 +1,6 @@
 // The layout half of view.rs: layouts of strided readings, check-in, views, dense strides and indexed offsets.
 pub mod accepted;
+mod axes;
 pub mod bounded;
 pub mod bounds;
 pub mod broadcast;

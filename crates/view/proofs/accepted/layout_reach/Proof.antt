@@ -1,42 +1,31 @@
 -- The reach of a layout is that of the first entries of its arrays.
-use mathlib.Core.Path.{_≡_, sym, _∙_}
 use native.Mathlib.Omega.{arith}
-use lib.ListN.{length, take}
-use lib.Seq.{length-take-le}
 use borrow.Author.Needs.{needs}
-use Rattle.view.proofs.ModelLaws.{axesOf-take}
+use Rattle.view.proofs.ModelLaws.{Lent, lent}
 use Rattle.view.proofs.accepted.layout_reach.Statement.{statement}
 use Rattle.view.proofs.accepted.layout_reach.Tie as tie
 
--- both arrays hold 16 entries
-sixteen : (a : tie.After-strides) → let l = a .before .before .args .layout in (length (l .extents) ≡ 16) × (length (l .strides) ≡ 16)
-sixteen a = (search needs, search needs)
-
-taken : (a : tie.After-strides) → let l = a .before .before .args .layout in
-    (length (take (l .rank) (l .extents)) ≡ l .rank) × (length (take (l .rank) (l .strides)) ≡ l .rank)
-taken a = let l = a .before .before .args .layout in
-    (length-take-le (l .rank) (l .extents) (omega (arith, sixteen a)), length-take-le (l .rank) (l .strides) (omega (arith, sixteen a)))
+-- the first entries of both arrays
+lends : (a : tie.After-strides) → Lent (a .before .before .args .layout)
+lends a = lent _ (omega arith) (search needs) (search needs)
 
 array-share-prefix-extents : tie.Need-array-share-prefix-extents
-array-share-prefix-extents c = omega (arith, sixteen c)
+array-share-prefix-extents c = lends c .extents-room
 
 slice-aggregate-reach-of : tie.Need-slice-aggregate-reach-of
-slice-aggregate-reach-of c = sym (taken (c .before) .0)
+slice-aggregate-reach-of c = lends (c .before) .extents-long
 
 array-share-prefix-strides : tie.Need-array-share-prefix-strides
-array-share-prefix-strides c = omega (arith, sixteen (c .before))
+array-share-prefix-strides c = lends (c .before) .strides-room
 
 slice-aggregate-reach-of-2 : tie.Need-slice-aggregate-reach-of-2
-slice-aggregate-reach-of-2 c = sym (taken (c .before .before) .1)
+slice-aggregate-reach-of-2 c = lends (c .before .before) .strides-long
 
 reach-of-requires : tie.Need-reach-of-requires
-reach-of-requires c κs = taken (c .before .before) .0 ∙ sym (taken (c .before .before) .1)
+reach-of-requires c κs = lends (c .before .before) .alike
 
 returns : tie.Need-returns
-returns c =
-    let a = c .before .before .before in
-    let l = a .before .before .args .layout in
-    rw (← axesOf-take (l .extents) (l .strides) (l .rank) (omega (arith, sixteen a)) (omega (arith, sixteen a))) (c .reach-of .ensures)
+returns c = rw (← lends (c .before .before .before) .axes-are) (c .reach-of .ensures)
 
 pub layout-reach-spec : {M : Type 1} → statement M
 layout-reach-spec =

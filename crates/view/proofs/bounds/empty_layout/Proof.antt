@@ -6,7 +6,7 @@ use lib.ListN.{length, drop}
 use borrow.Author.Tests.{eq-eqb, ne-eqb}
 use borrow.Author.Needs.{needs}
 use Rattle.specification.specs.Beside.{zeroAmong}
-use Rattle.view.proofs.SomeLaws.{some-found, some-behind, some-end}
+use Rattle.specification.proofs.SomeLaws.{some-found, some-behind, some-end}
 use Rattle.view.proofs.bounds.empty_layout.Statement.{statement}
 use Rattle.view.proofs.bounds.empty_layout.Tie as tie
 

@@ -1,6 +1,6 @@
 -- By the offset and the two sums: the lowest offset is the offset less the one, the highest the offset and the other.
 use mathlib.Core.Path.{_≡_, sym, ap, _∙_}
-use mathlib.Core.Bool.{Bool, false}
+use mathlib.Core.Bool.{false}
 use mathlib.Core.List.{List}
 use Prim.Native.Nat.{ℕ, _-_, _≤_}
 use native.Mathlib.Omega.{arith}
@@ -13,11 +13,10 @@ use mir.ValLaws.{toZ-ofZ}
 use Rattle.integer.specs.Parts.{posPart, negPart}
 use Rattle.integer.proofs.MachineInteger.{negative-tested, nonnegative-tested}
 use Rattle.integer.proofs.PartLaws.{posPart-below}
-use Rattle.specification.specs.Axis.{axesOf, isEmpty, upward, downward}
+use Rattle.specification.specs.Axis.{isEmpty, upward, downward}
 use Rattle.specification.specs.Layout.{LayoutM}
 use Rattle.view.specs.Model.{modelFrom}
-use Rattle.view.specs.Reach.{reachOf}
-use Rattle.view.proofs.SomeLaws.{some-axesOf}
+use Rattle.specification.proofs.SomeLaws.{some-axesOf}
 use Rattle.view.proofs.SpanLaws.{spans-of, spans-over}
 use Rattle.view.proofs.BoundsLaws.{reach-between, reach-outside, low-parts, high-parts}
 use Rattle.view.proofs.bounds.filled_reach.Statement.{statement}

@@ -1,8 +1,7 @@
 -- What was passed is neither 0 nor too wide, so the answer is that of the extents still left.
-use mathlib.Core.Path.{_≡_, sym, ap, _∙_}
-use mathlib.Core.Bool.{Bool, not, _&&_, and-false}
-use mathlib.Core.List.{List}
-use Prim.Native.Nat.{ℕ, _≤_, _-_}
+use mathlib.Core.Path.{_≡_, sym, _∙_}
+use mathlib.Core.Bool.{not, and-false}
+use Prim.Native.Nat.{_≤_, _-_}
 use lib.Dec.{eqb}
 use lib.ListN.{length, drop}
 use borrow.Author.Tests.{eq-eqb, ne-eqb}
@@ -11,7 +10,7 @@ use Rattle.specification.specs.Tests.{some}
 use Rattle.specification.specs.Beside.{zeroAmong}
 use Rattle.view.specs.Reach.{tooWideExtent}
 use Rattle.view.proofs.BoundsLaws.{wide-extent, narrow-extent}
-use Rattle.view.proofs.SomeLaws.{some-found, some-behind, some-end}
+use Rattle.specification.proofs.SomeLaws.{some-found, some-behind, some-end}
 use Rattle.view.proofs.bounds.ordinary.Statement.{statement}
 use Rattle.view.proofs.bounds.ordinary.Tie as tie
 

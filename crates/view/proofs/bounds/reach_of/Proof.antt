@@ -1,10 +1,10 @@
 -- An empty layout has no reach; of any other it is found by the spans.
-use mathlib.Core.Path.{_≡_, sym, _∙_}
+use mathlib.Core.Path.{sym, _∙_}
 use lib.Dec.{eqb}
 use borrow.Author.Needs.{needs}
-use Rattle.specification.specs.Axis.{axesOf, isEmpty}
+use Rattle.specification.specs.Axis.{isEmpty}
 use Rattle.view.specs.Reach.{reachOf}
-use Rattle.view.proofs.SomeLaws.{some-axesOf}
+use Rattle.specification.proofs.SomeLaws.{some-axesOf}
 use Rattle.view.proofs.bounds.reach_of.Statement.{statement}
 use Rattle.view.proofs.bounds.reach_of.Tie as tie
 

@@ -11,10 +11,10 @@ use Rattle.view.proofs.diagonal.root_mask.Statement.{statement}
 use Rattle.view.proofs.diagonal.root_mask.Tie as tie
 
 abbrev Inv-loop : tie.InvT-loop
-Inv-loop rank roots mask₀ axis₀ mask axis = (axis ≤ rank) × (mask ≡ maskOf roots axis)
+Inv-loop roots rank mask₀ axis₀ mask axis = (axis ≤ rank) × (mask ≡ maskOf roots axis)
 
 abbrev μ-loop : tie.MeasureT-loop
-μ-loop rank roots mask₀ axis₀ mask axis = rank - axis
+μ-loop roots rank mask₀ axis₀ mask axis = rank - axis
 
 loop-holds : tie.Need-loop-holds Inv-loop μ-loop
 unfolding maskOf
@@ -23,8 +23,8 @@ loop-holds c = search needs
 mul-if1 : tie.Need-mul-if1 Inv-loop μ-loop
 mul-if1 c = search needs
 
-array-read-if1 : tie.Need-array-read-if1 Inv-loop μ-loop
-array-read-if1 c = search needs
+element-copy-out-if1 : tie.Need-element-copy-out-if1 Inv-loop μ-loop
+element-copy-out-if1 c = search needs
 
 cast-mask : tie.Need-cast-mask Inv-loop μ-loop
 cast-mask c = search needs
@@ -40,8 +40,8 @@ loop-less c = search needs
 
 loop-again : tie.Need-loop-again Inv-loop μ-loop
 loop-again c =
-    let l = c .before .before .loop in
-    let roots = c .before .before .before .args .t1 in
+    let l = c .before .before .before .loop in
+    let roots = c .before .before .before .before .args .roots .now in
     ⊎-elim
     (λ w. (omega arith, w .1 ∙ mask-set roots (l .axis) (l .mask) (omega arith) (w .0 .taken) (l .inv .1)))
     (λ w. (omega arith, w .1 ∙ l .inv .1 ∙ mask-clear roots (l .axis) (w .0 .left)))
@@ -58,7 +58,7 @@ root-mask-spec =
     μ-loop
     loop-holds
     mul-if1
-    array-read-if1
+    element-copy-out-if1
     cast-mask
     shl-mask
     add-axis

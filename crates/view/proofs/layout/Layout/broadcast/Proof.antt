@@ -1,43 +1,58 @@
--- `broadcast`: the refusal and the old layout, or the new layout.
-use mathlib.Core.Path.{sym, ap, _∙_}
-use Rattle.view.specs.Answers.{outcomeOf}
-use Rattle.specification.specs.Views.{broadcast, unlessRefused}
-use Rattle.view.proofs.ListedLaws.{listed-passed}
+-- `broadcast` is `broadcast_in_place` in the first entries of the arrays.
+use mathlib.Core.Path.{_∙_}
+use native.Mathlib.Omega.{arith}
+use Rattle.specification.specs.Views.{broadcast}
+use Rattle.view.proofs.ModelLaws.{Lent, lent}
+use Rattle.view.proofs.InPlaceLaws.{too-many-axes, left-in-arrays}
 use borrow.Author.Needs.{needs}
 use Rattle.view.proofs.layout.Layout.broadcast.Statement.{statement}
 use Rattle.view.proofs.layout.Layout.broadcast.Tie as tie
 
-broadcast-refusal-requires : tie.Need-broadcast-refusal-requires
-broadcast-refusal-requires c κs = search needs
-
-enum-known-answer : tie.Need-enum-known-answer
-enum-known-answer c = search needs
-
-enum-told : tie.Need-enum-told
-enum-told c = search needs
-
-stretched-requires : tie.Need-stretched-requires
-stretched-requires c κs =
-    let s = c .before .before .before .before in
-    let e = sym (c .before .before .broadcast-refusal .ensures) ∙ ap outcomeOf (c .enum-told .given .1) in
-    let p = listed-passed (s .args .self) (s .args .targets .now) _ _ e in
-    (p .0, p .1)
+-- the first entries of both arrays
+lends : (a : tie.After-strides) → Lent (a .before .before .before .before .args .self)
+lends a = lent _ (omega arith) (search needs) (search needs)
 
 returns : tie.Need-returns
-unfolding broadcast unlessRefused
-returns c = rw (← c .before .before .before .broadcast-refusal .ensures, c .before .answer .given .1)
+unfolding broadcast
+returns c = too-many-axes (c .before .before .args .self) (c .before .before .args .targets .now) _ _ (c .if1 .taken)
+
+array-borrow-prefix-extents : tie.Need-array-borrow-prefix-extents
+array-borrow-prefix-extents c = lends c .extents-room
+
+slice-aggregate-broadcast-in-place : tie.Need-slice-aggregate-broadcast-in-place
+slice-aggregate-broadcast-in-place c = lends (c .before) .extents-long
+
+array-borrow-prefix-strides : tie.Need-array-borrow-prefix-strides
+array-borrow-prefix-strides c = lends (c .before) .strides-room
+
+slice-aggregate-broadcast-in-place-2 : tie.Need-slice-aggregate-broadcast-in-place-2
+slice-aggregate-broadcast-in-place-2 c = lends (c .before .before) .strides-long
+
+broadcast-in-place-requires : tie.Need-broadcast-in-place-requires
+broadcast-in-place-requires c κs =
+    let t = lends (c .before .before) in
+    (t .alike, omega (arith, t .extents-long))
+
+with-axes-requires : tie.Need-with-axes-requires
+with-axes-requires c κs = search needs
 
 returns-2 : tie.Need-returns-2
-unfolding broadcast unlessRefused
-returns-2 c = rw (← c .before .before .before .broadcast-refusal .ensures, c .before .enum-told .given .1) (cc)
+returns-2 c =
+    let b = c .before .before .before .broadcast-in-place in
+    let a = c .before .before .before .before .before .before in
+    let s = a .before .before .before .before in
+    c .with-axes .ensures
+    ∙ left-in-arrays (s .args .self) (λ m. broadcast m (s .args .targets .now)) (b .last .1 .1 .0) (b .last .1 .1 .1 .0) (b .result) (lends a) (b .kept .1 .1 .0) (b .kept .1 .1 .1 .0) (b .ensures)
 
 pub broadcast-spec : {M : Type 1} → statement M
 broadcast-spec =
     tie.close
     (tie.spec
-    broadcast-refusal-requires
-    enum-known-answer
-    enum-told
-    stretched-requires
     returns
+    array-borrow-prefix-extents
+    slice-aggregate-broadcast-in-place
+    array-borrow-prefix-strides
+    slice-aggregate-broadcast-in-place-2
+    broadcast-in-place-requires
+    with-axes-requires
     returns-2)

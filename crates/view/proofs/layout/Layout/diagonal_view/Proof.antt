@@ -41,7 +41,7 @@ use denote.Triple.Statement.{Contract, Triple}
 use denote.Triple.Entry.{Vals, onEntry}
 use denote.Triple.Spec.{Meets, tripleOf}
 use denote.Triple.Table.{entered, cited}
-use denote.Triple.Walked.{says, Stays, stay-none-slice, stay-none, walkOf, Walks, ends-at, walked, goes-none-slice, goes-none, walk-meets}
+use denote.Triple.Walked.{says, Stays, stay-none-slice, stay-none, walkOf, ends-at, walked, goes-none-slice, goes-none, walk-meets}
 use denote.Exit.{yes}
 use Rattle.specification.specs.Views.{diagonalView}
 use Rattle.view.specs.Model.{modelOf, viewedOf, pairsIn}

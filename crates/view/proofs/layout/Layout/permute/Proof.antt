@@ -1,47 +1,58 @@
--- `permute`: the refusal and the old layout, or the new layout.
-use mathlib.Core.Path.{sym, ap, _∙_}
-use mathlib.Core.List.{[]}
-use Rattle.view.specs.Answers.{outcomeOf}
-use Rattle.view.specs.Model.{modelOf}
-use Rattle.specification.specs.Layout.{rank}
-use Rattle.specification.specs.Views.{permute, unlessRefused}
-use Rattle.view.proofs.ListedLaws.{rank-modelOf, listed-passed}
-use Rattle.view.proofs.OrderLaws.{order-below}
+-- `permute` is `permute_in_place` in the first entries of the arrays.
+use mathlib.Core.Path.{_∙_}
+use native.Mathlib.Omega.{arith}
+use Rattle.specification.specs.Views.{permute}
+use Rattle.view.proofs.ModelLaws.{Lent, lent}
+use Rattle.view.proofs.InPlaceLaws.{too-many-axes, left-in-arrays}
 use borrow.Author.Needs.{needs}
 use Rattle.view.proofs.layout.Layout.permute.Statement.{statement}
 use Rattle.view.proofs.layout.Layout.permute.Tie as tie
 
-permute-refusal-requires : tie.Need-permute-refusal-requires
-permute-refusal-requires c κs = search needs
-
-enum-known-answer : tie.Need-enum-known-answer
-enum-known-answer c = search needs
-
-enum-told : tie.Need-enum-told
-enum-told c = search needs
-
-reordered-requires : tie.Need-reordered-requires
-reordered-requires c κs =
-    let s = c .before .before .before .before in
-    let e = sym (c .before .before .permute-refusal .ensures) ∙ ap outcomeOf (c .enum-told .given .1) in
-    let p = listed-passed (s .args .self) (s .args .order .now) _ _ e in
-    (p .0, p .1, λ i h. rw (← rank-modelOf (s .args .self)) (order-below (rank (modelOf (s .args .self))) [] (s .args .order .now) (p .2) i h))
+-- the first entries of both arrays
+lends : (a : tie.After-strides) → Lent (a .before .before .before .before .args .self)
+lends a = lent _ (omega arith) (search needs) (search needs)
 
 returns : tie.Need-returns
-unfolding permute unlessRefused
-returns c = rw (← c .before .before .before .permute-refusal .ensures, c .before .answer .given .1)
+unfolding permute
+returns c = too-many-axes (c .before .before .args .self) (c .before .before .args .order .now) _ _ (c .if1 .taken)
+
+array-borrow-prefix-extents : tie.Need-array-borrow-prefix-extents
+array-borrow-prefix-extents c = lends c .extents-room
+
+slice-aggregate-permute-in-place : tie.Need-slice-aggregate-permute-in-place
+slice-aggregate-permute-in-place c = lends (c .before) .extents-long
+
+array-borrow-prefix-strides : tie.Need-array-borrow-prefix-strides
+array-borrow-prefix-strides c = lends (c .before) .strides-room
+
+slice-aggregate-permute-in-place-2 : tie.Need-slice-aggregate-permute-in-place-2
+slice-aggregate-permute-in-place-2 c = lends (c .before .before) .strides-long
+
+permute-in-place-requires : tie.Need-permute-in-place-requires
+permute-in-place-requires c κs =
+    let t = lends (c .before .before) in
+    (t .alike, omega (arith, t .extents-long))
+
+with-axes-requires : tie.Need-with-axes-requires
+with-axes-requires c κs = search needs
 
 returns-2 : tie.Need-returns-2
-unfolding permute unlessRefused
-returns-2 c = rw (← c .before .before .before .permute-refusal .ensures, c .before .enum-told .given .1) (cc)
+returns-2 c =
+    let b = c .before .before .before .permute-in-place in
+    let a = c .before .before .before .before .before .before in
+    let s = a .before .before .before .before in
+    c .with-axes .ensures
+    ∙ left-in-arrays (s .args .self) (λ m. permute m (s .args .order .now)) (b .last .1 .1 .0) (b .last .1 .1 .1 .0) (b .result) (lends a) (b .kept .1 .1 .0) (b .kept .1 .1 .1 .0) (b .ensures)
 
 pub permute-spec : {M : Type 1} → statement M
 permute-spec =
     tie.close
     (tie.spec
-    permute-refusal-requires
-    enum-known-answer
-    enum-told
-    reordered-requires
     returns
+    array-borrow-prefix-extents
+    slice-aggregate-permute-in-place
+    array-borrow-prefix-strides
+    slice-aggregate-permute-in-place-2
+    permute-in-place-requires
+    with-axes-requires
     returns-2)
