@@ -128,15 +128,10 @@ fn broadcast(line: &[u8], out: &mut [u8; 65536], at: usize, current: Layout) -> 
     viewed(out, at, current.broadcast(&targets[..count]))
 }
 
-// The view with axes tied, by flat numbers of which two are a pair.
-fn tied(layout: Layout, numbers: &[usize]) -> Viewed {
-    diagonal_by_numbers(layout, numbers)
-}
-
 fn diagonal(line: &[u8], out: &mut [u8; 65536], at: usize, current: Layout) -> Changed {
     let mut pairs = [0usize; 128];
     let count = pair_list(word(line, 2), &mut pairs);
-    viewed(out, at, tied(current, &pairs[..count]))
+    viewed(out, at, diagonal_by_numbers(current, &pairs[..count]))
 }
 
 // The record that the word writes, with the first words of the scratch.

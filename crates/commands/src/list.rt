@@ -20,7 +20,7 @@ pub fn unsigned_or_zero(text: &[u8]) -> u64 {
     }
 }
 
-// The same with a sign.
+// The number with its sign, or 0 for a text that is none.
 pub fn signed_or_zero(text: &[u8]) -> i64 {
     let number = read_signed(text);
     match number {
@@ -36,14 +36,14 @@ pub fn first_words(count: usize, words: &[u64]) -> usize
     least(count, words.len())
 }
 
-// The same of bytes.
+// As many of the first bytes as a number says, or all.
 pub fn first_bytes(count: usize, bytes: &[u8]) -> usize
     ensures { λ r. ⌜ Front r (now (bytes .entry)) ⌝ }
 {
     least(count, bytes.len())
 }
 
-// The same of places.
+// As many of the first places as a number says, or all.
 pub fn first_places(count: usize, places: &[usize]) -> usize
     ensures { λ r. ⌜ Front r (now (places .entry)) ⌝ }
 {
@@ -63,7 +63,7 @@ pub fn unsigned_list(text: &[u8], out: &mut [u64]) -> usize
     count
 }
 
-// The same with signs.
+// Puts the signed entries of a list to the front, as many as there is room for, and answers how many.
 pub fn signed_list(text: &[u8], out: &mut [i64]) -> usize
     ensures { λ r. ⌜ Front r (now (out .exit)) ⌝ }
 {
@@ -77,7 +77,7 @@ pub fn signed_list(text: &[u8], out: &mut [i64]) -> usize
     count
 }
 
-// The same of axes.
+// Puts the axes of a list to the front, as many as there is room for, and answers how many.
 pub fn axis_list(text: &[u8], out: &mut [usize]) -> usize
     ensures { λ r. ⌜ Front r (now (out .exit)) ⌝ }
 {
@@ -90,7 +90,7 @@ pub fn axis_list(text: &[u8], out: &mut [usize]) -> usize
     count
 }
 
-// The same of pairs, two numbers each.
+// Puts the pairs of a list to the front, two numbers each, as many as there is room for, and answers how many numbers.
 pub fn pair_list(text: &[u8], out: &mut [usize]) -> usize
     ensures { λ r. ⌜ Front r (now (out .exit)) ⌝ }
 {

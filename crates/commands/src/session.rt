@@ -11,6 +11,7 @@ use crate::problem::Problem;
 use crate::text::place_of;
 use crate::text::word;
 use crate::text::word_count;
+use spelling::line::gather;
 use view::layout::Layout;
 use view::layout::ReadingOffset;
 
@@ -108,7 +109,7 @@ fn answer_in(
     }
 }
 
-// The same, with the whole room of the line.
+// The answer, with the whole room of the line.
 fn answer(
     session: Session,
     line: &[u8; 4096],
@@ -117,21 +118,6 @@ fn answer(
     room: &mut [u8; 65536],
 ) -> Session {
     answer_in(session, line, out, scratch, room)
-}
-
-// Puts a part of a line behind what has come of it.
-fn gather(line: &mut [u8; 4096], filled: usize, part: &[u8]) -> usize {
-    let mut to = filled;
-    let mut i = 0;
-    while i < part.len() {
-        if 4096 <= to {
-            return 4097;
-        }
-        line[to] = part[i];
-        to += 1;
-        i += 1;
-    }
-    to
 }
 
 // Answers each line that ends in the input, and keeps what is behind the last.

@@ -1,3 +1,4 @@
 pub mod Front
 pub mod Hexadecimal
 pub mod Number
+pub mod Line

@@ -65,7 +65,7 @@ pub fn read_unsigned(text: &[u8]) -> Unsigned
     Unsigned::Is(sum)
 }
 
-// The same with `-` in front of a negative number, where an i64 holds it; `Over` for any other text.
+// The number that a text of digits spells, with `-` in front of a negative one, where an i64 holds it; `Over` for any other text.
 pub fn read_signed(text: &[u8]) -> Checked
     ensures { λ r. ⌜ r ≡ signedOf (now (text .entry)) ⌝ }
 {
