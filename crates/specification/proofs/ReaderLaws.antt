@@ -1,4 +1,4 @@
--- What is known of bytes that were read, and that the layout read is accepted.
+-- What is known of bytes that were read: their fields, that the layout read is accepted, and its buffer length.
 use mathlib.Core.Path.{_≡_, refl, sym, ap, subst, _∙_}
 use mathlib.Core.Bool.{Bool, true, false, not}
 use mathlib.Core.List.{List, []}
@@ -98,6 +98,7 @@ rank-told bytes = length-axesFrom bytes 13 (getD bytes 4 0)
 
 -- ---- the layout read is accepted
 
+-- one more than a number from 0 on
 one-more : (z : ℤ) → pos 0 ≤ℤ z → z +ℤ pos 1 ≡ pos (posPart z + 1)
 one-more (pos n) h = refl
 one-more (negsuc n) h = absurd (omega (arith, le-parts h))
@@ -111,7 +112,7 @@ below-buffer l k h = go (isEmpty (l .axes)) refl
     go true e = absurd (omega (arith, empty-none (l .axes) e))
     go false e = parts-lt (omega (arith, le-parts (reach-of l e .between k h .1)))
 
--- and one above the highest, where no offset is below 0
+-- where none is below 0, one of them is just below it
 buffer-to-highest : (l : LayoutM) → ((k : ℕ) → k < positions (l .axes) → pos 0 ≤ℤ offsetAt l k) → BufferToHighest (withBuffer l)
 unfolding withBuffer
 buffer-to-highest l low = record { empty = no-buffer (isEmpty (l .axes)) refl; reached = by (isEmpty (l .axes)) refl; none-above = below-buffer l }
