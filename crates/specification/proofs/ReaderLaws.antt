@@ -96,11 +96,11 @@ one-more (negsuc n) h = absurd (omega (arith, le-parts h))
 module _ (l : LayoutM) where
   buffer-empty : isEmpty (l .axes) ≡ true → withBuffer l .buffer ≡ 0
   unfolding withBuffer
-  buffer-empty e = rw e
+  buffer-empty e = rw e (omega arith)
 
   buffer-full : isEmpty (l .axes) ≡ false → withBuffer l .buffer ≡ posPart (highest l) + 1
   unfolding withBuffer
-  buffer-full e = rw e
+  buffer-full e = rw e (omega arith)
 
   -- the buffer length is above every offset
   below-buffer : (k : ℕ) → k < positions (l .axes) → offsetAt l k <ℤ pos (withBuffer l .buffer)
