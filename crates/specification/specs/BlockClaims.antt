@@ -22,7 +22,7 @@ pub record EntryOf (list : List ActiveAxis) (a : ActiveAxis) : Type 0 where
   pub in-list : place < length list
   pub stands-there : entryAt list place ≡ a
 
--- a is an active axis of the layout: its number is below the rank, its extent that axis's and above 1, its stride that axis's without the sign
+-- a is an active axis of axes: its number is below the rank, its extent that axis's and above 1, its stride that axis's without the sign
 pub record ActiveAxisOf (axes : List Axis) (a : ActiveAxis) : Type 0 where
   pub in-rank : a .axis < length axes
   pub extent-is : a .extent ≡ axisAt axes (a .axis) .extent

@@ -73,7 +73,7 @@ pub record ReaderClaims : Type 0 where
 abbrev pub Bytes : List ℕ → Type 0
 Bytes bytes = (i : ℕ) → getD bytes i 0 < 256
 
--- both ways: the reader accepts exactly what the writer writes; `words` are lent to the one, `words′` to the other, enough for the verdict of what it judges
+-- both ways: the reader accepts exactly what the writer writes; the first call is lent `words`, the second `words′`, at least as many as the verdict needs
 pub record RoundTrip : Type 0 where
   -- write then read: the normal form, with the buffer length that its offsets need; bytes behind are ignored
   pub write-read : (l : LayoutM) (room words words′ : ℕ) (m : Made) (behind : List ℕ) → Accepted l → written l room words ≡ done m → wordsNeeded (normalOf l .axes) ≤ words′
