@@ -48,7 +48,7 @@ gcdWithin-divides (suc f) a (suc b) h =
     let w = gcdWithin-divides f (suc b) (a % suc b) (omega arith) in
     (dvd-mod-iff (gcdWithin f (suc b) (a % suc b)) (w .0) .0 (w .1), w .0)
 
--- The same of `gcd`.
+-- So `gcd` divides both.
 pub gcd-divides-left : (a b : ℕ) → gcd a b ∣ a
 unfolding gcd
 gcd-divides-left a b = gcdWithin-divides b a b (omega arith) .0

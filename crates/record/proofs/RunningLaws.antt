@@ -1,18 +1,19 @@
 -- Demand 3 and the round trip of running code: the theorems of the definitions at what the contracts say.
 use mathlib.Core.Path.{_≡_, refl, sym, ap, subst, _∙_}
 use mathlib.Core.List.{List, _++_}
-use Prim.Native.Nat.{ℕ}
+use Prim.Native.Nat.{ℕ, _≤_}
 use lib.ListN.{length, take, drop}
 use lib.Seq.{take-at, length-take-le}
 use native.Mathlib.Omega.{arith}
 use Rattle.specification.specs.Layout.{LayoutM}
 use Rattle.specification.specs.Outcome.{Outcome, done, refused, pass}
 use Rattle.specification.specs.Views.{After}
+use Rattle.specification.specs.Verdict.{wordsNeeded}
 use Rattle.specification.specs.Record.{Made, WasRead, written, writeAnswer, outputAfter, readOf, numberFrom, Writing}
 use Rattle.specification.proofs.Proved.{demand3}
 use Rattle.specification.proofs.OutcomeLaws.{clash}
 use Rattle.specification.proofs.RoundTripLaws.{round-trip}
-use Rattle.specification.proofs.ReaderLaws.{reads, fields-tested}
+use Rattle.specification.proofs.ReaderLaws.{reads}
 use Rattle.view.specs.Model.{modelOf}
 use Rattle.record.specs.CallList.{callsOf}
 use Rattle.record.specs.Writer.{wroteOf}
@@ -47,16 +48,16 @@ pub running-round-trip : RunningRoundTrip
 running-round-trip = record {
   write-read = λ l output scratch output-then scratch-then wrote n a w e scratch′ scratch-then′ answer h r.
       let m = made-record (modelOf l) output scratch output-then scratch-then (wroteOf wrote) w e in
-      let t = round-trip .write-read (modelOf l) (length output) (length scratch) (m .0) (drop (length (m .0 .bytes)) output) a (m .1) in
-      let q : readOf output-then (length scratch′) ≡ done (t .0) = ap (λ (b : List ℕ). readOf b (length scratch′)) (m .2) ∙ ap (λ (k : ℕ). readOf (m .0 .bytes ++ drop (length (m .0 .bytes)) output) k) h ∙ t .1 in
+      let t = round-trip .write-read (modelOf l) (length output) (length scratch) (length scratch′) (m .0) (drop (length (m .0 .bytes)) output) a (m .1) h in
+      let q : readOf output-then (length scratch′) ≡ done (t .0) = ap (λ (b : List ℕ). readOf b (length scratch′)) (m .2) ∙ t .1 in
       r .answer-is ∙ ap readAfter q ∙ ap (λ (x : LayoutM). record { answer = pass; layout = x }) (t .2);
   read-write = λ bytes scratch scratch-then l b r output scratch′ output-then scratch-then′ answer h k w.
       let d = read-done (readOf bytes (length scratch)) (r .answer-is) in
-      let q : readOf bytes (length scratch′) ≡ done (d .0) = ap (readOf bytes) h ∙ d .1 in
-      let t = round-trip .read-write bytes (length output) (length scratch′) (d .0) b q k in
+      let enough : wordsNeeded (d .0 .layout .axes) ≤ length scratch′ = subst (λ (x : LayoutM). wordsNeeded (x .axes) ≤ length scratch′) (d .2) h in
+      let t = round-trip .read-write bytes (length output) (length scratch) (length scratch′) (d .0) b (d .1) k enough in
       let o : output-then ≡ t .0 .bytes ++ drop (length (t .0 .bytes)) output
       = w .output-is ∙ ap (λ (x : LayoutM). outputAfter (written x (length output) (length scratch′)) output) (d .2) ∙ ap (λ (x : Outcome Made). outputAfter x output) (t .1) in
-      let f = fields-tested bytes (reads bytes (length scratch′) (d .0) q .whole .fields) in
+      let f = reads bytes (length scratch) (d .0) (d .1) .whole .fields in
       let n : length (t .0 .bytes) ≡ numberFrom bytes 0 2 = ap length (t .2) ∙ length-take-le (numberFrom bytes 0 2) bytes (omega (arith, f .length-is, f .whole-there)) in
       ap (take (numberFrom bytes 0 2)) o ∙ take-at (t .0 .bytes) (drop (length (t .0 .bytes)) output) (numberFrom bytes 0 2) n ∙ t .2;
 }

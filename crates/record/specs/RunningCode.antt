@@ -8,6 +8,7 @@ use Rattle.specification.specs.Outcome.{Outcome, done, pass}
 use Rattle.specification.specs.Layout.{LayoutM, Accepted}
 use Rattle.specification.specs.Normal.{normalOf}
 use Rattle.specification.specs.Views.{After}
+use Rattle.specification.specs.Verdict.{wordsNeeded}
 use Rattle.specification.specs.Record.{Writing, withBuffer, numberFrom}
 use Rattle.specification.specs.RecordClaims.{Bytes}
 use Rattle.specification.specs.Calls.{endOf}
@@ -32,15 +33,15 @@ RunningDemand3 = (a b : Layout) → Accepted (modelOf a) → Accepted (modelOf b
     → Writing (modelOf (ran′ .layout)) output′ scratch′ (wroteOf wrote′) output-then′ scratch-then′
     → Demand3 (modelOf a) (modelOf b) (callsOf cs) (callsOf ds) output scratch output-then scratch-then output′ scratch′ output-then′ scratch-then′ (wroteOf wrote) (wroteOf wrote′)
 
--- the round trip, both ways, of any calls of writer and reader
+-- the round trip, both ways, of any calls of writer and reader; the second is lent words of its own, enough for the verdict
 pub record RunningRoundTrip : Type 0 where
   -- write then read: the output after the writer is read as the normal form, whatever stands behind the record
   pub write-read : (l : Layout) (output scratch output-then scratch-then : List ℕ) (wrote : Wrote) (n : ℕ) → Accepted (modelOf l)
       → Writing (modelOf l) output scratch (wroteOf wrote) output-then scratch-then → wroteOf wrote ≡ done n
-      → (scratch′ scratch-then′ : List ℕ) (answer : After) → length scratch′ ≡ length scratch → Reading output-then scratch′ answer scratch-then′
+      → (scratch′ scratch-then′ : List ℕ) (answer : After) → wordsNeeded (normalOf (modelOf l) .axes) ≤ length scratch′ → Reading output-then scratch′ answer scratch-then′
       → answer ≡ record { answer = pass; layout = withBuffer (normalOf (modelOf l)) }
   -- read then write: the bytes of the front again
   pub read-write : (bytes scratch scratch-then : List ℕ) (l : LayoutM) → Bytes bytes → Reading bytes scratch (record { answer = pass; layout = l }) scratch-then
-      → (output scratch′ output-then scratch-then′ : List ℕ) (answer : Outcome ℕ) → length scratch′ ≡ length scratch → numberFrom bytes 0 2 ≤ length output
+      → (output scratch′ output-then scratch-then′ : List ℕ) (answer : Outcome ℕ) → wordsNeeded (l .axes) ≤ length scratch′ → numberFrom bytes 0 2 ≤ length output
       → Writing l output scratch′ answer output-then scratch-then′
       → take (numberFrom bytes 0 2) output-then ≡ take (numberFrom bytes 0 2) bytes

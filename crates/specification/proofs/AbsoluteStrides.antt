@@ -34,7 +34,7 @@ abbrev turn : ℕ → ℤ → ℕ → ℕ
 turn n (pos s) i = i
 turn n (negsuc s) i = n - suc i
 
--- the same of an index vector
+-- each index of a vector, turned by its axis
 abbrev pub turned : List Axis → List ℕ → List ℕ
 turned [] x = []
 turned (a ∷ r) [] = []

@@ -32,7 +32,7 @@ pub data FirstFault (n : ℕ) (Good : ℕ → Type 0) (Bad : ℕ → ℕ → Lis
 
 -- ---- one check
 
--- the same answers in other words
+-- answers in other words
 pub restated : {c : Check} {P Q : Type 0} {R S : ℕ → List ℕ → Type 0} → Answers c P R → (P → Q) → (Q → P)
     → ((n : ℕ) (vs : List ℕ) → R n vs → S n vs) → ((n : ℕ) (vs : List ℕ) → S n vs → R n vs) → Answers c Q S
 restated a f g h k = record {
@@ -66,7 +66,7 @@ test-answers false number values h = record {
     none : {P : Type 0} {n : ℕ} {vs : List ℕ} → Only number values P n vs → ¬ P
     none (only f) = f
 
--- the same for a check with one refusal
+-- a check with one refusal, in other words
 pub only-restated : {c : Check} {P Q : Type 0} {number : ℕ} {values : List ℕ} → Answers c P (Only number values P) → (P → Q) → (Q → P) → Answers c Q (Only number values Q)
 only-restated {P} {Q} {number} {values} a f g = restated a f g (λ n vs o. moved g o) (λ n vs o. moved f o)
   where

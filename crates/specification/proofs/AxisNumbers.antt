@@ -34,15 +34,18 @@ numbers-from k (a ∷ r) = go (ltb 1 (a .extent)) (each-implies (λ b h. omega a
     go true e = (omega arith, e)
     go false e = e
 
-active-differ : (k : ℕ) (axes : List Axis) → EachTwo Differ (activeFrom k axes)
+pub active-ascend : (k : ℕ) (axes : List Axis) → EachTwo (λ a b. a .axis < b .axis) (activeFrom k axes)
 unfolding activeFrom
-active-differ k [] = tt
-active-differ k (a ∷ r) = go (ltb 1 (a .extent)) (each-implies (λ b h. omega arith) (activeFrom (suc k) r) (numbers-from (suc k) r)) (active-differ (suc k) r)
+active-ascend k [] = tt
+active-ascend k (a ∷ r) = go (ltb 1 (a .extent)) (each-implies (λ b h. omega arith) (activeFrom (suc k) r) (numbers-from (suc k) r)) (active-ascend (suc k) r)
   where
-    go : (t : Bool) → Each (λ b. k ≢ b .axis) (activeFrom (suc k) r) → EachTwo Differ (activeFrom (suc k) r)
-        → EachTwo Differ (if t then record { axis = k; extent = a .extent; stride = natAbs (a .stride) } ∷ activeFrom (suc k) r else activeFrom (suc k) r)
+    go : (t : Bool) → Each (λ b. k < b .axis) (activeFrom (suc k) r) → EachTwo (λ a b. a .axis < b .axis) (activeFrom (suc k) r)
+        → EachTwo (λ a b. a .axis < b .axis) (if t then record { axis = k; extent = a .extent; stride = natAbs (a .stride) } ∷ activeFrom (suc k) r else activeFrom (suc k) r)
     go true e d = (e, d)
     go false e d = d
+
+active-differ : (k : ℕ) (axes : List Axis) → EachTwo Differ (activeFrom k axes)
+active-differ k axes = each-two-implies (λ a b h. omega arith) (activeFrom k axes) (active-ascend k axes)
 
 sort-differ : (before : ActiveAxis → ActiveAxis → Bool) (l : List ActiveAxis) → EachTwo Differ l → EachTwo Differ (sortBy before l)
 sort-differ before l d = perm-each-two Differ (λ a b n e. n (sym e)) (sort-perm before l) d

@@ -1,5 +1,5 @@
 -- Where the block ends: the last axis of it, and each behind it, held against the absolute spans before.
-use mathlib.Core.Path.{_≡_, refl, ap}
+use mathlib.Core.Path.{_≡_, refl, sym, ap}
 use mathlib.Core.Bool.{Bool, true, false}
 use mathlib.Core.List.{List, [], _∷_, _++_}
 use Prim.Native.Nat.{ℕ, _+_, _*_, _-_, _<_, _≤_}
@@ -9,10 +9,11 @@ use lib.ListN.{length, length-append}
 use borrow.Author.Tests.{leb-true, leb-false}
 use Rattle.specification.specs.Tests.{if_then_else_}
 use Rattle.specification.specs.Search.{ActiveAxis, spanSum}
-use Rattle.specification.specs.Verdict.{upToLast, blockOf}
+use Rattle.specification.specs.Verdict.{activeFrom, upToLast, blockOf}
 use Rattle.specification.specs.BlockClaims.{inOrder, Smaller, BlockClaims}
-use Rattle.specification.proofs.Sorting.{each-two-at}
-use Rattle.specification.proofs.AxisNumbers.{in-order}
+use Rattle.specification.proofs.Sorting.{each-two-at, perm-length, sort-perm}
+use Rattle.specification.proofs.AxisNumbers.{active-ascend, in-order}
+use Rattle.specification.proofs.ActiveAxes.{active-listed, sorted-entries}
 
 -- what the spans come to with one axis more
 abbrev past : ℕ → ActiveAxis → ℕ
@@ -62,6 +63,10 @@ behind-unbounded before (a ∷ r) front b behind e h = go (upToLast (past before
 pub block-claims : BlockClaims
 unfolding blockOf
 block-claims = record {
+  listed = active-listed;
+  ascending = λ axes i h. each-two-at (λ a b. a .axis < b .axis) (activeFrom 0 axes) (active-ascend 0 axes) i (record { axis = 0; extent = 0; stride = 0 }) h;
+  sorted = sorted-entries;
+  as-many = λ before list. sym (perm-length (sort-perm before list));
   ordered = λ axes i h. each-two-at Smaller (inOrder axes) (in-order axes) i (record { axis = 0; extent = 0; stride = 0 }) h;
   in-front = λ axes. last-in-front _ (inOrder axes);
   last-of = λ axes front last e. omega (arith, last-bounded 0 (inOrder axes) front last e);

@@ -1,44 +1,20 @@
 -- Two records are equal exactly if their layouts have the same offsets: the bytes tell the normal form, and the normal form is canonical.
 use mathlib.Core.Path.{_≡_, sym, ap, subst, _∙_}
-use mathlib.Core.List.{List, [], _∷_, _++_}
+use mathlib.Core.List.{List, [], _++_}
 use mathlib.Core.Logic.{_↔_}
 use Prim.Native.Nat.{ℕ}
-use lib.Dec.{ltb}
-use Rattle.specification.specs.Tests.{if_then_else_, isYes}
 use Rattle.specification.specs.Axis.{Axis}
 use Rattle.specification.specs.Outcome.{done}
 use Rattle.specification.specs.Layout.{LayoutM, Accepted}
 use Rattle.specification.specs.Normal.{normalOf}
-use Rattle.specification.specs.Search.{total, spanSum, wordsFor}
-use Rattle.specification.specs.Decided.{sameSum?}
-use Rattle.specification.specs.Verdict.{Verdict, Distinct, Repeated, Judged, Plan, answered, enumerated, carryOut, judge}
+use Rattle.specification.specs.Verdict.{Verdict, Judged, judge}
 use Rattle.specification.specs.Record.{recordBytes, Made, withBuffer, layoutFrom}
 use Rattle.specification.specs.NormalClaims.{SameOffsets, SameForm}
 use Rattle.specification.proofs.NormalLaws.{canonical-iff}
 use Rattle.specification.proofs.FieldsFit.{FieldsFit, fields-fit}
 use Rattle.specification.proofs.RecordFront.{layout-told}
+use Rattle.specification.proofs.PlanCases.{same-judged}
 use Rattle.specification.proofs.WriterAnswers.{Writes}
-use Rattle.specification.proofs.OutcomeLaws.{passed, bound, done-inj}
-
--- what a plan answers, whatever the words lent
-unfoldable answerOf : Plan → Verdict
-answerOf (answered v c) = v
-answerOf (enumerated block) = if isYes (sameSum? block) then Repeated else Distinct
-
-carried-answer : (words : ℕ) (p : Plan) (j : Judged) → carryOut words p ≡ done j → j .answer ≡ answerOf p
-unfolding carryOut answerOf
-carried-answer words (answered v c) j e = ap (λ (x : Judged). x .answer) (sym (done-inj e))
-carried-answer words (enumerated block) j e =
-    let need = wordsFor (total block) (spanSum block) in
-    ap (λ (x : Judged). x .answer) (sym (done-inj (passed (ltb words need) 9 (need ∷ []) e .1)))
-
--- so the verdict does not depend on them
-same-answer : (axes : List Axis) (words words′ : ℕ) (j k : Judged) → judge axes words ≡ done j → judge axes words′ ≡ done k → j .answer ≡ k .answer
-unfolding judge
-same-answer axes words words′ j k e f =
-    let b = bound e in
-    let c = bound f in
-    carried-answer words (b .what) j (b .after) ∙ ap answerOf (done-inj (sym (b .was) ∙ c .was)) ∙ sym (carried-answer words′ (c .what) k (c .after))
 
 -- the buffer length is no part of a record
 pub same-form-bytes : (l m : LayoutM) (v w : Verdict) → SameForm l m → v ≡ w → recordBytes l v ≡ recordBytes m w
@@ -61,8 +37,8 @@ module _ (x y : LayoutM) (a : Accepted x) (b : Accepted y) {room room′ words w
   same-bytes : SameOffsets x y → m .bytes ≡ m′ .bytes
   same-bytes s =
       let f = canonical-iff x y .1 s in
-      let q = same-answer (normalOf y .axes) words words′ (w .j) (v .j) (subst (λ (l : List Axis). judge l words ≡ done (w .j)) (f .same-axes) (w .judged)) (v .judged) in
-      ap (λ (r : Made). r .bytes) (w .is) ∙ same-form-bytes (normalOf x) (normalOf y) (w .j .answer) (v .j .answer) f q ∙ ap (λ (r : Made). r .bytes) (sym (v .is))
+      let q = same-judged (normalOf y .axes) words words′ (w .j) (v .j) (subst (λ (l : List Axis). judge l words ≡ done (w .j)) (f .same-axes) (w .judged)) (v .judged) in
+      ap (λ (r : Made). r .bytes) (w .is) ∙ same-form-bytes (normalOf x) (normalOf y) (w .j .answer) (v .j .answer) f (ap (λ (j : Judged). j .answer) q) ∙ ap (λ (r : Made). r .bytes) (sym (v .is))
 
   pub equal-exactly : (m .bytes ≡ m′ .bytes) ↔ SameOffsets x y
   equal-exactly = (same-offsets, same-bytes)

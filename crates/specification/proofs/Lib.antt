@@ -32,6 +32,7 @@ pub mod VerdictRefusals
 pub mod VerdictWords
 pub mod VerdictLaws
 pub mod AxisNumbers
+pub mod ActiveAxes
 pub mod BlockEnds
 pub mod CountLaws
 pub mod DigitOrder

@@ -114,7 +114,7 @@ pub data AllPositive : List Axis → Type 0 where
   none : AllPositive []
   more : {a : Axis} {r : List Axis} → 0 < a .extent → AllPositive r → AllPositive (a ∷ r)
 
--- the same, said of the extents
+-- so is none in the list of extents
 pub positive-extents : {l : List Axis} → AllPositive l → PositiveExtents (extents l)
 positive-extents none = PositiveExtents.none
 positive-extents (more h t) = PositiveExtents.more h (positive-extents t)

@@ -68,7 +68,7 @@ normalAxes-own {l} n = normal-of-normal (normal-positive n) n
 
 -- ---- same offsets
 
--- the same offsets, the other way round
+-- said of x and y, it holds of y and x
 pub same-sym : {x y : LayoutM} → SameOffsets x y → SameOffsets y x
 same-sym s = record { as-many = sym (s .as-many); alike = λ k h. sym (s .alike k (rw (s .as-many) h)) }
 

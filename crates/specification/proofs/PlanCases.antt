@@ -7,16 +7,16 @@ use Prim.Native.Nat.{ℕ, _-_, _<_, _≤_}
 use native.Mathlib.Omega.{arith}
 use lib.Dec.{eqb, ltb}
 use lib.ListN.{length}
-use borrow.Author.Tests.{ltb-true, ltb-false, leb-true, leb-false, eqb-true}
+use borrow.Author.Tests.{ltb-true, ltb-false, leb-true, leb-false, eqb-true, le-ltb}
 use Rattle.specification.specs.Tests.{if_then_else_, isYes, some, sortBy}
 use Rattle.specification.specs.Axis.{Axis, positions, isEmpty}
 use Rattle.specification.specs.Outcome.{Outcome, done, refused, refuseIf, _>>_}
 use Rattle.specification.specs.Normal.{overfull}
 use Rattle.specification.specs.Search.{ActiveAxis, spanSum, total, twoDistinct, half, wordsFor}
 use Rattle.specification.specs.Decided.{sameSum?}
-use Rattle.specification.specs.Verdict.{Verdict, Distinct, Repeated, Undecided, Judged, Plan, answered, enumerated, blockOf, byTwo, longer, othersOf, searched, pastSearch, byMany, bySize, byBlock, still, outOfRange, planOf, carryOut, judge}
+use Rattle.specification.specs.Verdict.{Verdict, Distinct, Repeated, Undecided, Judged, Plan, answered, enumerated, blockOf, byTwo, longer, othersOf, searched, pastSearch, byMany, bySize, byBlock, still, outOfRange, planOf, carryOut, judge, wordsOf, wordsNeeded}
 use Rattle.specification.specs.VerdictClaims.{ComesToSearch}
-use Rattle.specification.proofs.OutcomeLaws.{passed, bound, done-inj}
+use Rattle.specification.proofs.OutcomeLaws.{passed, refuse-no, bound, bind-done, done-inj}
 use Rattle.specification.proofs.OnePosition.{one-block}
 use Rattle.specification.proofs.Sorting.{perm-length, sort-perm}
 
@@ -188,6 +188,11 @@ unfolding carryOut
 carried words (answered v c) e = done-inj e
 carried words (enumerated block) e = let need = wordsFor (total block) (spanSum block) in done-inj (passed (ltb words need) 9 (need ∷ []) e .1)
 
+carried-out : (words : ℕ) (p : Plan) → wordsOf (done p) ≤ words → carryOut words p ≡ done (judgedAs p)
+unfolding carryOut wordsOf
+carried-out words (answered v c) h = refl
+carried-out words (enumerated block) h = let need = wordsFor (total block) (spanSum block) in refuse-no 9 (need ∷ []) (done (judgedAs (enumerated block))) (le-ltb words need h)
+
 -- the plan behind an answer, and how it came about
 pub record JudgedBy (axes : List Axis) (j : Judged) : Type 0 where
   pub plan : Plan
@@ -203,3 +208,16 @@ judged-by axes words j e = let b = bound e in record {
   case-is = subst (PlanCase axes) (b .was) (plan-case axes);
   comes-to = carried words (b .what) (b .after);
 }
+
+-- any words that are enough give one answer
+pub judged-with : (axes : List Axis) (words words′ : ℕ) (j : Judged) → judge axes words ≡ done j → wordsNeeded axes ≤ words′ → judge axes words′ ≡ done j
+unfolding judge
+judged-with axes words words′ j e h =
+    let b = judged-by axes words j e in
+    bind-done (carryOut words′) (b .planned) ∙ carried-out words′ (b .plan) (omega (arith, ap wordsOf (b .planned))) ∙ ap done (b .comes-to)
+
+pub same-judged : (axes : List Axis) (words words′ : ℕ) (j k : Judged) → judge axes words ≡ done j → judge axes words′ ≡ done k → j ≡ k
+same-judged axes words words′ j k e f =
+    let b = judged-by axes words j e in
+    let c = judged-by axes words′ k f in
+    sym (b .comes-to) ∙ ap judgedAs (done-inj (sym (b .planned) ∙ c .planned)) ∙ c .comes-to

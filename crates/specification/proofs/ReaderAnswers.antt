@@ -16,7 +16,7 @@ use Rattle.specification.specs.RecordClaims.{WholeRecord, ReadRefused, n
 use Rattle.specification.proofs.ReachLaws.{and-true}
 use Rattle.specification.proofs.NormalTest.{normal-tested}
 use Rattle.specification.proofs.JudgeLaws.{Judging, is-judged, too-few, judging}
-use Rattle.specification.proofs.ReaderLaws.{whole-accepted}
+use Rattle.specification.proofs.ReaderLaws.{fields-tested, fields-pass, whole-accepted, buffer-read}
 use Rattle.specification.proofs.OutcomeLaws.{clash, false-unless, refuse-yes, refuse-no, bind-done, bind-refused}
 
 -- ---- a whole record or not
@@ -26,8 +26,8 @@ wholeTest bytes = fieldsRight bytes && isNormal (layoutFrom bytes)
 
 whole-tested : (bytes : List ℕ) → (wholeTest bytes ≡ true) ↔ WholeRecord bytes
 whole-tested bytes = (
-  λ e. let p = and-true (fieldsRight bytes) (isNormal (layoutFrom bytes)) e in record { fields = p .0; form = normal-tested (layoutFrom bytes) .0 (p .1) },
-  λ w. rw (w .fields, normal-tested (layoutFrom bytes) .1 (w .form)),
+  λ e. let p = and-true (fieldsRight bytes) (isNormal (layoutFrom bytes)) e in record { fields = fields-tested bytes (p .0); form = normal-tested (layoutFrom bytes) .0 (p .1) },
+  λ w. rw (fields-pass bytes (w .fields), normal-tested (layoutFrom bytes) .1 (w .form)),
 )
 
 whole? : (bytes : List ℕ) → Dec (WholeRecord bytes)
@@ -54,7 +54,7 @@ module _ (bytes : List ℕ) (words : ℕ) where
 
   read-whole : WholeRecord bytes → readOf bytes words ≡ judge (layoutFrom bytes .axes) words >>= verdictChecked
   unfolding readOf
-  read-whole w = refuse-no 11 [] _ (ap not (w .fields)) ∙ refuse-no 11 [] _ (ap not (normal-tested (layoutFrom bytes) .1 (w .form)))
+  read-whole w = refuse-no 11 [] _ (ap not (fields-pass bytes (w .fields))) ∙ refuse-no 11 [] _ (ap not (normal-tested (layoutFrom bytes) .1 (w .form)))
 
   judging-whole : WholeRecord bytes → Judging (wordsNeeded (layoutFrom bytes .axes)) words (judge (layoutFrom bytes .axes) words)
   judging-whole w = judging (layoutFrom bytes) (whole-accepted bytes w) (w .form .few) words
@@ -106,7 +106,7 @@ module _ (bytes : List ℕ) (words : ℕ) where
 
   frees-whole : WholeRecord bytes → readFrees bytes words ≡ freedBy (judge (layoutFrom bytes .axes) words)
   unfolding readFrees
-  frees-whole w = rw (w .fields, normal-tested (layoutFrom bytes) .1 (w .form))
+  frees-whole w = rw (fields-pass bytes (w .fields), normal-tested (layoutFrom bytes) .1 (w .form))
 
   frees-no-record : ¬ (WholeRecord bytes) → readFrees bytes words ≡ 0
   unfolding readFrees
@@ -135,8 +135,10 @@ module _ (bytes : List ℕ) (words : ℕ) where
 
 pub reader-claims : ReaderClaims
 reader-claims = record {
+  fields-told = λ bytes. (fields-tested bytes, fields-pass bytes);
   normal-tested = normal-tested;
   refuses = λ bytes words number values. (refuses-forth bytes words, refuses-back bytes words);
+  buffer-read = buffer-read;
   frees = frees-needed;
   frees-none = frees-none;
 }

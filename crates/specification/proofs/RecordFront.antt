@@ -1,16 +1,15 @@
 -- A record at the front of bytes: each field is read as it was written, whatever stands behind, and the rest is what stands behind.
 use mathlib.Core.Path.{_≡_, refl, ap, _∙_}
-use mathlib.Core.Bool.{true}
 use mathlib.Core.List.{List, [], _∷_, _++_, append-assoc}
 use Prim.Native.Nat.{ℕ, _+_, _^_, _<_, _≤_}
 use native.Mathlib.Omega.{arith}
-use lib.Dec.{leb}
 use lib.ListN.{length, getD, length-append}
 use lib.Seq.{drop-at}
-use borrow.Author.Tests.{le-ltb, le-leb, eq-eqb}
+use borrow.Author.Tests.{le-ltb}
 use Rattle.specification.specs.Layout.{LayoutM, rank}
 use Rattle.specification.specs.Verdict.{Verdict, Distinct, Repeated, Undecided}
-use Rattle.specification.specs.Record.{bigEndian, twos, verdictByte, recordLength, axisBytes, recordBytes, numberFrom, signedFrom, axesFrom, fieldsRight, withBuffer, layoutFrom, restOf}
+use Rattle.specification.specs.Record.{bigEndian, twos, verdictByte, recordLength, axisBytes, recordBytes, numberFrom, signedFrom, axesFrom, withBuffer, layoutFrom, restOf}
+use Rattle.specification.specs.RecordClaims.{Fields}
 use Rattle.specification.proofs.FieldsFit.{FieldsFit}
 use Rattle.specification.proofs.RecordFields.{length-bigEndian, length-recordBytes, numberFrom-at, signedFrom-at, axesFrom-at}
 
@@ -22,10 +21,10 @@ recordThen n v behind = recordBytes n v ++ behind
 abbrev header : LayoutM → Verdict → List ℕ
 header n v = bigEndian 2 (recordLength (rank n)) ++ (1 ∷ verdictByte v ∷ rank n ∷ [])
 
-byte-in-range : (v : Verdict) → (leb 1 (verdictByte v) ≡ true) × (leb (verdictByte v) 3 ≡ true)
-byte-in-range Distinct = (refl, refl)
-byte-in-range Repeated = (refl, refl)
-byte-in-range Undecided = (refl, refl)
+byte-in-range : (v : Verdict) → (1 ≤ verdictByte v) × (verdictByte v ≤ 3)
+byte-in-range Distinct = (omega arith, omega arith)
+byte-in-range Repeated = (omega arith, omega arith)
+byte-in-range Undecided = (omega arith, omega arith)
 
 module _ (n : LayoutM) (v : Verdict) (behind : List ℕ) where
   version-byte : getD (recordThen n v behind) 2 0 ≡ 1
@@ -81,21 +80,19 @@ module _ (n : LayoutM) (v : Verdict) (behind : List ℕ) (few : rank n ≤ 16) w
       small : rank n ≤ 16 → recordLength (rank n) < 256 ^ 2
       small h = omega arith
 
-  pub fields-right : fieldsRight (recordThen n v behind) ≡ true
-  unfolding fieldsRight
+  pub fields-right : Fields (recordThen n v behind)
   fields-right =
-      rw (
-        version-byte n v behind,
-        verdict-byte n v behind,
-        rank-byte n v behind,
-        length-field,
-        byte-in-range v .0,
-        byte-in-range v .1,
-        le-leb (rank n) 16 few,
-        le-leb 13 (length (recordThen n v behind)) (omega (arith, whole-length n v behind)),
-        eq-eqb (recordLength (rank n)) (recordLength (rank n)) refl,
-        le-leb (recordLength (rank n)) (length (recordThen n v behind)) (omega (arith, whole-length n v behind)),
-      )
+      let r = rank-byte n v behind in
+      let b = verdict-byte n v behind in
+      record {
+        front-there = omega (arith, whole-length n v behind);
+        length-is = omega (arith, length-field, r);
+        version-is = version-byte n v behind;
+        verdict-from = omega (arith, b, byte-in-range v .0);
+        verdict-to = omega (arith, b, byte-in-range v .1);
+        rank-small = omega (arith, r);
+        whole-there = omega (arith, r, whole-length n v behind);
+      }
 
   -- stepping over a record gives what stands behind it
   pub rest-behind : restOf (recordThen n v behind) ≡ behind

@@ -10,17 +10,18 @@ use Rattle.specification.specs.Axis.{Axis}
 use Rattle.specification.specs.Outcome.{done}
 use Rattle.specification.specs.Layout.{LayoutM, rank, Accepted}
 use Rattle.specification.specs.Normal.{normalOf, overfull}
-use Rattle.specification.specs.Verdict.{Verdict, Judged, judge}
+use Rattle.specification.specs.Verdict.{Verdict, Judged, judge, wordsNeeded}
 use Rattle.specification.specs.Record.{bigEndian, twos, verdictByte, recordLength, axisBytes, recordBytes, Made, written, numberFrom, withBuffer, layoutFrom, WasRead, readOf, restOf}
-use Rattle.specification.specs.RecordClaims.{NormalRecord, WholeRecord, Bytes, RoundTrip}
+use Rattle.specification.specs.RecordClaims.{Fields, NormalRecord, WholeRecord, Bytes, RoundTrip}
 use Rattle.specification.proofs.NormalLaws.{normal-same, canonical-iff}
+use Rattle.specification.proofs.PlanCases.{judged-with}
 use Rattle.specification.proofs.WriterLaws.{normal-accepted, normal-few}
 use Rattle.specification.proofs.FieldsFit.{fields-fit}
 use Rattle.specification.proofs.RecordFields.{bigEndian-numberFrom, twos-signedFrom, axisBytes-axesFrom, join-parts}
 use Rattle.specification.proofs.RecordFront.{recordThen, verdict-byte, layout-told, fields-right, rest-behind}
 use Rattle.specification.proofs.WriterAnswers.{recordOf, Writes, writes, written-made}
 use Rattle.specification.proofs.EqualRecords.{same-form-bytes}
-use Rattle.specification.proofs.ReaderLaws.{reads, Fields, fields-tested, rank-told, whole-accepted}
+use Rattle.specification.proofs.ReaderLaws.{reads, rank-told, whole-accepted}
 use Rattle.specification.proofs.ReaderAnswers.{read-done}
 
 -- ---- write then read
@@ -41,20 +42,21 @@ module _ (x : LayoutM) (a : Accepted x) (room words : ℕ) {m : Made} (w : Write
   whole : WholeRecord (recordThen (normalOf x) (w .j .answer) behind)
   whole = record { fields = fields-right (normalOf x) (w .j .answer) behind (normal-accepted x a .few); form = subst NormalRecord (sym told) (normal-record x a (w .few)) }
 
-  judged-again : judge (layoutFrom (recordThen (normalOf x) (w .j .answer) behind) .axes) words ≡ done (w .j)
+  judged-again : (words′ : ℕ) → wordsNeeded (normalOf x .axes) ≤ words′ → judge (layoutFrom (recordThen (normalOf x) (w .j .answer) behind) .axes) words′ ≡ done (w .j)
   unfolding withBuffer
-  judged-again = ap (λ (l : LayoutM). judge (l .axes) words) told ∙ w .judged
+  judged-again words′ h = ap (λ (l : LayoutM). judge (l .axes) words′) told ∙ judged-with (normalOf x .axes) words words′ (w .j) (w .judged) h
 
-  read-again : readOf (recordThen (normalOf x) (w .j .answer) behind) words ≡ done (record { layout = layoutFrom (recordThen (normalOf x) (w .j .answer) behind); answer = w .j .answer })
-  read-again = read-done (recordThen (normalOf x) (w .j .answer) behind) words whole (w .j) judged-again (sym (verdict-byte (normalOf x) (w .j .answer) behind))
+  read-again : (words′ : ℕ) → wordsNeeded (normalOf x .axes) ≤ words′
+      → readOf (recordThen (normalOf x) (w .j .answer) behind) words′ ≡ done (record { layout = layoutFrom (recordThen (normalOf x) (w .j .answer) behind); answer = w .j .answer })
+  read-again words′ h = read-done (recordThen (normalOf x) (w .j .answer) behind) words′ whole (w .j) (judged-again words′ h) (sym (verdict-byte (normalOf x) (w .j .answer) behind))
 
-write-read : (l : LayoutM) (room words : ℕ) (m : Made) (behind : List ℕ) → Accepted l → written l room words ≡ done m
-    → (w : WasRead) × (readOf (m .bytes ++ behind) words ≡ done w) × (w .layout ≡ withBuffer (normalOf l)) × (restOf (m .bytes ++ behind) ≡ behind)
-write-read l room words m behind a e =
+write-read : (l : LayoutM) (room words words′ : ℕ) (m : Made) (behind : List ℕ) → Accepted l → written l room words ≡ done m → wordsNeeded (normalOf l .axes) ≤ words′
+    → (w : WasRead) × (readOf (m .bytes ++ behind) words′ ≡ done w) × (w .layout ≡ withBuffer (normalOf l)) × (restOf (m .bytes ++ behind) ≡ behind)
+write-read l room words words′ m behind a e h =
     let w = writes l room words m a e in
-    subst (λ (r : Made). (w : WasRead) × (readOf (r .bytes ++ behind) words ≡ done w) × (w .layout ≡ withBuffer (normalOf l)) × (restOf (r .bytes ++ behind) ≡ behind)) (sym (w .is)) (
+    subst (λ (r : Made). (w : WasRead) × (readOf (r .bytes ++ behind) words′ ≡ done w) × (w .layout ≡ withBuffer (normalOf l)) × (restOf (r .bytes ++ behind) ≡ behind)) (sym (w .is)) (
       record { layout = layoutFrom (recordThen (normalOf l) (w .j .answer) behind); answer = w .j .answer },
-      read-again l a room words w behind,
+      read-again l a room words w behind words′ h,
       told l a room words w behind,
       rest-behind (normalOf l) (w .j .answer) behind (normal-accepted l a .few),
     )
@@ -97,7 +99,7 @@ module _ (bytes : List ℕ) (w : WholeRecord bytes) (room words : ℕ) (j : Judg
   own-judged = ap (λ (axes : List Axis). judge axes words) (w .form .normal .same-axes) ∙ judged
 
   own-length : recordLength (rank (normalOf (layoutFrom bytes))) ≡ numberFrom bytes 0 2
-  own-length = ap (λ (axes : List Axis). recordLength (length axes)) (w .form .normal .same-axes) ∙ ap recordLength (rank-told bytes) ∙ sym (fields-tested bytes (w .fields) .length-is)
+  own-length = ap (λ (axes : List Axis). recordLength (length axes)) (w .form .normal .same-axes) ∙ ap recordLength (rank-told bytes) ∙ sym (w .fields .length-is)
 
   written-again : numberFrom bytes 0 2 ≤ room → written (layoutFrom bytes) room words ≡ done (recordOf (normalOf (layoutFrom bytes)) j)
   written-again h = written-made (layoutFrom bytes) room words (whole-accepted bytes w) (w .form .few) (omega (arith, own-length)) j own-judged
@@ -105,15 +107,17 @@ module _ (bytes : List ℕ) (w : WholeRecord bytes) (room words : ℕ) (j : Judg
   bytes-again : Bytes bytes → verdictByte (j .answer) ≡ getD bytes 3 0 → recordBytes (normalOf (layoutFrom bytes)) (j .answer) ≡ take (numberFrom bytes 0 2) bytes
   bytes-again b e =
       same-form-bytes (normalOf (layoutFrom bytes)) (layoutFrom bytes) (j .answer) (j .answer) (w .form .normal) refl
-      ∙ front-bytes bytes b (fields-tested bytes (w .fields)) (j .answer) e
+      ∙ front-bytes bytes b (w .fields) (j .answer) e
 
-read-write : (bytes : List ℕ) (room words : ℕ) (w : WasRead) → Bytes bytes → readOf bytes words ≡ done w → numberFrom bytes 0 2 ≤ room
-    → (m : Made) × (written (w .layout) room words ≡ done m) × (m .bytes ≡ take (numberFrom bytes 0 2) bytes)
-read-write bytes room words w b e h =
-    let r = reads bytes words w e in (
+read-write : (bytes : List ℕ) (room words words′ : ℕ) (w : WasRead) → Bytes bytes → readOf bytes words ≡ done w → numberFrom bytes 0 2 ≤ room → wordsNeeded (w .layout .axes) ≤ words′
+    → (m : Made) × (written (w .layout) room words′ ≡ done m) × (m .bytes ≡ take (numberFrom bytes 0 2) bytes)
+read-write bytes room words words′ w b e h enough =
+    let r = reads bytes words w e in
+    let enough′ : wordsNeeded (layoutFrom bytes .axes) ≤ words′ = subst (λ (x : WasRead). wordsNeeded (x .layout .axes) ≤ words′) (r .is) enough in
+    let judged = judged-with (layoutFrom bytes .axes) words words′ (r .j) (r .judged) enough′ in (
       recordOf (normalOf (layoutFrom bytes)) (r .j),
-      ap (λ (x : WasRead). written (x .layout) room words) (r .is) ∙ written-again bytes (r .whole) room words (r .j) (r .judged) h,
-      bytes-again bytes (r .whole) room words (r .j) (r .judged) b (r .true-byte),
+      ap (λ (x : WasRead). written (x .layout) room words′) (r .is) ∙ written-again bytes (r .whole) room words′ (r .j) judged h,
+      bytes-again bytes (r .whole) room words′ (r .j) judged b (r .true-byte),
     )
 
 pub round-trip : RoundTrip

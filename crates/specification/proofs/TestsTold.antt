@@ -3,15 +3,15 @@ use mathlib.Core.Bool.{Bool, true, false, not, _&&_, _||_}
 use mathlib.Core.List.{List, [], _∷_}
 use mathlib.Core.Logic.{_⊎_, inl, inr, _↔_}
 use mathlib.Core.Path.{_≡_, refl, sym, subst}
-use Prim.Native.Nat.{ℕ, zero, suc, _-_, _^_, _<_}
+use Prim.Native.Nat.{ℕ, zero, suc, _-_, _^_, _<_, _≤_}
 use native.Mathlib.Decide.{decLt}
 use native.Mathlib.Omega.{arith}
-use lib.Dec.{T, eqb, ltb}
+use lib.Dec.{T, eqb, ltb, leb}
 use lib.IntN.{ℤ, pos, negsuc, negℤ}
 use lib.ListN.{length}
 use mir.Syntax.{w64}
 use mir.Val.{SFits}
-use borrow.Author.Tests.{ltb-true, lt-ltb, eqb-true, eq-eqb}
+use borrow.Author.Tests.{ltb-true, lt-ltb, leb-true, le-leb, eqb-true, eq-eqb}
 use Rattle.integer.specs.Multiple.{eqZ}
 use Rattle.integer.specs.Range.{fits, mostSigned, mostUnsigned}
 use Rattle.integer.proofs.CheckedLaws.{fits-of-sfits, sfits-of-fits}
@@ -37,7 +37,7 @@ or-holds false t {P} {Q} h k = (λ e. inr (k .0 e), λ w. second w)
     second (inl p) = absurd (true-not-false (h .1 p) refl)
     second (inr q) = k .1 q
 
-and-holds : {P Q : Type 0} (s t : Bool) → ((s ≡ true) ↔ P) → ((t ≡ true) ↔ Q) → ((s && t) ≡ true) ↔ (P × Q)
+pub and-holds : {P Q : Type 0} (s t : Bool) → ((s ≡ true) ↔ P) → ((t ≡ true) ↔ Q) → ((s && t) ≡ true) ↔ (P × Q)
 and-holds s t h k = (λ e. let w = and-true s t e in (h .0 (w .0), k .0 (w .1)), λ w. rw (h .1 (w .0), k .1 (w .1)))
 
 pub not-holds : {P : Type 0} (t : Bool) → ((t ≡ true) ↔ P) → (not t ≡ true) ↔ (¬ P)
@@ -46,6 +46,12 @@ not-holds false h = (λ e p. true-not-false (h .1 p) refl, λ f. refl)
 
 ltb-holds : (a b : ℕ) → (ltb a b ≡ true) ↔ (a < b)
 ltb-holds a b = (ltb-true a b, lt-ltb a b)
+
+pub leb-holds : (a b : ℕ) → (leb a b ≡ true) ↔ (a ≤ b)
+leb-holds a b = (leb-true a b, le-leb a b)
+
+pub eqb-holds : (a b : ℕ) → (eqb a b ≡ true) ↔ (a ≡ b)
+eqb-holds a b = (eqb-true a b, eq-eqb a b)
 
 eqZ-holds : (x y : ℤ) → (eqZ x y ≡ true) ↔ (x ≡ y)
 eqZ-holds x y = (λ e. eqZ-yes x y (subst T (sym e) tt), λ e. by (eqZ x y) (eqZ-no x y) e)
@@ -76,7 +82,7 @@ some-axis test {So} h (a ∷ rest) =
 
 empty : (axes : List Axis) → (isEmpty axes ≡ true) ↔ SomeAxis axes (λ a. a .extent ≡ 0)
 unfolding isEmpty
-empty = some-axis (λ a. eqb (a .extent) 0) (λ a. (eqb-true (a .extent) 0, eq-eqb (a .extent) 0))
+empty = some-axis (λ a. eqb (a .extent) 0) (λ a. eqb-holds (a .extent) 0)
 
 pub too-wide : (axes : List Axis) → (some tooWide axes ≡ true) ↔ SomeAxis axes (λ a. (1 < a .extent) × (mostSigned < a .extent - 1))
 too-wide = some-axis tooWide (λ a. and-holds (active a) (ltb mostSigned (a .extent - 1)) (ltb-holds 1 (a .extent)) (ltb-holds mostSigned (a .extent - 1)))

@@ -46,7 +46,7 @@ offsetSum [] index = pos 0
 offsetSum (a ∷ rest) [] = pos 0
 offsetSum (a ∷ rest) (i ∷ index) = i · (a .stride) +ℤ offsetSum rest index
 
--- the same at position k
+-- the sum at position k
 abbrev pub sumAt : List Axis → ℕ → ℤ
 sumAt axes k = offsetSum axes (indexAt (extents axes) k)
 

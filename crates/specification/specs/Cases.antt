@@ -8,6 +8,7 @@ use Rattle.specification.specs.Outcome.{done, refused, pass}
 use Rattle.specification.specs.Views.{permute, diagonalView, pairsOf, broadcast}
 use Rattle.specification.specs.Normal.{normalForm}
 use Rattle.specification.specs.Verdict.{Distinct, Repeated, verdict}
+use Rattle.specification.specs.Record.{written}
 use Rattle.specification.specs.Beside.{colMajor, rowMajor, indexOrder, indexedOffset}
 use Rattle.specification.specs.CountClaims.{judged}
 use Rattle.specification.specs.Starred.{layout, ax}
@@ -47,6 +48,23 @@ pub record Cases : Type 0 where
   pub lowest-digit : (words : ℕ) → verdict (2 ∷ 2 ∷ 3 ∷ 3 ∷ []) (pos 30 ∷ negsuc 10 ∷ pos 37 ∷ pos 13 ∷ []) words ≡ judged Repeated 3
   -- a count above 1
   pub later-place : (words : ℕ) → verdict (4 ∷ 2 ∷ 4 ∷ 4 ∷ []) (negsuc 29 ∷ negsuc 3 ∷ negsuc 7 ∷ pos 31 ∷ []) words ≡ judged Repeated 7
+  -- an axis of extent 1 is no part of the block, whatever its stride
+  pub one-passed-over : (words : ℕ) → verdict (1449 ∷ 1449 ∷ 1449 ∷ 1449 ∷ 1 ∷ []) (pos 1 ∷ pos 1449 ∷ pos 2099601 ∷ pos 3042321849 ∷ pos 3042321850 ∷ []) words ≡ judged Distinct 0
+  pub one-not-counted : (words : ℕ) → verdict (2 ∷ 3 ∷ 5 ∷ 1 ∷ []) (pos 1 ∷ pos 2 ∷ pos 100 ∷ pos 104 ∷ []) words ≡ judged Distinct 0
+  -- a record of rank 2 with a negative stride: 002D 01 02 02, the offset, 0000000000000102, FFFFFFFFFFFFFFFD, 0000000000000005, 0000000000000201
+  pub record-backward : (words : ℕ) → written (layout (2 ^ 63) (pos 0x0102030405060708) (ax 0x0102 (negsuc 2) ∷ ax 5 (pos 0x0201) ∷ [])) 45 words ≡ done (record {
+    bytes = 0x00 ∷ 0x2D ∷ 0x01 ∷ 0x02 ∷ 0x02 ∷ 0x01 ∷ 0x02 ∷ 0x03 ∷ 0x04 ∷ 0x05 ∷ 0x06 ∷ 0x07 ∷ 0x08
+        ∷ 0x00 ∷ 0x00 ∷ 0x00 ∷ 0x00 ∷ 0x00 ∷ 0x00 ∷ 0x01 ∷ 0x02
+        ∷ 0xFF ∷ 0xFF ∷ 0xFF ∷ 0xFF ∷ 0xFF ∷ 0xFF ∷ 0xFF ∷ 0xFD
+        ∷ 0x00 ∷ 0x00 ∷ 0x00 ∷ 0x00 ∷ 0x00 ∷ 0x00 ∷ 0x00 ∷ 0x05
+        ∷ 0x00 ∷ 0x00 ∷ 0x00 ∷ 0x00 ∷ 0x00 ∷ 0x00 ∷ 0x02 ∷ 0x01 ∷ [];
+    freed = 0;
+  })
+  -- a record of rank 0: 000D 01 01 00, then the offset
+  pub record-single : (words : ℕ) → written (layout 0x1235 (pos 0x1234) []) 13 words ≡ done (record {
+    bytes = 0x00 ∷ 0x0D ∷ 0x01 ∷ 0x01 ∷ 0x00 ∷ 0x00 ∷ 0x00 ∷ 0x00 ∷ 0x00 ∷ 0x00 ∷ 0x00 ∷ 0x12 ∷ 0x34 ∷ [];
+    freed = 0;
+  })
   -- dense strides of an empty shape: a step that does not fit becomes 2^63 - 1 and goes on
   pub empty-dense : colMajor (0 ∷ 2 ^ 63 ∷ 5 ∷ []) ≡ done (pos 1 ∷ pos 0 ∷ pos mostSigned ∷ [])
   pub row-dense : rowMajor (2 ∷ 3 ∷ 4 ∷ []) ≡ done (pos 12 ∷ pos 4 ∷ pos 1 ∷ [])

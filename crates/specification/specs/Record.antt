@@ -94,7 +94,7 @@ unfoldable pub numberFrom : List ℕ → ℕ → ℕ → ℕ
 numberFrom bytes i zero = 0
 numberFrom bytes i (suc n) = getD bytes i 0 * 256 ^ n + numberFrom bytes (suc i) n
 
--- the same, as two's complement
+-- the number that 8 bytes from place i on hold as two's complement
 abbrev pub signedFrom : List ℕ → ℕ → ℤ
 signedFrom bytes i = let n = numberFrom bytes i 8 in if ltb n (2 ^ 63) then pos n else negsuc (2 ^ 64 - suc n)
 
