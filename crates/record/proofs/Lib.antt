@@ -10,4 +10,6 @@ pub mod FormTested
 pub mod FrontLaws
 pub mod JudgedLaws
 pub mod ReadLaws
+pub mod CallsInNumbers
+pub mod ChainLaws
 pub mod RunningLaws
