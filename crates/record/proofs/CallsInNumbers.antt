@@ -1,10 +1,10 @@
 -- Every list of calls is that of its numbers: kind, how many, and these are read as the call again, and the rest from behind them on.
-use mathlib.Core.Path.{_≡_, refl, sym, ap, _∙_}
+use mathlib.Core.Path.{_≡_, refl, ap, _∙_}
 use mathlib.Core.Bool.{true}
 use mathlib.Core.List.{List, [], _∷_, _++_}
 use Prim.Native.Nat.{ℕ, zero, suc, _+_, _^_, _<_, _≤_}
 use native.Mathlib.Omega.{arith}
-use lib.ListN.{length, take, drop, getD, length-append}
+use lib.ListN.{length, take, drop, length-append}
 use lib.Seq.{take-at, drop-at}
 use borrow.Author.Tests.{le-leb, eq-eqb}
 use Rattle.specification.specs.Views.{pairsOf}
@@ -17,7 +17,7 @@ use Rattle.record.proofs.CallListLaws.{calls-more, taken-more}
 
 -- ---- one call
 
-pairs-of-flat : (pairs : List (ℕ × ℕ)) → pairsOf (flat pairs) ≡ pairs
+pub pairs-of-flat : (pairs : List (ℕ × ℕ)) → pairsOf (flat pairs) ≡ pairs
 unfolding pairsOf flat
 pairs-of-flat [] = refl
 pairs-of-flat (pair ∷ rest) = ap (λ (l : List (ℕ × ℕ)). pair ∷ l) (pairs-of-flat rest)

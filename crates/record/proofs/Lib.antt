@@ -11,5 +11,7 @@ pub mod FrontLaws
 pub mod JudgedLaws
 pub mod ReadLaws
 pub mod CallsInNumbers
+pub mod ChainThere
 pub mod ChainLaws
 pub mod RunningLaws
+pub mod Proved

@@ -13,12 +13,13 @@ unfoldable pub flat : List (ℕ × ℕ) → List ℕ
 flat [] = []
 flat (pair ∷ rest) = pair .0 ∷ pair .1 ∷ flat rest
 
+-- 1 permute, 2 diagonal_view, 3 broadcast
 unfoldable pub kindOf : Call → ℕ
 kindOf (permuting order) = 1
 kindOf (diagonal pairs) = 2
 kindOf (broadcasting targets) = 3
 
--- the numbers that a call has
+-- the numbers that a call has; those of diagonal_view are its pairs
 unfoldable pub argumentsOf : Call → List ℕ
 argumentsOf (permuting order) = order
 argumentsOf (diagonal pairs) = flat pairs
@@ -35,8 +36,8 @@ InWords [] = Unit {0}
 InWords (c ∷ calls) = AllBelow (2 ^ 64) (argumentsOf c) × (length (argumentsOf c) < 2 ^ 64) × InWords calls
 
 pub record CallListClaims : Type 0 where
-  -- every list of calls is that of some numbers, and these are read to their end
+  -- every list of calls is that of its numbers, and these are read to their end
   pub calls-are : (calls : List Call) → callsOf (numbersOf calls) ≡ calls
   pub all-read : (calls : List Call) → endedOf (numbersOf calls) ≡ All
-  -- and are machine words where those of the calls are, so that `run_calls` can be handed them
+  -- and are machine words, which `run_calls` takes, where those of the calls are
   pub in-words : (calls : List Call) → InWords calls → AllBelow (2 ^ 64) (numbersOf calls)
