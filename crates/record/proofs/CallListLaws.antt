@@ -70,7 +70,7 @@ taken-bound (suc m) (suc n) (kind ∷ count ∷ rest) h k =
 
 module _ (kind count : ℕ) (rest : List ℕ) where
   -- a call that is well-formed, and those after it
-  calls-more : wellFormed kind count rest ≡ true → callsOf (kind ∷ count ∷ rest) ≡ callOf kind (take count rest) ∷ callsOf (drop count rest)
+  pub calls-more : wellFormed kind count rest ≡ true → callsOf (kind ∷ count ∷ rest) ≡ callOf kind (take count rest) ∷ callsOf (drop count rest)
   unfolding callsOf callsWithin
   calls-more w =
       let d = length-drop count rest in
@@ -80,7 +80,7 @@ module _ (kind count : ℕ) (rest : List ℕ) where
   unfolding callsOf callsWithin
   calls-ill w = rw w
 
-  taken-more : wellFormed kind count rest ≡ true → takenWithin (length (kind ∷ count ∷ rest)) (kind ∷ count ∷ rest) ≡ 2 + count + takenWithin (length (drop count rest)) (drop count rest)
+  pub taken-more : wellFormed kind count rest ≡ true → takenWithin (length (kind ∷ count ∷ rest)) (kind ∷ count ∷ rest) ≡ 2 + count + takenWithin (length (drop count rest)) (drop count rest)
   unfolding takenWithin
   taken-more w =
       let d = length-drop count rest in

@@ -10,4 +10,8 @@ pub mod FormTested
 pub mod FrontLaws
 pub mod JudgedLaws
 pub mod ReadLaws
+pub mod CallsInNumbers
+pub mod ChainThere
+pub mod ChainLaws
 pub mod RunningLaws
+pub mod Proved

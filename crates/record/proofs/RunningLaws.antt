@@ -6,22 +6,51 @@ use lib.ListN.{length, take, drop}
 use lib.Seq.{take-at, length-take-le}
 use native.Mathlib.Omega.{arith}
 use Rattle.specification.specs.Layout.{LayoutM}
-use Rattle.specification.specs.Outcome.{Outcome, done, refused, pass}
+use Rattle.specification.specs.Outcome.{Outcome, Check, done, refused, pass}
 use Rattle.specification.specs.Views.{After}
 use Rattle.specification.specs.Verdict.{wordsNeeded}
+use Rattle.specification.specs.Calls.{Call, answersOf, endOf}
+use Rattle.specification.specs.Demand3.{Run}
 use Rattle.specification.specs.Record.{Made, WasRead, written, writeAnswer, outputAfter, readOf, numberFrom, Writing}
 use Rattle.specification.proofs.Proved.{demand3}
 use Rattle.specification.proofs.OutcomeLaws.{clash}
 use Rattle.specification.proofs.RoundTripLaws.{round-trip}
 use Rattle.specification.proofs.ReaderLaws.{reads}
+use Rattle.view.specs.declared.layout.Layout.{Layout}
 use Rattle.view.specs.Model.{modelOf}
 use Rattle.record.specs.CallList.{callsOf}
+use Rattle.record.specs.Chain.{AsDefined}
 use Rattle.record.specs.Writer.{wroteOf}
 use Rattle.record.specs.Reading.{readAfter}
-use Rattle.record.specs.RunningCode.{RunningDemand3, RunningRoundTrip}
+use Rattle.record.specs.RunningCode.{RunningDemand3, RunCallsDemand3, RunningRoundTrip}
+use Rattle.record.proofs.ChainLaws.{chain-claims}
+
+-- ---- demand 3
+
+-- a chain whose answers and end layout are the definition's runs as the rules say, where the definition's list does
+run-as-defined : (start end : Layout) (calls : List Call) (answers : List Check) → AsDefined start calls answers end
+    → Run (modelOf start) calls (answersOf (modelOf start) calls) (endOf (modelOf start) calls) → Run (modelOf start) calls answers (modelOf end)
+run-as-defined start end calls answers d r =
+    subst (λ (x : LayoutM). Run (modelOf start) calls answers x) (sym (d .end-is))
+    (subst (λ (o : List Check). Run (modelOf start) calls o (endOf (modelOf start) calls)) (sym (d .answers-are)) r)
 
 pub running-demand3 : RunningDemand3
-running-demand3 a b ha hb cs ds ran ran′ r r′ output scratch output-then scratch-then output′ scratch′ output-then′ scratch-then′ wrote wrote′ w w′ =
+running-demand3 a b end end′ ha hb cs ds answers answers′ c c′ output scratch output-then scratch-then output′ scratch′ output-then′ scratch-then′ wrote wrote′ w w′ =
+    let d = chain-claims .as-defined c in
+    let d′ = chain-claims .as-defined c′ in
+    let whole = demand3 (modelOf a) (modelOf b) ha hb cs ds output scratch output-then scratch-then output′ scratch′ output-then′ scratch-then′ (wroteOf wrote) (wroteOf wrote′)
+    (subst (λ (x : LayoutM). Writing x output scratch (wroteOf wrote) output-then scratch-then) (d .end-is) w)
+    (subst (λ (x : LayoutM). Writing x output′ scratch′ (wroteOf wrote′) output-then′ scratch-then′) (d′ .end-is) w′) in
+    record {
+      first-chain = d;
+      first-run = run-as-defined a end cs answers d (whole .first .run);
+      second-chain = d′;
+      second-run = run-as-defined b end′ ds answers′ d′ (whole .second .run);
+      whole = whole;
+    }
+
+pub run-calls-demand3 : RunCallsDemand3
+run-calls-demand3 a b ha hb cs ds ran ran′ r r′ output scratch output-then scratch-then output′ scratch′ output-then′ scratch-then′ wrote wrote′ w w′ =
     demand3 (modelOf a) (modelOf b) ha hb (callsOf cs) (callsOf ds) output scratch output-then scratch-then output′ scratch′ output-then′ scratch-then′ (wroteOf wrote) (wroteOf wrote′)
     (subst (λ (x : LayoutM). Writing x output scratch (wroteOf wrote) output-then scratch-then) (r .0) w)
     (subst (λ (x : LayoutM). Writing x output′ scratch′ (wroteOf wrote′) output-then′ scratch-then′) (r′ .0) w′)
