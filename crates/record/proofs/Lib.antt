@@ -1,5 +1,3 @@
-pub mod TwosLaws
-pub mod NumberLaws
 pub mod FieldLaws
 pub mod CallListLaws
 pub mod NormalAnswers
