@@ -1,7 +1,6 @@
-pub mod TwosLaws
-pub mod NumberLaws
 pub mod FieldLaws
 pub mod CallListLaws
+pub mod CallPlaceLaws
 pub mod NormalAnswers
 pub mod MergeLaws
 pub mod WriterLaws

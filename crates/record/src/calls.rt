@@ -6,6 +6,7 @@ ghost use Rattle.specification.specs.Views.{broadcast};
 ghost use Rattle.specification.specs.Calls.{afterCall, endOf};
 ghost use Rattle.view.specs.Model.{modelOf, viewedOf};
 ghost use Rattle.record.specs.CallList.{callOf, callsOf, endedOf};
+ghost use Rattle.record.specs.CallPlace.{isCallAt};
 use view::layout::Layout;
 use view::layout::Viewed;
 use view::numbers::diagonal_by_numbers;
@@ -28,40 +29,59 @@ fn at_most_17(count: usize) -> usize
     if count < 17 { count } else { 17 }
 }
 
-// The first numbers of a list as targets.
-fn targets_of(numbers: &[usize], count: usize) -> [u64; 17]
-    requires { ⌜ (count ≤ 17) × (count ≤ length (now numbers)) ⌝ }
-    ensures { λ r. ⌜ take count r ≡ take count (now (numbers .entry)) ⌝ }
+// The first arguments of a call as targets.
+fn targets_of(arguments: &[usize], count: usize) -> [u64; 17]
+    requires { ⌜ (count ≤ 17) × (count ≤ length (now arguments)) ⌝ }
+    ensures { λ r. ⌜ take count r ≡ take count (now (arguments .entry)) ⌝ }
 {
     let mut targets = [0u64; 17];
     let mut i = 0;
     while i < count {
-        targets[i] = numbers[i] as u64;
+        targets[i] = arguments[i] as u64;
         i += 1;
     }
     targets
 }
 
 // broadcast to targets in a list of any length: past 16 it is refused, whatever they are.
-fn broadcast_to(layout: Layout, numbers: &[usize]) -> Viewed
-    ensures { λ r. ⌜ viewedOf r ≡ broadcast (modelOf layout) (now (numbers .entry)) ⌝ }
+fn broadcast_to(layout: Layout, arguments: &[usize]) -> Viewed
+    ensures { λ r. ⌜ viewedOf r ≡ broadcast (modelOf layout) (now (arguments .entry)) ⌝ }
 {
-    let count = at_most_17(numbers.len());
-    let targets = targets_of(numbers, count);
+    let count = at_most_17(arguments.len());
+    let targets = targets_of(arguments, count);
     layout.broadcast(&targets[..count])
 }
 
 // One call of a known kind.
-fn run_call(layout: Layout, kind: usize, numbers: &[usize]) -> Viewed
-    ensures { λ r. ⌜ viewedOf r ≡ afterCall (modelOf layout) (callOf kind (now (numbers .entry))) ⌝ }
+fn run_call(layout: Layout, kind: usize, arguments: &[usize]) -> Viewed
+    ensures { λ r. ⌜ viewedOf r ≡ afterCall (modelOf layout) (callOf kind (now (arguments .entry))) ⌝ }
 {
     if kind == 1 {
-        return layout.permute(numbers);
+        return layout.permute(arguments);
     }
     if kind == 2 {
-        return diagonal_by_numbers(layout, numbers);
+        return diagonal_by_numbers(layout, arguments);
     }
-    broadcast_to(layout, numbers)
+    broadcast_to(layout, arguments)
+}
+
+// Whether a well-formed call stands at a place: a known kind, how many arguments follow, and these.
+fn is_call_at(calls: &[usize], at: usize) -> bool
+    requires { ⌜ at ≤ length (now calls) ⌝ }
+    ensures { λ r. ⌜ r ≡ isCallAt (now (calls .entry)) at ⌝ }
+{
+    let left = calls.len() - at;
+    if left < 2 {
+        return false;
+    }
+    let kind = calls[at];
+    if kind < 1 {
+        return false;
+    }
+    if 3 < kind {
+        return false;
+    }
+    calls[at + 1] <= left - 2
 }
 
 // Each call in turn on the layout after the last, after a refusal on the old one. A list that is ill-formed is run up to there.
@@ -71,35 +91,15 @@ pub fn run_calls(layout: Layout, calls: &[usize]) -> Ran
     let mut current = layout;
     let mut at = 0;
     while at < calls.len() {
-        let left = calls.len() - at;
-        if left < 2 {
+        if !is_call_at(calls, at) {
             return Ran {
                 layout: current,
                 ended: Ended::IllFormed(at),
             };
         }
         let kind = calls[at];
-        let count = calls[at + 1];
-        if kind == 0 {
-            return Ran {
-                layout: current,
-                ended: Ended::IllFormed(at),
-            };
-        }
-        if 3 < kind {
-            return Ran {
-                layout: current,
-                ended: Ended::IllFormed(at),
-            };
-        }
-        if left - 2 < count {
-            return Ran {
-                layout: current,
-                ended: Ended::IllFormed(at),
-            };
-        }
         let start = at + 2;
-        let end = start + count;
+        let end = start + calls[at + 1];
         let view = run_call(current, kind, &calls[start..end]);
         let next = view.layout;
         current = next;

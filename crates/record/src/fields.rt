@@ -6,8 +6,9 @@ ghost use lib.ListN.{length, take, drop};
 ghost use Rattle.specification.specs.Record.{recordLength};
 ghost use Rattle.view.specs.Model.{modelOf};
 ghost use Rattle.record.specs.Fields.{headBytes, axisField, recordFields};
-use crate::bytes::put_u64_at;
-use crate::bytes::twos_complement;
+use big_endian::BytePlace;
+use big_endian::put_u64_at;
+use big_endian::twos_complement;
 use view::layout::Layout;
 use view::layout::ReadingOffset;
 
@@ -38,17 +39,17 @@ fn put_head(out: &mut [u8], rank: usize, verdict: u8, offset: ReadingOffset)
         rank as u8,
     );
     let bits = twos_complement(offset.0);
-    put_u64_at(out, 5, bits);
+    put_u64_at(out, BytePlace(5), bits);
 }
 
 // One axis from a place on: extent, then stride.
-fn put_axis_at(out: &mut [u8], at: usize, extent: u64, stride: i64)
-    requires { ⌜ at + 16 ≤ length (now out) ⌝ }
-    ensures { λ _. ⌜ now (out .exit) ≡ take at (now (out .entry)) ++ (axisField extent stride ++ drop (at + 16) (now (out .entry))) ⌝ }
+fn put_axis_at(out: &mut [u8], at: BytePlace, extent: u64, stride: i64)
+    requires { ⌜ at .0 + 16 ≤ length (now out) ⌝ }
+    ensures { λ _. ⌜ now (out .exit) ≡ take (at .0) (now (out .entry)) ++ (axisField extent stride ++ drop (at .0 + 16) (now (out .entry))) ⌝ }
 {
     put_u64_at(out, at, extent);
     let bits = twos_complement(stride);
-    put_u64_at(out, at + 8, bits);
+    put_u64_at(out, BytePlace(at.0 + 8), bits);
 }
 
 // The record of a layout with a verdict byte at the front; the bytes past it stay.
@@ -62,7 +63,7 @@ pub(crate) fn put_record(out: &mut [u8], layout: Layout, verdict: u8)
     while i < rank {
         let extent = layout.extents[i];
         let stride = layout.strides[i];
-        put_axis_at(out, 13 + 16 * i, extent, stride);
+        put_axis_at(out, BytePlace(13 + 16 * i), extent, stride);
         i += 1;
     }
 }

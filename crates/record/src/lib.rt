@@ -1,5 +1,4 @@
 // The record of a layout: its normal form with a verdict, written, read back and stepped over.
-pub mod bytes;
 pub mod calls;
 pub mod fields;
 pub mod form;

@@ -7,12 +7,13 @@ ghost use Rattle.specification.specs.Outcome.{refused};
 ghost use Rattle.specification.specs.Record.{recordLength, fieldsRight};
 ghost use Rattle.view.specs.Model.{modelOf};
 ghost use Rattle.record.specs.Reader.{toldBy, frontOf, frontTold, frontAfter};
-use crate::bytes::from_twos;
-use crate::bytes::u64_at;
 use crate::form::buffer_length;
 use crate::form::is_normal;
 use crate::step::length_field;
 use crate::step::wide;
+use big_endian::BytePlace;
+use big_endian::from_twos;
+use big_endian::u64_at;
 use view::layout::Answer;
 use view::layout::Layout;
 use view::layout::ReadingOffset;
@@ -57,7 +58,7 @@ fn axes_from(bytes: &[u8]) -> Layout
     ensures { λ r. ⌜ modelOf r ≡ toldBy (now (bytes .entry)) ⌝ }
 {
     let rank = wide(bytes[4]);
-    let offset = from_twos(u64_at(bytes, 5));
+    let offset = from_twos(u64_at(bytes, BytePlace(5)));
     let mut next = Layout {
         len: 0,
         offset: ReadingOffset(offset),
@@ -67,9 +68,9 @@ fn axes_from(bytes: &[u8]) -> Layout
     };
     let mut i = 0;
     while i < rank {
-        let at = 13 + 16 * i;
+        let at = BytePlace(13 + 16 * i);
         let extent = u64_at(bytes, at);
-        let stride = from_twos(u64_at(bytes, at + 8));
+        let stride = from_twos(u64_at(bytes, BytePlace(at.0 + 8)));
         next.extents[i] = extent;
         next.strides[i] = stride;
         i += 1;

@@ -4,7 +4,8 @@ ghost use Prim.Native.Nat.{_≤_, _<_, _^_};
 ghost use lib.ListN.{length};
 ghost use Rattle.specification.specs.Record.{numberFrom, restOf};
 
-pub fn wide(x: u8) -> usize
+// A byte as a number that counts bytes.
+pub(crate) fn wide(x: u8) -> usize
     ensures { λ r. ⌜ (r ≡ x) × (r < 256) ⌝ }
 {
     x as usize

@@ -9,14 +9,12 @@ ghost use Rattle.injectivity.specs.Judgement.{JudgedAs};
 ghost use Rattle.record.specs.Writer.{bytesOf, wroteOf};
 use crate::fields::put_record;
 use crate::normal::normal_form;
+use big_endian::BytePlace;
 use injectivity::Judgement;
 use injectivity::is_injective_layout;
 use view::layout::Answer;
 use view::layout::Layout;
 use view::layout::Refusal;
-
-// A place counted in bytes.
-pub struct BytePlace(pub usize);
 
 // The place behind the record, or the refusal.
 pub enum Wrote {

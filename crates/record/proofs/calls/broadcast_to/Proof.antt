@@ -1,4 +1,4 @@
--- `broadcast_to`: the first numbers are all of them, or more than 16.
+-- `broadcast_to`: the first arguments are all of them, or more than 16.
 use mathlib.Core.Path.{_≡_, ap, _∙_}
 use Prim.Native.Nat.{ℕ}
 use native.Mathlib.Omega.{arith}
@@ -31,8 +31,8 @@ returns : tie.Need-returns
 returns c =
     let s = c .before .before .before .before .before in
     c .broadcast .ensures
-    ∙ ap (broadcast (modelOf (s .args .layout))) (c .before .before .targets-of .ensures ∙ ap (λ (n : ℕ). take n (s .args .numbers .now)) (c .before .before .before .at-most-17 .ensures))
-    ∙ broadcast-first-17 (modelOf (s .args .layout)) (s .args .numbers .now)
+    ∙ ap (broadcast (modelOf (s .args .layout))) (c .before .before .targets-of .ensures ∙ ap (λ (n : ℕ). take n (s .args .arguments .now)) (c .before .before .before .at-most-17 .ensures))
+    ∙ broadcast-first-17 (modelOf (s .args .layout)) (s .args .arguments .now)
 
 pub broadcast-to-spec : {M : Type 1} → statement M
 broadcast-to-spec =

@@ -1,13 +1,15 @@
 -- `run_calls`: what is left to run from each place on comes to the same end.
-use mathlib.Core.Path.{_≡_, ap, _∙_}
+use mathlib.Core.Path.{_≡_, sym, ap, _∙_}
 use Prim.Native.Nat.{ℕ, _+_, _-_}
 use native.Mathlib.Omega.{arith}
-use lib.ListN.{length, take, drop, getD, length-drop}
+use lib.ListN.{length, take, drop, getD}
+use borrow.Author.Tests.{not-true, not-false}
 use Rattle.specification.specs.Views.{After}
 use Rattle.specification.specs.Calls.{afterCall}
 use Rattle.view.specs.Model.{modelOf}
 use Rattle.record.specs.CallList.{callOf}
-use Rattle.record.proofs.CallListLaws.{Running, running-start, running-more, running-ill, running-odd, running-end, kind-zero, kind-large, count-large}
+use Rattle.record.proofs.CallListLaws.{Running, running-start, running-more, running-end}
+use Rattle.record.proofs.CallPlaceLaws.{Stands, call-stands, running-no-call}
 use borrow.Author.Needs.{needs}
 use Rattle.record.proofs.calls.run_calls.Statement.{statement}
 use Rattle.record.proofs.calls.run_calls.Tie as tie
@@ -18,16 +20,20 @@ Inv-loop calls current₀ at₀ current at = Running calls (modelOf current₀) 
 abbrev μ-loop : tie.MeasureT-loop
 μ-loop calls current₀ at₀ current at = length calls - at
 
+-- what is known of the call that is run
+call : (a : tie.Else1 Inv-loop μ-loop) → Stands (a .before .before .before .before .before .args .calls .now) (a .before .before .before .loop .at)
+call a = call-stands _ _ (sym (a .before .is-call-at .ensures) ∙ not-false _ (a .if1 .left))
+
 loop-holds : tie.Need-loop-holds Inv-loop μ-loop
 loop-holds c = running-start _ _
 
-sub-left : tie.Need-sub-left Inv-loop μ-loop
-sub-left c = search needs
+is-call-at-requires : tie.Need-is-call-at-requires Inv-loop μ-loop
+is-call-at-requires c κs = search needs
 
 returns : tie.Need-returns Inv-loop μ-loop
 returns c =
-    let l = c .before .before .loop in
-    running-odd (l .inv) (omega arith) (omega arith)
+    let l = c .before .before .before .loop in
+    running-no-call (l .inv) (omega arith) (sym (c .before .is-call-at .ensures) ∙ not-true _ (c .if1 .taken))
 
 mul-kind : tie.Need-mul-kind Inv-loop μ-loop
 mul-kind c = search needs
@@ -35,44 +41,23 @@ mul-kind c = search needs
 shared-slice-read-kind : tie.Need-shared-slice-read-kind Inv-loop μ-loop
 shared-slice-read-kind c = search needs
 
-add-count : tie.Need-add-count Inv-loop μ-loop
-add-count c = search needs
-
-mul-count : tie.Need-mul-count Inv-loop μ-loop
-mul-count c = search needs
-
-shared-slice-read-count : tie.Need-shared-slice-read-count Inv-loop μ-loop
-shared-slice-read-count c = search needs
-
-returns-2 : tie.Need-returns-2 Inv-loop μ-loop
-returns-2 c =
-    let l = c .before .before .before .before .before .loop in
-    let s = c .before .before .before .before .before .before .before in
-    let o = s .args .calls .now in
-    running-ill (l .inv) (omega arith) (kind-zero (getD o (l .at) 0) (getD o (l .at + 1) 0) (drop (l .at + 2) o) (c .if2 .taken))
-
-returns-3 : tie.Need-returns-3 Inv-loop μ-loop
-returns-3 c =
-    let l = c .before .before .before .before .before .before .loop in
-    let s = c .before .before .before .before .before .before .before .before in
-    let o = s .args .calls .now in
-    running-ill (l .inv) (omega arith) (kind-large (getD o (l .at) 0) (getD o (l .at + 1) 0) (drop (l .at + 2) o) (c .if3 .taken))
-
-returns-4 : tie.Need-returns-4 Inv-loop μ-loop
-returns-4 c =
-    let l = c .before .before .before .before .before .before .before .loop in
-    let s = c .before .before .before .before .before .before .before .before .before in
-    let o = s .args .calls .now in
-    running-ill (l .inv) (omega arith) (count-large (getD o (l .at) 0) (getD o (l .at + 1) 0) (drop (l .at + 2) o) (omega (arith, length-drop (l .at + 2) o)))
-
 add-start : tie.Need-add-start Inv-loop μ-loop
-add-start c = search needs
+add-start c = omega (arith, call (c .before))
 
 add-end : tie.Need-add-end Inv-loop μ-loop
-add-end c = search needs
+add-end c = omega (arith, call (c .before))
+
+mul-end : tie.Need-mul-end Inv-loop μ-loop
+mul-end c = omega (arith, call (c .before))
+
+shared-slice-read-end : tie.Need-shared-slice-read-end Inv-loop μ-loop
+shared-slice-read-end c = omega (arith, call (c .before .before))
+
+add-end-2 : tie.Need-add-end-2 Inv-loop μ-loop
+add-end-2 c = omega (arith, call (c .before .before))
 
 mul-run-call : tie.Need-mul-run-call Inv-loop μ-loop
-mul-run-call c = search needs
+mul-run-call c = omega (arith, call (c .before .before))
 
 sub-run-call : tie.Need-sub-run-call Inv-loop μ-loop
 sub-run-call c = search needs
@@ -81,26 +66,26 @@ part-run-call-start : tie.Need-part-run-call-start Inv-loop μ-loop
 part-run-call-start c = search needs
 
 part-run-call-end : tie.Need-part-run-call-end Inv-loop μ-loop
-part-run-call-end c = search needs
+part-run-call-end c = omega (arith, call (c .before .before))
 
 run-call-requires : tie.Need-run-call-requires Inv-loop μ-loop
 run-call-requires c κs = search needs
 
 loop-less : tie.Need-loop-less Inv-loop μ-loop
-loop-less c = omega arith
+loop-less c = omega (arith, call (c .before .before .before .before .before))
 
 loop-again : tie.Need-loop-again Inv-loop μ-loop
 loop-again c =
-    let l = c .before .before .before .before .before .before .before .before .before .before .loop in
-    let s = c .before .before .before .before .before .before .before .before .before .before .before .before in
-    let o = s .args .calls .now in
+    let k = call (c .before .before .before .before .before) in
+    let l = c .before .before .before .before .before .before .before .before .loop in
+    let o = c .before .before .before .before .before .before .before .before .before .before .args .calls .now in
     let e : l .at + 2 + getD o (l .at + 1) 0 - (l .at + 2) ≡ getD o (l .at + 1) 0 = omega arith in
-    running-more (l .inv) (omega arith) (omega arith) (omega arith) (omega arith)
+    running-more (l .inv) (omega arith) (k .kind-least) (k .kind-most) (k .ends)
     (ap (λ (a : After). a .layout) (c .before .run-call .ensures)
     ∙ ap (λ (n : ℕ). afterCall (modelOf (l .current)) (callOf (getD o (l .at) 0) (take n (drop (l .at + 2) o))) .layout) e)
 
-returns-5 : tie.Need-returns-5 Inv-loop μ-loop
-returns-5 c = running-end (c .before .loop .inv) (omega arith)
+returns-2 : tie.Need-returns-2 Inv-loop μ-loop
+returns-2 c = running-end (c .before .loop .inv) (omega arith)
 
 pub run-calls-spec : {M : Type 1} → statement M
 run-calls-spec =
@@ -109,18 +94,15 @@ run-calls-spec =
     Inv-loop
     μ-loop
     loop-holds
-    sub-left
+    is-call-at-requires
     returns
     mul-kind
     shared-slice-read-kind
-    add-count
-    mul-count
-    shared-slice-read-count
-    returns-2
-    returns-3
-    returns-4
     add-start
     add-end
+    mul-end
+    shared-slice-read-end
+    add-end-2
     mul-run-call
     sub-run-call
     part-run-call-start
@@ -128,4 +110,4 @@ run-calls-spec =
     run-call-requires
     loop-less
     loop-again
-    returns-5)
+    returns-2)

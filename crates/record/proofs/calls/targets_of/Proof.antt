@@ -1,4 +1,4 @@
--- `targets_of` copies the first numbers one by one.
+-- `targets_of` copies the first arguments one by one.
 use mathlib.Core.Path.{_≡_}
 use Prim.Native.Nat.{_≤_, _<_, _-_}
 use native.Mathlib.Numerals.{add-one}
@@ -10,10 +10,10 @@ use Rattle.record.proofs.calls.targets_of.Statement.{statement}
 use Rattle.record.proofs.calls.targets_of.Tie as tie
 
 abbrev Inv-loop : tie.InvT-loop
-Inv-loop numbers count targets₀ i₀ targets i = (i ≤ count) × (length targets ≡ 17) × (take i targets ≡ take i numbers)
+Inv-loop arguments count targets₀ i₀ targets i = (i ≤ count) × (length targets ≡ 17) × (take i targets ≡ take i arguments)
 
 abbrev μ-loop : tie.MeasureT-loop
-μ-loop numbers count targets₀ i₀ targets i = count - i
+μ-loop arguments count targets₀ i₀ targets i = count - i
 
 loop-holds : tie.Need-loop-holds Inv-loop μ-loop
 loop-holds c = search needs
@@ -41,10 +41,10 @@ loop-again c =
     let l = c .before .before .loop in
     let s = c .before .before .before in
     let h : l .i < length (l .targets) = omega arith in
-    let k : l .i < length (s .args .numbers .now) = omega arith in (
+    let k : l .i < length (s .args .arguments .now) = omega arith in (
       search needs,
       simp length-set (l .inv .1),
-      rw (add-one, take-suc-set, take-suc (s .args .numbers .now) (l .i) 0, l .inv .2),
+      rw (add-one, take-suc-set, take-suc (s .args .arguments .now) (l .i) 0, l .inv .2),
     )
 
 returns : tie.Need-returns Inv-loop μ-loop

@@ -16,8 +16,8 @@ put-u64-at-requires c κs = search needs
 twos-complement-requires : tie.Need-twos-complement-requires
 twos-complement-requires c κs = search needs
 
-add-put-u64-at : tie.Need-add-put-u64-at
-add-put-u64-at c = search needs
+add-t11 : tie.Need-add-t11
+add-t11 c = search needs
 
 put-u64-at-requires-2 : tie.Need-put-u64-at-requires-2
 put-u64-at-requires-2 c κs = search needs
@@ -27,10 +27,10 @@ same-length c = search needs
 
 returns : tie.Need-returns
 returns c =
-    let s = c .before .before .before .before .before .before .before .before .before .before in
+    let s = c .before .before .before .before .before .before .before .before .before .before .before in
     c .before .before .put-u64-at2 .ensures
-    ∙ rw (c .before .before .before .before .twos-complement .ensures, toZ-ofZ w64 (s .args .stride) (s .fits .stride), c .before .before .before .before .before .before .before .put-u64-at .ensures)
-    (two-numbers (s .args .out .now) (bigEndian 8 (s .args .extent)) (bigEndian 8 (twos (s .args .stride))) (s .args .at) (omega arith) (length-bigEndian 8 (s .args .extent)))
+    ∙ rw (c .before .before .before .before .before .twos-complement .ensures, toZ-ofZ w64 (s .args .stride) (s .fits .stride), c .before .before .before .before .before .before .before .before .put-u64-at .ensures)
+    (two-numbers (s .args .out .now) (bigEndian 8 (s .args .extent)) (bigEndian 8 (twos (s .args .stride))) (s .args .at .0) (omega arith) (length-bigEndian 8 (s .args .extent)))
 
 pub put-axis-at-spec : {M : Type 1} → statement M
 put-axis-at-spec =
@@ -38,7 +38,7 @@ put-axis-at-spec =
     (tie.spec
     put-u64-at-requires
     twos-complement-requires
-    add-put-u64-at
+    add-t11
     put-u64-at-requires-2
     same-length
     returns)

@@ -42,11 +42,11 @@ mul-stride c = search needs
 element-copy-out-stride : tie.Need-element-copy-out-stride Inv-loop μ-loop
 element-copy-out-stride c = search needs
 
-mul-put-axis-at : tie.Need-mul-put-axis-at Inv-loop μ-loop
-mul-put-axis-at c = search needs
+mul-t14 : tie.Need-mul-t14 Inv-loop μ-loop
+mul-t14 c = search needs
 
-add-put-axis-at : tie.Need-add-put-axis-at Inv-loop μ-loop
-add-put-axis-at c = search needs
+add-t24 : tie.Need-add-t24 Inv-loop μ-loop
+add-t24 c = search needs
 
 put-axis-at-requires : tie.Need-put-axis-at-requires Inv-loop μ-loop
 put-axis-at-requires c κs =
@@ -94,8 +94,8 @@ put-record-spec =
     element-copy-out-extent
     mul-stride
     element-copy-out-stride
-    mul-put-axis-at
-    add-put-axis-at
+    mul-t14
+    add-t24
     put-axis-at-requires
     add-i
     loop-less

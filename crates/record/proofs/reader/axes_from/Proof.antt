@@ -39,17 +39,17 @@ from-twos-requires c κs = search needs
 loop-holds : tie.Need-loop-holds Inv-loop μ-loop
 loop-holds c = (search needs, refl, refl, refl, refl, refl, table-zero _ ∙ sym (axesFrom-none _ 13))
 
-mul-at : tie.Need-mul-at Inv-loop μ-loop
-mul-at c = search needs
+mul-next : tie.Need-mul-next Inv-loop μ-loop
+mul-next c = search needs
 
-add-at : tie.Need-add-at Inv-loop μ-loop
-add-at c = search needs
+add-next : tie.Need-add-next Inv-loop μ-loop
+add-next c = search needs
 
 u64-at-requires-2 : tie.Need-u64-at-requires-2 Inv-loop μ-loop
 u64-at-requires-2 c κs = search needs
 
-add-u64-at : tie.Need-add-u64-at Inv-loop μ-loop
-add-u64-at c = search needs
+add-stride : tie.Need-add-stride Inv-loop μ-loop
+add-stride c = search needs
 
 u64-at-requires-3 : tie.Need-u64-at-requires-3 Inv-loop μ-loop
 u64-at-requires-3 c κs = search needs
@@ -57,8 +57,8 @@ u64-at-requires-3 c κs = search needs
 from-twos-requires-2 : tie.Need-from-twos-requires-2 Inv-loop μ-loop
 from-twos-requires-2 c κs = search needs
 
-mul-next : tie.Need-mul-next Inv-loop μ-loop
-mul-next c = search needs
+mul-next-2 : tie.Need-mul-next-2 Inv-loop μ-loop
+mul-next-2 c = search needs
 
 element-write-next : tie.Need-element-write-next Inv-loop μ-loop
 element-write-next c = search needs
@@ -77,8 +77,8 @@ loop-less c = search needs
 
 loop-again : tie.Need-loop-again Inv-loop μ-loop
 loop-again c =
-    let l = c .before .before .before .before .loop in
-    let b = c .before .before .before .before .before .before .before .before .before .before .args .bytes .now in (
+    let l = c .before .before .before .before .before .loop in
+    let b = c .before .before .before .before .before .before .before .before .before .before .before .args .bytes .now in (
       search needs,
       l .inv .1,
       l .inv .2,
@@ -86,7 +86,7 @@ loop-again c =
       simp length-set (l .inv .4),
       simp length-set (l .inv .5),
       axesIn-store (l .next .extents) (l .next .strides) (l .i) _ _ (omega arith) (omega arith)
-          ∙ rw (l .inv .6, toZ-ofZ w64 (c .from-twos2 .result) (record { sfits = c .from-twos2 .ok }), c .from-twos2 .ensures, c .before .u64-at3 .ensures, c .before .before .u64-at2 .ensures) (sym (axesFrom-more b 13 (l .i))),
+          ∙ rw (l .inv .6, toZ-ofZ w64 (c .from-twos2 .result) (record { sfits = c .from-twos2 .ok }), c .from-twos2 .ensures, c .before .u64-at3 .ensures, c .before .before .before .u64-at2 .ensures) (sym (axesFrom-more b 13 (l .i))),
     )
 
 returns : tie.Need-returns Inv-loop μ-loop
@@ -108,13 +108,13 @@ axes-from-spec =
     u64-at-requires
     from-twos-requires
     loop-holds
-    mul-at
-    add-at
+    mul-next
+    add-next
     u64-at-requires-2
-    add-u64-at
+    add-stride
     u64-at-requires-3
     from-twos-requires-2
-    mul-next
+    mul-next-2
     element-write-next
     mul-stride
     element-set-from-stride

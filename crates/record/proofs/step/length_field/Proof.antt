@@ -1,6 +1,6 @@
 -- `length_field` puts two bytes together.
 use native.Mathlib.Omega.{arith}
-use Rattle.record.proofs.NumberLaws.{number-of-two}
+use Rattle.big_endian.proofs.NumberLaws.{number-of-two}
 use borrow.Author.Needs.{needs}
 use Rattle.record.proofs.step.length_field.Statement.{statement}
 use Rattle.record.proofs.step.length_field.Tie as tie

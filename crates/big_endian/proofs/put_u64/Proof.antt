@@ -7,8 +7,8 @@ use lib.ListN.{length-set}
 use lib.Seq.{sets-eq}
 use Rattle.specification.specs.Record.{bigEndian}
 use borrow.Author.Needs.{needs}
-use Rattle.record.proofs.bytes.put_u64.Statement.{statement}
-use Rattle.record.proofs.bytes.put_u64.Tie as tie
+use Rattle.big_endian.proofs.put_u64.Statement.{statement}
+use Rattle.big_endian.proofs.put_u64.Tie as tie
 
 cast-out : tie.Need-cast-out
 cast-out c = search needs

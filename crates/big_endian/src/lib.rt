@@ -4,7 +4,10 @@ ghost use mathlib.Core.List.{_++_};
 ghost use Prim.Native.Nat.{_≤_, _<_, _+_, _^_};
 ghost use lib.ListN.{length, take, drop};
 ghost use Rattle.specification.specs.Record.{bigEndian, twos, numberFrom};
-ghost use Rattle.record.specs.Bytes.{signedOf};
+ghost use Rattle.big_endian.specs.Twos.{signedOf};
+
+// A place counted in bytes.
+pub struct BytePlace(pub usize);
 
 // The 8 bytes of x at the front of out.
 fn put_u64(out: &mut [u8], x: u64)
@@ -21,12 +24,13 @@ fn put_u64(out: &mut [u8], x: u64)
     out[7] = (x % 256) as u8;
 }
 
-// The same from a place on; the other bytes stay.
-pub(crate) fn put_u64_at(out: &mut [u8], at: usize, x: u64)
-    requires { ⌜ at + 8 ≤ length (now out) ⌝ }
-    ensures { λ _. ⌜ now (out .exit) ≡ take at (now (out .entry)) ++ (bigEndian 8 x ++ drop (at + 8) (now (out .entry))) ⌝ }
+// The 8 bytes of x from a place on; the bytes before and behind them stay.
+pub fn put_u64_at(out: &mut [u8], at: BytePlace, x: u64)
+    requires { ⌜ at .0 + 8 ≤ length (now out) ⌝ }
+    ensures { λ _. ⌜ now (out .exit) ≡ take (at .0) (now (out .entry)) ++ (bigEndian 8 x ++ drop (at .0 + 8) (now (out .entry))) ⌝ }
 {
-    put_u64(&mut out[at..], x);
+    let place = at.0;
+    put_u64(&mut out[place..], x);
 }
 
 // The two's complement of z in 64 bits.
@@ -53,6 +57,7 @@ pub fn from_twos(n: u64) -> i64
     }
 }
 
+// A byte as a number of 64 bits.
 fn wide(x: u8) -> u64
     ensures { λ r. ⌜ (r ≡ x) × (r < 256) ⌝ }
 {
@@ -60,20 +65,21 @@ fn wide(x: u8) -> u64
 }
 
 // The number that the 4 bytes from a place on hold.
-fn u32_at(bytes: &[u8], at: usize) -> u64
-    requires { ⌜ at + 4 ≤ length (now bytes) ⌝ }
-    ensures { λ r. ⌜ (r ≡ numberFrom (now (bytes .entry)) at 4) × (r < 2 ^ 32) ⌝ }
+fn u32_at(bytes: &[u8], at: BytePlace) -> u64
+    requires { ⌜ at .0 + 4 ≤ length (now bytes) ⌝ }
+    ensures { λ r. ⌜ (r ≡ numberFrom (now (bytes .entry)) (at .0) 4) × (r < 2 ^ 32) ⌝ }
 {
-    wide(bytes[at]) * 16777216
-        + wide(bytes[at + 1]) * 65536
-        + wide(bytes[at + 2]) * 256
-        + wide(bytes[at + 3])
+    let place = at.0;
+    wide(bytes[place]) * 16777216
+        + wide(bytes[place + 1]) * 65536
+        + wide(bytes[place + 2]) * 256
+        + wide(bytes[place + 3])
 }
 
 // The number that the 8 bytes from a place on hold.
-pub(crate) fn u64_at(bytes: &[u8], at: usize) -> u64
-    requires { ⌜ at + 8 ≤ length (now bytes) ⌝ }
-    ensures { λ r. ⌜ r ≡ numberFrom (now (bytes .entry)) at 8 ⌝ }
+pub fn u64_at(bytes: &[u8], at: BytePlace) -> u64
+    requires { ⌜ at .0 + 8 ≤ length (now bytes) ⌝ }
+    ensures { λ r. ⌜ r ≡ numberFrom (now (bytes .entry)) (at .0) 8 ⌝ }
 {
-    u32_at(bytes, at) * 4294967296 + u32_at(bytes, at + 4)
+    u32_at(bytes, at) * 4294967296 + u32_at(bytes, BytePlace(at.0 + 4))
 }

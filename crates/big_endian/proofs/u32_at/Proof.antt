@@ -1,9 +1,9 @@
 -- `u32_at` adds the bytes with their weights.
 use native.Mathlib.Omega.{arith}
-use Rattle.record.proofs.NumberLaws.{number-of-four}
+use Rattle.big_endian.proofs.NumberLaws.{number-of-four}
 use borrow.Author.Needs.{needs}
-use Rattle.record.proofs.bytes.u32_at.Statement.{statement}
-use Rattle.record.proofs.bytes.u32_at.Tie as tie
+use Rattle.big_endian.proofs.u32_at.Statement.{statement}
+use Rattle.big_endian.proofs.u32_at.Tie as tie
 
 shared-slice-read-wide : tie.Need-shared-slice-read-wide
 shared-slice-read-wide c = search needs
@@ -59,7 +59,7 @@ add-result-3 c = search needs
 returns : tie.Need-returns
 returns c =
     let a = c .before .before .before .before .before .before .before .before .before .args in
-    (omega (arith, number-of-four (a .bytes .now) (a .at)), omega arith)
+    (omega (arith, number-of-four (a .bytes .now) (a .at .0)), omega arith)
 
 pub u32-at-spec : {M : Type 1} → statement M
 u32-at-spec =

@@ -3,8 +3,8 @@ use native.Mathlib.Omega.{arith}
 use Rattle.lists.proofs.PartLaws.{part-front}
 use Rattle.specification.specs.Record.{bigEndian}
 use borrow.Author.Needs.{needs}
-use Rattle.record.proofs.bytes.put_u64_at.Statement.{statement}
-use Rattle.record.proofs.bytes.put_u64_at.Tie as tie
+use Rattle.big_endian.proofs.put_u64_at.Statement.{statement}
+use Rattle.big_endian.proofs.put_u64_at.Tie as tie
 
 sub-put-u64 : tie.Need-sub-put-u64
 sub-put-u64 c = search needs
@@ -24,7 +24,7 @@ same-length c = search needs
 returns : tie.Need-returns
 returns c =
     let a = c .before .before .before .before .before .args in
-    part-front (a .out .now) (c .before .before .put-u64 .last .0) (bigEndian 8 (a .x)) (a .at) 8 (omega arith) (c .before .before .put-u64 .ensures)
+    part-front (a .out .now) (c .before .before .put-u64 .last .0) (bigEndian 8 (a .x)) (a .at .0) 8 (omega arith) (c .before .before .put-u64 .ensures)
 
 pub put-u64-at-spec : {M : Type 1} → statement M
 put-u64-at-spec =

@@ -5,9 +5,9 @@ use native.Mathlib.Omega.{arith}
 use mir.Syntax.{w64}
 use mir.ValLaws.{toZ-ofZ}
 use Rattle.integer.proofs.MachineInteger.{negative-tested, nonnegative-tested}
-use Rattle.record.proofs.TwosLaws.{twos-negative, twos-positive}
-use Rattle.record.proofs.bytes.twos_complement.Statement.{statement}
-use Rattle.record.proofs.bytes.twos_complement.Tie as tie
+use Rattle.big_endian.proofs.TwosLaws.{twos-negative, twos-positive}
+use Rattle.big_endian.proofs.twos_complement.Statement.{statement}
+use Rattle.big_endian.proofs.twos_complement.Tie as tie
 
 cast-m : tie.Need-cast-m
 cast-m c =

@@ -1,0 +1,2 @@
+pub mod TwosLaws
+pub mod NumberLaws
