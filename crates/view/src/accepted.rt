@@ -56,7 +56,7 @@ pub(crate) fn handed_lists(
     }
 }
 
-// The same of a layout.
+// Refusals 1 and 3 of a layout, for a call whose list has so many entries.
 pub fn handed_refusal(layout: Layout, entries: usize) -> Answer
     ensures { λ r. ⌜ ((list : List ℕ) → length list ≡ entries → outcomeOf r ≡ handed (modelOf layout) list) ⌝ }
 {
