@@ -8,7 +8,7 @@ use native.Mathlib.Omega.{arith}
 use lib.IntN.{ℤ}
 use lib.ListN.{length}
 use borrow.Author.Tests.{eq-eqb, ne-eqb}
-use Rattle.specification.specs.Tests.{if_then_else_, some}
+use Rattle.specification.specs.Tests.{some}
 use Rattle.specification.specs.Axis.{Axis, axesOf, extents, positions, isEmpty}
 use Rattle.specification.specs.Outcome.{Outcome, done, refused, refuseIf, _>>_, _>>=_}
 use Rattle.specification.specs.Search.{ActiveAxis}
@@ -20,15 +20,17 @@ use Rattle.specification.proofs.OutcomeLaws.{bind-done, bind-refused}
 use Rattle.specification.proofs.PlanCases.{ToBlock}
 use Rattle.specification.proofs.VerdictLaws.{verdict-call-claims}
 use Rattle.specification.proofs.VerdictRefusals.{plan-eight, plan-three}
-use Rattle.view.specs.Count.{Counted, countOf}
+use Rattle.view.specs.Count.{countTold, elementCount, countOf}
 use Rattle.view.specs.declared.count.Count.{Count}
-use Rattle.view.specs.declared.count.Count.the-variants.{Of, TooMany}
+use Rattle.view.specs.declared.count.Count.the-variants.{Of, Refused}
+use Rattle.view.specs.declared.layout.Refusal.{Refusal}
+use Rattle.view.proofs.CountLaws.{element-count-of-axes, counted-refused, counted-is}
 use Rattle.injectivity.specs.Judgement.{toldOf, JudgedAs}
 use Rattle.injectivity.specs.Inputs.{LeftToBlock, Validated}
 use Rattle.injectivity.specs.declared.Judgement.{Judgement}
 use Rattle.injectivity.specs.declared.inputs.Inputs.{Inputs}
 use Rattle.injectivity.specs.declared.inputs.Inputs.the-variants.{Settled, Valid}
-use Rattle.view.proofs.ModelLaws.{axesIn-axesOf, length-axesIn}
+use Rattle.view.proofs.ModelLaws.{axesIn-axesOf, length-axesIn, length-axesOf}
 
 -- ---- plans
 
@@ -90,23 +92,15 @@ module _ (es : List ℕ) (ss : List ℤ) (few : length es ≤ 16) (e : length es
   turned-down p words = sym (ap toldOf (planned words ∙ bind-refused (carryOut words) p))
 
   -- ---- by the number of positions
-  module _ (c : Count) (counted : Counted es c) where
-    count-is : c ≡ countOf (axesOf es ss)
-    count-is = counted (axesOf es ss) (extents-are es ss e)
+  module _ (c : Count) (counted : countTold c ≡ elementCount es) where
+    count-is : countTold c ≡ countOf (axesOf es ss)
+    count-is = counted ∙ ap elementCount (sym (extents-are es ss e)) ∙ element-count-of-axes (axesOf es ss) (omega (arith, length-axesOf es ss e))
 
-    pub overfull-told : c ≡ TooMany → (words : ℕ) → refused 8 [] ≡ toldOf (verdict es ss words)
-    overfull-told q = turned-down (plan-eight (axesOf es ss) (by (overfull (axesOf es ss)) (sym q ∙ count-is)))
-      where
-        by : (t : Bool) → TooMany ≡ (if t then TooMany else Of (positions (axesOf es ss))) → t ≡ true
-        by true p = refl
-        by false p = let z : _≡_ {A = ℕ} 0 1 = cc in absurd (omega arith)
+    pub overfull-told : {why : Refusal} → c ≡ Refused why → (words : ℕ) → refused 8 [] ≡ toldOf (verdict es ss words)
+    overfull-told q = turned-down (plan-eight (axesOf es ss) (counted-refused (axesOf es ss) count-is q .0))
 
-    total-is : (total : ℕ) → c ≡ Of total → (overfull (axesOf es ss) ≡ false) × (total ≡ positions (axesOf es ss))
-    total-is total q = by (overfull (axesOf es ss)) (sym q ∙ count-is)
-      where
-        by : (t : Bool) → Of total ≡ (if t then TooMany else Of (positions (axesOf es ss))) → (t ≡ false) × (total ≡ positions (axesOf es ss))
-        by true p = let z : _≡_ {A = ℕ} 0 1 = cc in absurd (omega arith)
-        by false p = (refl, cc)
+    total-is : (total : ℕ) → c ≡ Of total → (overfull (axesOf es ss) ≡ false) × (positions (axesOf es ss) ≡ total)
+    total-is total q = counted-is (axesOf es ss) count-is q
 
     module _ (total : ℕ) (q : c ≡ Of total) where
       pub few-told : total ≤ 1 → (words : ℕ) → done (record { answer = Distinct; count = 0 }) ≡ toldOf (verdict es ss words)

@@ -10,15 +10,18 @@ use lib.Seq.{take-suc}
 use borrow.Author.Tests.{ltb-false}
 use Rattle.integer.specs.Range.{mostUnsigned}
 use Rattle.lists.specs.Table.{table}
-use Rattle.specification.specs.Tests.{if_then_else_}
 use Rattle.specification.specs.Outcome.{refused, pass, refuseIf, _>>_}
 use Rattle.specification.specs.Axis.{Axis, extents, positions, isEmpty}
 use Rattle.specification.specs.Layout.{LayoutM, handed}
 use Rattle.specification.specs.Normal.{normalOf, overfull, normalForm}
 use Rattle.specification.proofs.NormalLaws.{full-pos, positions-pos, empty-none}
-use Rattle.view.specs.Count.{countOf}
+use Rattle.view.specs.Answers.{numberOf, valuesOf}
+use Rattle.view.specs.Count.{countTold, countOf}
 use Rattle.view.specs.Model.{axesIn}
-use Rattle.view.specs.declared.count.Count.the-variants.{Of, TooMany}
+use Rattle.view.specs.declared.count.Count.{Count}
+use Rattle.view.specs.declared.count.Count.the-variants.{Of, Refused}
+use Rattle.view.specs.declared.layout.Refusal.{Refusal}
+use Rattle.view.proofs.CountLaws.{counted-refused, counted-is}
 use Rattle.record.specs.Normal.{normalView, counted}
 
 -- ---- the extents of the axes in two arrays
@@ -33,20 +36,6 @@ extents-axesIn es ss zero h = refl
 extents-axesIn es ss (suc n) h = extents-append (axesIn es ss n) _ ∙ rw (extents-axesIn es ss n (omega arith), take-suc es n 0)
 
 -- ---- the number of positions
-
-pub too-many : (axes : List Axis) → countOf axes ≡ TooMany → overfull axes ≡ true
-too-many axes e = by (overfull axes) e
-  where
-    by : (t : Bool) → (if t then TooMany else Of (positions axes)) ≡ TooMany → t ≡ true
-    by true e = refl
-    by false e = absurd (let z : _≡_ {A = ℕ} 0 1 = cc in omega arith)
-
-pub counted-is : (axes : List Axis) (n : ℕ) → countOf axes ≡ Of n → (overfull axes ≡ false) × (positions axes ≡ n)
-counted-is axes n e = by (overfull axes) e
-  where
-    by : (t : Bool) → (if t then TooMany else Of (positions axes)) ≡ Of n → (t ≡ false) × (positions axes ≡ n)
-    by true e = absurd (let z : _≡_ {A = ℕ} 0 1 = cc in omega arith)
-    by false e = (refl, cc)
 
 -- no position: empty
 pub none-empty : (axes : List Axis) → positions axes ≡ 0 → isEmpty axes ≡ true
@@ -80,10 +69,11 @@ module _ (l : LayoutM) where
   unfolding normalForm _>>_
   form-passed e = rw e
 
-  pub counted-over : countOf (l .axes) ≡ TooMany → counted l ≡ record { answer = refused 8 []; layout = l }
-  unfolding refuseIf _>>_
-  counted-over e = rw (too-many (l .axes) e)
+  module _ {r : Count} (told : countTold r ≡ countOf (l .axes)) where
+    pub counted-over : {why : Refusal} → r ≡ Refused why → counted l ≡ record { answer = refused (numberOf why) (valuesOf why); layout = l }
+    unfolding refuseIf _>>_
+    counted-over q = let w = counted-refused (l .axes) told q in rw (w .0, w .1)
 
-  pub counted-done : {n : ℕ} → countOf (l .axes) ≡ Of n → counted l ≡ record { answer = pass; layout = normalOf l }
-  unfolding refuseIf _>>_
-  counted-done {n} e = rw (counted-is (l .axes) n e .0)
+    pub counted-done : {n : ℕ} → r ≡ Of n → counted l ≡ record { answer = pass; layout = normalOf l }
+    unfolding refuseIf _>>_
+    counted-done q = rw (counted-is (l .axes) told q .0)

@@ -5,7 +5,7 @@ ghost use Prim.Native.Nat.{_≤_};
 ghost use Rattle.specification.specs.Normal.{overfull};
 ghost use Rattle.specification.specs.Record.{isMerged, isEmptyForm, isNormal, withBuffer};
 ghost use Rattle.view.specs.Model.{modelOf};
-ghost use Rattle.view.specs.Reach.{reachOf};
+ghost use Rattle.view.specs.Reach.{reachTold, reachOf};
 ghost use Rattle.record.specs.Reader.{inLongest};
 use crate::normal::continues;
 use crate::normal::layout_count;
@@ -64,14 +64,14 @@ fn is_overfull(layout: Layout) -> bool
     let count = layout_count(layout);
     match count {
         Count::Of(_) => false,
-        Count::TooMany => true,
+        Count::Refused(_) => true,
     }
 }
 
 // The reach over the longest buffer, which holds every offset to 2^63 - 1.
 fn longest_reach(layout: Layout) -> Reach
     requires { ⌜ layout .rank ≤ 16 ⌝ }
-    ensures { λ r. ⌜ r ≡ reachOf (inLongest (modelOf layout)) ⌝ }
+    ensures { λ r. ⌜ reachTold r ≡ reachOf (inLongest (modelOf layout)) ⌝ }
 {
     let mut longest = layout;
     longest.len = 18446744073709551615;
@@ -106,5 +106,5 @@ pub(crate) fn buffer_length(layout: Layout) -> u64
     let Reach::Between(_, high) = longest_reach(layout) else {
         return 0;
     };
-    high + 1
+    (high.0 as u64) + 1
 }

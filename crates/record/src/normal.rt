@@ -5,7 +5,7 @@ ghost use Prim.Native.Nat.{_≤_};
 ghost use Rattle.integer.specs.Multiple.{_·_, eqZ};
 ghost use Rattle.specification.specs.Axis.{isEmpty};
 ghost use Rattle.specification.specs.Normal.{normalOf, overfull};
-ghost use Rattle.view.specs.Count.{countOf};
+ghost use Rattle.view.specs.Count.{countTold, countOf};
 ghost use Rattle.view.specs.Model.{modelOf, viewedOf};
 ghost use Rattle.record.specs.Normal.{continuesLast, counted, normalView};
 use integer::signed::Checked;
@@ -16,7 +16,6 @@ use view::count::checked_element_count;
 use view::layout::Answer;
 use view::layout::Layout;
 use view::layout::ReadingOffset;
-use view::layout::Refusal;
 use view::layout::Viewed;
 
 // Whether the next stride is extent × stride. A product that 64 bits do not hold equals no stride.
@@ -91,7 +90,7 @@ fn empty_form(layout: Layout) -> Layout
 // The number of positions, or that 64 bits do not hold it.
 pub(crate) fn layout_count(layout: Layout) -> Count
     requires { ⌜ layout .rank ≤ 16 ⌝ }
-    ensures { λ r. ⌜ r ≡ countOf (modelOf layout .axes) ⌝ }
+    ensures { λ r. ⌜ countTold r ≡ countOf (modelOf layout .axes) ⌝ }
 {
     let rank = layout.rank;
     let extents = layout.extents;
@@ -105,9 +104,9 @@ fn counted_form(layout: Layout) -> Viewed
 {
     let count = layout_count(layout);
     match count {
-        Count::TooMany => Viewed {
+        Count::Refused(why) => Viewed {
             layout: layout,
-            answer: Answer::Refused(Refusal::TooManyPositions),
+            answer: Answer::Refused(why),
         },
         Count::Of(positions) => {
             let next = if positions == 0 {

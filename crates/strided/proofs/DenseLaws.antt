@@ -12,8 +12,8 @@ use Rattle.specification.specs.Outcome.{Outcome, done, refused, _>>=_}
 use Rattle.specification.specs.Beside.{colMajor, rowMajor}
 use Rattle.specification.proofs.DenseLaws.{dense-claims}
 use Rattle.view.specs.Answers.{outcomeOf}
-use Rattle.view.specs.Dense.{DenseM, denseOf, denseAfter}
-use Rattle.view.specs.declared.dense.Dense.{Dense}
+use Rattle.dense.specs.Dense.{DenseM, denseOf, denseAfter}
+use Rattle.dense.specs.declared.Dense.{Dense}
 use Rattle.strided.specs.Crossing.{ifRoom}
 use Rattle.strided.specs.Calls.{denseInto, stridesOf, DenseCrossed, DenseTold}
 

@@ -11,8 +11,8 @@ use Rattle.specification.specs.Outcome.{Outcome, Check, done, refused}
 use Rattle.specification.specs.Layout.{LayoutM}
 use Rattle.specification.specs.Verdict.{Judged, ScratchAfter, freedBy}
 use Rattle.specification.specs.Record.{Made, WasRead, verdictByte, outputAfter, writeFrees, writeAnswer, readOf, readFrees, restOf}
-use Rattle.view.specs.Dense.{denseOf}
-use Rattle.view.specs.declared.dense.Dense.{Dense}
+use Rattle.dense.specs.Dense.{denseOf}
+use Rattle.dense.specs.declared.Dense.{Dense}
 use Rattle.injectivity.specs.Judgement.{Told, toldOf}
 use Rattle.strided.specs.Crossing.{ifRoom, answerNumber, valuesAfter, resultAfter, frontAfter, CrossedWithValues}
 

@@ -6,7 +6,7 @@ use mathlib.Core.Logic.{_⊎_, inl, inr}
 use Prim.Native.Nat.{ℕ, _+_, _-_, _≤_, _<_}
 use native.Mathlib.Omega.{arith}
 use lib.Dec.{T, ltb}
-use lib.IntN.{pos, natAbs}
+use lib.IntN.{pos}
 use lib.Signed.{leZ, ltZ}
 use borrow.Author.Tests.{lt-ltb, le-ltb}
 use Rattle.integer.specs.Parts.{posPart, negPart}
@@ -14,12 +14,15 @@ use Rattle.integer.specs.Range.{fits, mostSigned}
 use Rattle.integer.proofs.PartLaws.{parts-add, parts-minus, parts-ext, parts-fit, leZ-true, ltZ-true, le-leZ, lt-leZ, lt-ltZ, le-ltZ}
 use Rattle.integer.proofs.CheckedLaws.{fits-of-sfits}
 use Rattle.specification.specs.Tests.{if_then_else_, some}
-use Rattle.specification.specs.Outcome.{Check, refused, pass, refuseIf}
+use Rattle.specification.specs.Outcome.{Check, done, refused, pass, refuseIf, _>>_}
 use Rattle.specification.specs.Axis.{Axis, isEmpty, span, upward, downward}
 use Rattle.specification.specs.Layout.{LayoutM, lowest, highest, inReach}
 use Rattle.specification.specs.CheckIn.{bounds, tooWide}
+use Rattle.specification.proofs.OutcomeLaws.{clash, passed, done-inj}
+use Rattle.specification.proofs.AcceptedLaws.{not-false}
 use Rattle.specification.proofs.ReachLaws.{Within, and-true, bounds-reach}
-use Rattle.view.specs.Reach.{reachOf, tooWideExtent}
+use Rattle.view.specs.Reach.{Ends, none, ends, reachTold, reachOf, tooWideExtent}
+use Rattle.view.specs.declared.layout.ReadingOffset.{ReadingOffset}
 use Rattle.view.specs.declared.bounds.Reach.{Reach}
 use Rattle.view.specs.declared.bounds.Reach.the-variants.{Empty, Between, Outside}
 
@@ -49,23 +52,32 @@ module _ (l : LayoutM) (e : isEmpty (l .axes) ≡ false) where
   pub high-parts : posPart (highest l) + (negPart (l .offset) + 0) ≡ (posPart (l .offset) + upward (l .axes)) + negPart (highest l)
   high-parts = parts-add (l .offset) (pos (upward (l .axes)))
 
-  pub reach-between : negPart (l .offset) ≡ 0 → downward (l .axes) ≤ posPart (l .offset) → posPart (l .offset) + upward (l .axes) ≤ mostSigned
-      → posPart (l .offset) + upward (l .axes) < l .buffer
-      → reachOf l ≡ Between (posPart (l .offset) - downward (l .axes)) (posPart (l .offset) + upward (l .axes))
-  unfolding reachOf
-  reach-between n d u b =
-      let w : Within l = record { w-low = omega (arith, low-parts); w-most = omega (arith, high-parts); w-in = omega (arith, high-parts) } in
-      let x : lowest l ≡ pos (posPart (l .offset) - downward (l .axes)) = parts-ext (omega (arith, low-parts)) in
-      let y : highest l ≡ pos (posPart (l .offset) + upward (l .axes)) = parts-ext (omega (arith, high-parts)) in
-      rw (e, within-reach w, ap natAbs x, ap natAbs y)
+  -- an offset that is not below 0, with room for the spans below it and above it
+  module _ (n : negPart (l .offset) ≡ 0) (d : downward (l .axes) ≤ posPart (l .offset)) (u : posPart (l .offset) + upward (l .axes) ≤ mostSigned)
+      (b : posPart (l .offset) + upward (l .axes) < l .buffer) where
+    pub spans-within : inReach l ≡ true
+    spans-within = within-reach record { w-low = omega (arith, low-parts); w-most = omega (arith, high-parts); w-in = omega (arith, high-parts) }
 
-  pub reach-outside : (Within l → ⊥) → reachOf l ≡ Outside
-  unfolding reachOf
-  reach-outside never = rw (e, not-reached (inReach l) refl)
+    pub reach-between : reachOf l ≡ done (ends (pos (posPart (l .offset) - downward (l .axes))) (pos (posPart (l .offset) + upward (l .axes))))
+    unfolding reachOf refuseIf _>>_
+    reach-between =
+        let x : lowest l ≡ pos (posPart (l .offset) - downward (l .axes)) = parts-ext (omega (arith, low-parts)) in
+        let y : highest l ≡ pos (posPart (l .offset) + upward (l .axes)) = parts-ext (omega (arith, high-parts)) in
+        rw (spans-within, e, x, y)
+
+  pub reach-outside : (Within l → ⊥) → reachOf l ≡ refused 3 []
+  unfolding reachOf refuseIf _>>_
+  reach-outside never = rw (not-reached (inReach l) refl)
     where
       not-reached : (t : Bool) → inReach l ≡ t → t ≡ false
       not-reached true q = absurd (never (reach-within q))
       not-reached false q = refl
+
+-- ---- an empty layout
+
+pub reach-empty : (l : LayoutM) → isEmpty (l .axes) ≡ true → reachOf l ≡ done none
+unfolding reachOf inReach refuseIf _>>_
+reach-empty l e = rw e
 
 -- ---- an extent that is too wide
 
@@ -97,36 +109,35 @@ bounds-three l = by (isEmpty (l .axes)) _ (refuses _)
     by true c f = inl refl
     by false c f = f
 
--- the three answers, by the two tests
-reach-by : Bool → Bool → ℕ → ℕ → Reach
-reach-by empty inside low high = if empty then Empty else if inside then Between low high else Outside
+-- the ends, where the layout is in reach
+within-ends : (l : LayoutM) {e : Ends} → reachOf l ≡ done e → (inReach l ≡ true) × (e ≡ (if isEmpty (l .axes) then none else ends (lowest l) (highest l)))
+unfolding reachOf
+within-ends l q = let p = passed (not (inReach l)) 3 [] q in (not-false (inReach l) (p .0), sym (done-inj (p .1)))
 
-pub empty-means : (l : LayoutM) → reachOf l ≡ Empty → isEmpty (l .axes) ≡ true
-unfolding reachOf reach-by
-empty-means l r = by (isEmpty (l .axes)) (inReach l) (natAbs (lowest l)) (natAbs (highest l)) r
+pub empty-means : (l : LayoutM) {r : Reach} → reachTold r ≡ reachOf l → r ≡ Empty → isEmpty (l .axes) ≡ true
+empty-means l t q = by (isEmpty (l .axes)) (within-ends l (sym t ∙ ap reachTold q) .1)
   where
-    by : (s t : Bool) (a b : ℕ) → reach-by s t a b ≡ Empty → s ≡ true
-    by true t a b q = refl
-    by false true a b q = let z : _≡_ {A = ℕ} 0 1 = cc in absurd (omega arith)
-    by false false a b q = let z : _≡_ {A = ℕ} 0 1 = cc in absurd (omega arith)
+    by : (s : Bool) → none ≡ (if s then none else ends (lowest l) (highest l)) → s ≡ true
+    by true q = refl
+    by false q = let z : _≡_ {A = ℕ} 0 1 = cc in absurd (omega arith)
 
-pub outside-means : (l : LayoutM) → reachOf l ≡ Outside → inReach l ≡ false
-unfolding reachOf reach-by
-outside-means l r = by (isEmpty (l .axes)) (inReach l) (natAbs (lowest l)) (natAbs (highest l)) r
+pub outside-means : (l : LayoutM) {r : Reach} → reachTold r ≡ reachOf l → r ≡ Outside → inReach l ≡ false
+unfolding reachOf refuseIf _>>_
+outside-means l t q = by (inReach l) refl (sym t ∙ ap reachTold q)
   where
-    by : (s t : Bool) (a b : ℕ) → reach-by s t a b ≡ Outside → t ≡ false
-    by true t a b q = let z : _≡_ {A = ℕ} 0 1 = cc in absurd (omega arith)
-    by false true a b q = let z : _≡_ {A = ℕ} 0 1 = cc in absurd (omega arith)
-    by false false a b q = refl
+    by : (s : Bool) → inReach l ≡ s → reachOf l ≡ refused 3 [] → s ≡ false
+    by true e q = absurd (clash (rw e at q))
+    by false e q = refl
 
-pub between-means : (l : LayoutM) {low high : ℕ} → reachOf l ≡ Between low high → (isEmpty (l .axes) ≡ false) × (inReach l ≡ true)
-unfolding reachOf reach-by
-between-means l {low} {high} r = by (isEmpty (l .axes)) (inReach l) (natAbs (lowest l)) (natAbs (highest l)) r
+-- a reach between two offsets: they are the lowest and the highest of a layout that is not empty
+pub between-means : (l : LayoutM) {r : Reach} {low high : ReadingOffset} → reachTold r ≡ reachOf l → r ≡ Between low high
+    → (isEmpty (l .axes) ≡ false) × (inReach l ≡ true) × (low .0 ≡ lowest l) × (high .0 ≡ highest l)
+between-means l {r} {low} {high} t q = let w = within-ends l (sym t ∙ ap reachTold q) in by (isEmpty (l .axes)) (w .0) (w .1)
   where
-    by : (s t : Bool) (a b : ℕ) → reach-by s t a b ≡ Between low high → (s ≡ false) × (t ≡ true)
-    by true t a b q = let z : _≡_ {A = ℕ} 0 1 = cc in absurd (omega arith)
-    by false true a b q = (refl, refl)
-    by false false a b q = let z : _≡_ {A = ℕ} 0 1 = cc in absurd (omega arith)
+    by : (s : Bool) → inReach l ≡ true → ends (low .0) (high .0) ≡ (if s then none else ends (lowest l) (highest l))
+        → (s ≡ false) × (inReach l ≡ true) × (low .0 ≡ lowest l) × (high .0 ≡ highest l)
+    by true i q = let z : _≡_ {A = ℕ} 0 1 = cc in absurd (omega arith)
+    by false i q = (refl, i, cc, cc)
 
 pub empty-bounds : (l : LayoutM) → isEmpty (l .axes) ≡ true → bounds l ≡ pass
 unfolding bounds

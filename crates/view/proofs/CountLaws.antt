@@ -1,22 +1,27 @@
 -- A product of extents, factor by factor, and what it says of the number of positions.
-use mathlib.Core.Path.{_≡_, refl, sym, subst}
-use mathlib.Core.Bool.{Bool, true, false, _||_}
+use mathlib.Core.Path.{_≡_, refl, sym, ap, subst, _∙_}
+use mathlib.Core.Bool.{Bool, true, false, not, _&&_, _||_, and-false}
 use mathlib.Core.List.{List, [], _∷_}
 use Prim.Native.Nat.{ℕ, zero, suc, _+_, _*_, _≤_, _<_}
 use native.Mathlib.Nat.{zero-mul, mul-zero, mul-suc, mul-pos}
 use native.Mathlib.Numerals.{add-one}
 use native.Mathlib.Omega.{arith}
-use lib.Dec.{T, eqb}
+use lib.Dec.{T, eqb, ltb}
 use lib.ListN.{length, drop, getD, drop-of-length-le}
 use lib.Seq.{drop-cons}
 use borrow.Author.Tests.{eqb-true, eqb-false, lt-ltb, le-ltb}
 use Rattle.integer.specs.Range.{mostUnsigned}
-use Rattle.specification.specs.Tests.{some}
-use Rattle.specification.specs.Axis.{Axis, extents, product, isEmpty}
+use Rattle.specification.specs.Tests.{if_then_else_, some}
+use Rattle.specification.specs.Outcome.{Check, done, refused, refuseIf, _>>_}
+use Rattle.specification.specs.Axis.{Axis, extents, product, positions, isEmpty}
 use Rattle.specification.specs.Beside.{zeroAmong}
 use Rattle.specification.specs.Normal.{overfull}
-use Rattle.view.specs.Count.{countOf}
-use Rattle.view.specs.declared.count.Count.the-variants.{Of, TooMany}
+use Rattle.specification.proofs.OutcomeLaws.{clash, passed, done-inj, refused-inj}
+use Rattle.view.specs.Answers.{numberOf, valuesOf}
+use Rattle.view.specs.Count.{countTold, elementCount, countOf}
+use Rattle.view.specs.declared.count.Count.{Count}
+use Rattle.view.specs.declared.count.Count.the-variants.{Of, Refused}
+use Rattle.view.specs.declared.layout.Refusal.{Refusal}
 
 -- ---- a product
 
@@ -58,15 +63,51 @@ unfolding isEmpty some
 empty-extents [] = refl
 empty-extents (a ∷ rest) = rw (empty-extents rest)
 
-module _ (axes : List Axis) (es : List ℕ) (e : extents axes ≡ es) where
-  pub count-empty : zeroAmong es ≡ true → Of 0 ≡ countOf axes
-  unfolding overfull
-  count-empty z = rw (empty-extents axes, e, z, product-zero es z)
+-- what the extents come to at each end of the count
+module _ (es : List ℕ) where
+  pub count-many : 16 < length es → elementCount es ≡ refused 1 []
+  unfolding elementCount refuseIf _>>_
+  count-many h = rw (lt-ltb 16 (length es) h)
 
-  pub count-of : zeroAmong es ≡ false → product es ≤ mostUnsigned → Of (product es) ≡ countOf axes
-  unfolding overfull
-  count-of z h = rw (empty-extents axes, e, z, le-ltb mostUnsigned (product es) h)
+  module _ (few : length es ≤ 16) where
+    pub count-empty : zeroAmong es ≡ true → elementCount es ≡ done 0
+    unfolding elementCount refuseIf _>>_
+    count-empty z = rw (le-ltb 16 (length es) few, z, product-zero es z)
 
-  pub count-over : zeroAmong es ≡ false → mostUnsigned < product es → TooMany ≡ countOf axes
-  unfolding overfull
-  count-over z h = rw (empty-extents axes, e, z, lt-ltb mostUnsigned (product es) h)
+    pub count-within : product es ≤ mostUnsigned → elementCount es ≡ done (product es)
+    unfolding elementCount refuseIf _>>_
+    count-within h = rw (le-ltb 16 (length es) few, le-ltb mostUnsigned (product es) h, and-false (not (zeroAmong es)))
+
+    pub count-over : zeroAmong es ≡ false → mostUnsigned < product es → elementCount es ≡ refused 8 []
+    unfolding elementCount refuseIf _>>_
+    count-over z h = rw (le-ltb 16 (length es) few, z, lt-ltb mostUnsigned (product es) h)
+
+-- ---- the count of axes
+
+length-extents : (axes : List Axis) → length (extents axes) ≡ length axes
+length-extents [] = refl
+length-extents (a ∷ rest) = rw (length-extents rest)
+
+-- of at most 16 axes it is that of their extents, whatever the strides
+pub element-count-of-axes : (axes : List Axis) → length axes ≤ 16 → elementCount (extents axes) ≡ countOf axes
+unfolding elementCount countOf overfull refuseIf _>>_
+element-count-of-axes axes few =
+    rw (le-ltb 16 (length (extents axes)) (omega (arith, length-extents axes)), empty-extents axes) (by (zeroAmong (extents axes)) (ltb mostUnsigned (positions axes)))
+  where
+    by : (s t : Bool) → refuseIf (not s && t) 8 [] >> done (positions axes) ≡ refuseIf (if s then false else t) 8 [] >> done (positions axes)
+    by true t = refl
+    by false t = refl
+
+-- what an answer says of the axes
+module _ (axes : List Axis) {r : Count} (told : countTold r ≡ countOf axes) where
+  pub counted-refused : {why : Refusal} → r ≡ Refused why → (overfull axes ≡ true) × (_≡_ {A = Check} (refused (numberOf why) (valuesOf why)) (refused 8 []))
+  unfolding countOf refuseIf _>>_
+  counted-refused {why} q = by (overfull axes) refl (sym (ap countTold q) ∙ told)
+    where
+      by : (t : Bool) → overfull axes ≡ t → refused (numberOf why) (valuesOf why) ≡ countOf axes → (t ≡ true) × (_≡_ {A = Check} (refused (numberOf why) (valuesOf why)) (refused 8 []))
+      by true e p = let w = refused-inj (rw e at p) in (refl, rw (w .0, w .1))
+      by false e p = absurd (clash (sym (rw e at p)))
+
+  pub counted-is : {n : ℕ} → r ≡ Of n → (overfull axes ≡ false) × (positions axes ≡ n)
+  unfolding countOf
+  counted-is q = let p = passed (overfull axes) 8 [] (sym told ∙ ap countTold q) in (p .0, done-inj (p .1))

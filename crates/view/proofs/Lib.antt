@@ -9,7 +9,6 @@ pub mod HandedLaws
 pub mod CheckInLaws
 pub mod ListedLaws
 pub mod CountLaws
-pub mod DenseLaws
 pub mod IndexedLaws
 pub mod ChainLaws
 pub mod RangeLaws

@@ -5,6 +5,5 @@ pub mod Bounded
 pub mod Reach
 pub mod Refusals
 pub mod Count
-pub mod Dense
 pub mod Indexed
 pub mod Ties

@@ -1,12 +1,13 @@
 -- How far the offsets of a layout reach, as the code answers it.
-use mathlib.Core.Bool.{Bool, true, false, _&&_}
+use mathlib.Core.Bool.{Bool, true, false, not, _&&_}
 use mathlib.Core.Path.{_≡_}
-use mathlib.Core.List.{List}
+use mathlib.Core.List.{List, []}
 use Prim.Native.Nat.{ℕ, _-_, _≤_}
 use lib.Dec.{ltb, leb}
-use lib.IntN.{ℤ, natAbs}
+use lib.IntN.{ℤ}
 use Rattle.integer.specs.Range.{mostSigned}
 use Rattle.specification.specs.Tests.{if_then_else_, some}
+use Rattle.specification.specs.Outcome.{Outcome, done, refused, refuseIf, _>>_}
 use Rattle.specification.specs.Axis.{Axis, axesOf, isEmpty, upward, downward}
 use Rattle.specification.specs.Beside.{zeroAmong}
 use Rattle.specification.specs.CheckIn.{tooWide}
@@ -16,12 +17,22 @@ use Rattle.view.specs.declared.bounds.Reach.the-variants.{Empty, Between
 use Rattle.view.specs.declared.bounds.Spans.{Spans}
 use Rattle.view.specs.declared.bounds.Spans.the-variants as spans
 
--- empty; or all offsets accepted, with the lowest and the highest; or one that is not
-unfoldable pub reachOf : LayoutM → Reach
+-- the lowest and the highest offset, or none where there is no position
+pub data Ends : Type 0 where
+  none : Ends
+  ends : ℤ → ℤ → Ends
+
+-- what each answer says: the two ends, or refusal 3
+abbrev pub reachTold : Reach → Outcome Ends
+reachTold Empty = done none
+reachTold (Between lowest highest) = done (ends (lowest .0) (highest .0))
+reachTold Outside = refused 3 []
+
+-- 3 by the rule after the table; else the two ends
+unfoldable pub reachOf : LayoutM → Outcome Ends
 reachOf l =
-    if isEmpty (l .axes) then Empty
-    else if inReach l then Between (natAbs (lowest l)) (natAbs (highest l))
-    else Outside
+    refuseIf (not (inReach l)) 3 []
+    >> done (if isEmpty (l .axes) then none else ends (lowest l) (highest l))
 
 -- the sums of the positive and of the negative spans, if each is at most its limit
 abbrev pub spansUpTo : ℕ → ℕ → List Axis → Spans

@@ -34,7 +34,7 @@ pub record TiesOf (rank : ℕ) (pairs : List (ℕ × ℕ)) (t : Ties) : Type 0 w
   pub tied : (a : ℕ) → a < 16 → Tied pairs a (rootAt (t .roots) a)
   pub alike : pairFault rank pairs ≡ pass → (a b : ℕ) → Tied pairs a b → rootAt (t .roots) a ≡ rootAt (t .roots) b
 
--- the same of some pairs
+-- what some pairs, not said which, make of the axes
 abbrev pub SomeTies : ℕ → Ties → Type 0
 SomeTies rank t = (pairs : List (ℕ × ℕ)) × TiesOf rank pairs t
 

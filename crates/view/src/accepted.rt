@@ -6,7 +6,7 @@ ghost use lib.ListN.{length};
 ghost use Rattle.specification.specs.Layout.{handed};
 ghost use Rattle.view.specs.Answers.{outcomeOf};
 ghost use Rattle.view.specs.Model.{modelOf, modelFrom};
-ghost use Rattle.view.specs.Reach.{reachOf};
+ghost use Rattle.view.specs.Reach.{reachTold, reachOf};
 use crate::bounds::Reach;
 use crate::bounds::plainly_within;
 use crate::bounds::reach_of;
@@ -18,7 +18,7 @@ use crate::layout::Refusal;
 // The reach of a layout.
 pub fn layout_reach(layout: Layout) -> Reach
     requires { ⌜ layout .rank ≤ 16 ⌝ }
-    ensures { λ r. ⌜ r ≡ reachOf (modelOf layout) ⌝ }
+    ensures { λ r. ⌜ reachTold r ≡ reachOf (modelOf layout) ⌝ }
 {
     let rank = layout.rank;
     let extents = layout.extents;
@@ -56,7 +56,7 @@ pub(crate) fn handed_lists(
     }
 }
 
-// The same of a layout.
+// Refusals 1 and 3 of a layout, for a call whose list has so many entries.
 pub fn handed_refusal(layout: Layout, entries: usize) -> Answer
     ensures { λ r. ⌜ ((list : List ℕ) → length list ≡ entries → outcomeOf r ≡ handed (modelOf layout) list) ⌝ }
 {

@@ -11,16 +11,21 @@ use crate::layout::RankAfter;
 use crate::layout::Viewed;
 
 // The axes of two lists into the first places of two others.
-pub(crate) fn copy_axes(extents: &[u64], strides: &[i64], numbers: &mut [u64], steps: &mut [i64])
-    requires { ⌜ (length (now extents) ≡ length (now strides)) × (length (now extents) ≤ length (now numbers)) × (length (now extents) ≤ length (now steps)) ⌝ }
-    ensures { λ _. ⌜ axesIn (now (numbers .exit)) (now (steps .exit)) (length (now (extents .entry))) ≡ axesOf (now (extents .entry)) (now (strides .entry)) ⌝ }
+pub(crate) fn copy_axes(
+    extents: &[u64],
+    strides: &[i64],
+    copied_extents: &mut [u64],
+    copied_strides: &mut [i64],
+)
+    requires { ⌜ (length (now extents) ≡ length (now strides)) × (length (now extents) ≤ length (now «copied_extents»)) × (length (now extents) ≤ length (now «copied_strides»)) ⌝ }
+    ensures { λ _. ⌜ axesIn (now («copied_extents» .exit)) (now («copied_strides» .exit)) (length (now (extents .entry))) ≡ axesOf (now (extents .entry)) (now (strides .entry)) ⌝ }
 {
     let mut i = 0;
     while i < extents.len() {
         let extent = extents[i];
         let stride = strides[i];
-        numbers[i] = extent;
-        steps[i] = stride;
+        copied_extents[i] = extent;
+        copied_strides[i] = stride;
         i += 1;
     }
 }

@@ -10,7 +10,7 @@ ghost use Rattle.specification.specs.CheckIn.{bounds, checkIn};
 ghost use Rattle.specification.specs.Beside.{zeroAmong};
 ghost use Rattle.view.specs.Answers.{outcomeOf, answerOf};
 ghost use Rattle.view.specs.Model.{modelFrom};
-ghost use Rattle.view.specs.Reach.{reachOf, spansUpTo, tooWideExtent, SmallSpans, PlainlyWithin};
+ghost use Rattle.view.specs.Reach.{reachTold, reachOf, spansUpTo, tooWideExtent, SmallSpans, PlainlyWithin};
 use crate::bounded::Bounded;
 use crate::bounded::bounded_product;
 use crate::bounded::small_product;
@@ -22,7 +22,7 @@ use integer::signed::magnitude;
 // The lowest and the highest offset of a layout that is not empty, where all its offsets are accepted.
 pub enum Reach {
     Empty,
-    Between(u64, u64),
+    Between(ReadingOffset, ReadingOffset),
     Outside,
 }
 
@@ -118,7 +118,7 @@ pub fn sum_spans(extents: &[u64], strides: &[i64], above: u64, below: u64) -> Sp
 // the negative spans from the offset down to 0.
 fn filled_reach(len: u64, offset: ReadingOffset, extents: &[u64], strides: &[i64]) -> Reach
     requires { ⌜ (length (now extents) ≡ length (now strides)) × (zeroAmong (now extents) ≡ false) ⌝ }
-    ensures { λ r. ⌜ r ≡ reachOf (modelFrom len (offset .0) (now (extents .entry)) (now (strides .entry))) ⌝ }
+    ensures { λ r. ⌜ reachTold r ≡ reachOf (modelFrom len (offset .0) (now (extents .entry)) (now (strides .entry))) ⌝ }
 {
     let start = offset.0;
     if start < 0 {
@@ -129,10 +129,14 @@ fn filled_reach(len: u64, offset: ReadingOffset, extents: &[u64], strides: &[i64
     match spans {
         Spans::Over => Reach::Outside,
         Spans::Of(up, down) => {
-            if len <= base + up {
+            let low = base - down;
+            let high = base + up;
+            if len <= high {
                 Reach::Outside
             } else {
-                Reach::Between(base - down, base + up)
+                let lowest = low as i64;
+                let highest = high as i64;
+                Reach::Between(ReadingOffset(lowest), ReadingOffset(highest))
             }
         }
     }
@@ -141,7 +145,7 @@ fn filled_reach(len: u64, offset: ReadingOffset, extents: &[u64], strides: &[i64
 // The reach of the layout that two lists of equal length give.
 pub(crate) fn reach_of(len: u64, offset: ReadingOffset, extents: &[u64], strides: &[i64]) -> Reach
     requires { ⌜ length (now extents) ≡ length (now strides) ⌝ }
-    ensures { λ r. ⌜ r ≡ reachOf (modelFrom len (offset .0) (now (extents .entry)) (now (strides .entry))) ⌝ }
+    ensures { λ r. ⌜ reachTold r ≡ reachOf (modelFrom len (offset .0) (now (extents .entry)) (now (strides .entry))) ⌝ }
 {
     if empty_layout(extents) {
         return Reach::Empty;

@@ -26,7 +26,7 @@ use integer::signed::checked_add;
 pub struct AxisPair(pub usize, pub usize);
 
 // The root of each axis, which is the lowest axis of its class, and the first refusal of a pair.
-pub struct Ties {
+pub(crate) struct Ties {
     pub roots: [usize; 16],
     pub rank: usize,
     pub answer: Answer,
@@ -132,12 +132,12 @@ fn fuse(
     strides: &[i64],
     roots: &[usize; 16],
     mask: u16,
-    numbers: &mut [u64; 16],
-    steps: &mut [i64; 16],
+    fused_extents: &mut [u64; 16],
+    fused_strides: &mut [i64; 16],
 ) -> bool
-    requires { ⌜ (length (now extents) ≡ length (now strides)) × (length (now numbers) ≡ 16) × (length (now steps) ≡ 16) × (mask ≡ maskOf (now roots) (length (now extents))) × SomeTies (length (now extents)) (tiesIn (now roots) (length (now extents)) Answer.Done) ⌝ }
-    ensures { λ r. ⌜ (length (now (numbers .exit)) ≡ 16) × (length (now (steps .exit)) ≡ 16) × ((pairs : List (ℕ × ℕ)) → TiesOf (length (now (extents .entry))) pairs (tiesIn (now (roots .entry)) (length (now (extents .entry))) Answer.Done)
-        → (l : LayoutM) → l .axes ≡ axesOf (now (extents .entry)) (now (strides .entry)) → FusedInto l pairs (ones mask) (now (numbers .exit)) (now (steps .exit)) r) ⌝ }
+    requires { ⌜ (length (now extents) ≡ length (now strides)) × (length (now «fused_extents») ≡ 16) × (length (now «fused_strides») ≡ 16) × (mask ≡ maskOf (now roots) (length (now extents))) × SomeTies (length (now extents)) (tiesIn (now roots) (length (now extents)) Answer.Done) ⌝ }
+    ensures { λ r. ⌜ (length (now («fused_extents» .exit)) ≡ 16) × (length (now («fused_strides» .exit)) ≡ 16) × ((pairs : List (ℕ × ℕ)) → TiesOf (length (now (extents .entry))) pairs (tiesIn (now (roots .entry)) (length (now (extents .entry))) Answer.Done)
+        → (l : LayoutM) → l .axes ≡ axesOf (now (extents .entry)) (now (strides .entry)) → FusedInto l pairs (ones mask) (now («fused_extents» .exit)) (now («fused_strides» .exit)) r) ⌝ }
 {
     let mut axis = 0;
     while axis < extents.len() {
@@ -146,17 +146,17 @@ fn fuse(
         let extent = extents[axis];
         let stride = strides[axis];
         if root == axis {
-            numbers[at] = extent;
-            steps[at] = stride;
+            fused_extents[at] = extent;
+            fused_strides[at] = stride;
             axis += 1;
         } else {
-            let low = numbers[at];
-            let sum = steps[at];
+            let low = fused_extents[at];
+            let sum = fused_strides[at];
             let Checked::Fits(more) = checked_add(sum, stride) else {
                 return false;
             };
-            numbers[at] = least(low, extent);
-            steps[at] = more;
+            fused_extents[at] = least(low, extent);
+            fused_strides[at] = more;
             axis += 1;
         }
     }
@@ -184,17 +184,29 @@ pub(crate) fn tied_in_place(
         return RankAfter::Refused(why);
     }
     let mask = root_mask(roots, extents.len());
-    let mut numbers = [0u64; 16];
-    let mut steps = [0i64; 16];
-    if !fuse(extents, strides, roots, mask, &mut numbers, &mut steps) {
+    let mut fused_extents = [0u64; 16];
+    let mut fused_strides = [0i64; 16];
+    if !fuse(
+        extents,
+        strides,
+        roots,
+        mask,
+        &mut fused_extents,
+        &mut fused_strides,
+    ) {
         return RankAfter::Refused(Refusal::OutOfRange);
     }
     let rank = u16::count_ones(mask) as usize;
-    let last = bounds_refusal(len, offset, &numbers[..rank], &steps[..rank]);
+    let last = bounds_refusal(len, offset, &fused_extents[..rank], &fused_strides[..rank]);
     if let Answer::Refused(why) = last {
         return RankAfter::Refused(why);
     }
-    copy_axes(&numbers[..rank], &steps[..rank], extents, strides);
+    copy_axes(
+        &fused_extents[..rank],
+        &fused_strides[..rank],
+        extents,
+        strides,
+    );
     RankAfter::Is(rank)
 }
 

@@ -1,4 +1,4 @@
-// The layout half of view.rs: layouts of strided readings, check-in, views, dense strides and indexed offsets.
+// The layout half of view.rs: layouts of strided readings, check-in, views and indexed offsets.
 pub mod accepted;
 mod axes;
 pub mod bounded;
@@ -6,7 +6,6 @@ pub mod bounds;
 pub mod broadcast;
 pub mod check_in;
 pub mod count;
-pub mod dense;
 pub mod diagonal;
 pub mod layout;
 pub mod numbers;

@@ -18,15 +18,15 @@ use crate::layout::Refusal;
 use crate::layout::Viewed;
 
 // The ties of all pairs, in axes that are untied yet. Two numbers are a pair; an odd last one is passed over.
-fn tie_numbers(roots: &mut [usize; 16], rank: usize, numbers: &[usize]) -> Answer
+fn tie_numbers(roots: &mut [usize; 16], rank: usize, pairs: &[usize]) -> Answer
     requires { ⌜ (length (now roots) ≡ 16) × TiesOf rank [] (tiesIn (now roots) rank Answer.Done) ⌝ }
-    ensures { λ r. ⌜ TiesOf rank (pairsOf (now (numbers .entry))) (tiesIn (now (roots .exit)) rank r) ⌝ }
+    ensures { λ r. ⌜ TiesOf rank (pairsOf (now (pairs .entry))) (tiesIn (now (roots .exit)) rank r) ⌝ }
 {
-    let count = numbers.len() / 2;
+    let count = pairs.len() / 2;
     let mut answer = Answer::Done;
     let mut i = 0;
     while i < count {
-        answer = tie_pair(roots, rank, answer, numbers[2 * i], numbers[2 * i + 1]);
+        answer = tie_pair(roots, rank, answer, pairs[2 * i], pairs[2 * i + 1]);
         i += 1;
     }
     answer
@@ -38,19 +38,19 @@ pub fn diagonal_in_place(
     offset: ReadingOffset,
     extents: &mut [u64],
     strides: &mut [i64],
-    numbers: &[usize],
+    pairs: &[usize],
 ) -> RankAfter
     requires { ⌜ (length (now extents) ≡ length (now strides)) × (length (now extents) ≤ 16) ⌝ }
-    ensures { λ r. ⌜ LeftInPlace len (offset .0) (now (extents .entry)) (now (strides .entry)) (now (extents .exit)) (now (strides .exit)) r (diagonalView (modelFrom len (offset .0) (now (extents .entry)) (now (strides .entry))) (pairsOf (now (numbers .entry)))) ⌝ }
+    ensures { λ r. ⌜ LeftInPlace len (offset .0) (now (extents .entry)) (now (strides .entry)) (now (extents .exit)) (now (strides .exit)) r (diagonalView (modelFrom len (offset .0) (now (extents .entry)) (now (strides .entry))) (pairsOf (now (pairs .entry)))) ⌝ }
 {
     let mut roots = own_roots();
-    let ties = tie_numbers(&mut roots, extents.len(), numbers);
+    let ties = tie_numbers(&mut roots, extents.len(), pairs);
     tied_in_place(len, offset, extents, strides, &roots, ties)
 }
 
 // diagonal_view of a layout.
-pub fn diagonal_by_numbers(layout: Layout, numbers: &[usize]) -> Viewed
-    ensures { λ r. ⌜ viewedOf r ≡ diagonalView (modelOf layout) (pairsOf (now (numbers .entry))) ⌝ }
+pub fn diagonal_by_numbers(layout: Layout, pairs: &[usize]) -> Viewed
+    ensures { λ r. ⌜ viewedOf r ≡ diagonalView (modelOf layout) (pairsOf (now (pairs .entry))) ⌝ }
 {
     let rank = layout.rank;
     if 16 < rank {
@@ -66,7 +66,7 @@ pub fn diagonal_by_numbers(layout: Layout, numbers: &[usize]) -> Viewed
         layout.offset,
         &mut extents[..rank],
         &mut strides[..rank],
-        numbers,
+        pairs,
     );
     layout.with_axes(extents, strides, after)
 }

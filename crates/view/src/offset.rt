@@ -20,17 +20,23 @@ pub enum Indexed {
     Refused(Refusal),
 }
 
-// sum + index * stride, where the index is below 2^63 and neither the product nor the sum leaves 64 bits signed.
-fn add_indexed(sum: i64, index: u64, stride: i64) -> Checked
-    ensures { λ r. ⌜ r ≡ addedOf sum index stride ⌝ }
+// The offset one index further: sum + index * stride, where the index is below 2^63 and neither the product nor the sum leaves 64 bits signed.
+fn add_indexed(sum: ReadingOffset, index: u64, stride: i64) -> Indexed
+    ensures { λ r. ⌜ indexedOf r ≡ addedOf (sum .0) index stride ⌝ }
 {
     if 9223372036854775807 < index {
-        return Checked::Over;
+        return Indexed::Refused(Refusal::OutOfRange);
     }
     let product = checked_mul(stride, index);
     match product {
-        Checked::Over => Checked::Over,
-        Checked::Fits(step) => checked_add(sum, step),
+        Checked::Over => Indexed::Refused(Refusal::OutOfRange),
+        Checked::Fits(step) => {
+            let added = checked_add(sum.0, step);
+            match added {
+                Checked::Over => Indexed::Refused(Refusal::OutOfRange),
+                Checked::Fits(offset) => Indexed::At(ReadingOffset(offset)),
+            }
+        }
     }
 }
 
@@ -39,7 +45,7 @@ fn sum_indexed(layout: Layout, index: &[u64]) -> Indexed
     requires { ⌜ (layout .rank ≤ 16) × (length (now index) ≡ layout .rank) ⌝ }
     ensures { λ r. ⌜ indexedOf r ≡ sumIndexed 0 (layout .offset .0) (modelOf layout .axes) (now (index .entry)) ⌝ }
 {
-    let mut sum = layout.offset.0;
+    let mut sum = layout.offset;
     let mut i = 0;
     while i < index.len() {
         let extent = layout.extents[i];
@@ -48,13 +54,13 @@ fn sum_indexed(layout: Layout, index: &[u64]) -> Indexed
         if extent <= x {
             return Indexed::Refused(Refusal::BadIndex(i));
         }
-        let Checked::Fits(next) = add_indexed(sum, x, stride) else {
+        let Indexed::At(next) = add_indexed(sum, x, stride) else {
             return Indexed::Refused(Refusal::OutOfRange);
         };
         sum = next;
         i += 1;
     }
-    Indexed::At(ReadingOffset(sum))
+    Indexed::At(sum)
 }
 
 impl Layout {

@@ -50,14 +50,14 @@ returns-4 c =
     let r = c .before in
     let e = r .before .before .before in
     sym (normal-outside (modelOf (e .before .before .before .before .args .layout)) (no-empty-form (e .before .before)) (are-merged e)
-    (not-between (r .longest-reach .ensures) (λ low high q. ⊎-elim (λ w. omega arith) (λ w. omega arith) (rw q at (c .match .keys2)))))
+    (r .longest-reach .ensures) (not-between (r .longest-reach .result) (λ low high q. ⊎-elim (λ w. omega arith) (λ w. omega arith) (rw q at (c .match .keys2)))))
 
 returns-5 : tie.Need-returns-5
 returns-5 c =
     let r = c .before .before in
     let o = r .before .before in
     let l = modelOf (o .before .before .before .before .before .args .layout) in
-    sym (normal-between l (are-merged (o .before)) (sym (o .is-overfull .ensures) ∙ r .before .if3 .left) (longest-between l (sym (r .longest-reach .ensures) ∙ c .enum-told .given .1)))
+    sym (normal-between l (are-merged (o .before)) (sym (o .is-overfull .ensures) ∙ r .before .if3 .left) (longest-between l (r .longest-reach .ensures) (c .enum-told .given .1)))
 
 pub is-normal-spec : {M : Type 1} → statement M
 is-normal-spec =

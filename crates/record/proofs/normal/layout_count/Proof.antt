@@ -1,9 +1,12 @@
 -- `layout_count`: the extents of the axes are the first entries of the array.
-use mathlib.Core.Path.{_≡_, sym}
+use mathlib.Core.Path.{_≡_, sym, ap, _∙_}
 use native.Mathlib.Omega.{arith}
 use lib.ListN.{length}
 use lib.Seq.{length-take-le}
+use Rattle.view.specs.Count.{elementCount}
 use Rattle.view.specs.Model.{modelOf}
+use Rattle.view.proofs.CountLaws.{element-count-of-axes}
+use Rattle.view.proofs.ModelLaws.{length-axesIn}
 use Rattle.record.proofs.NormalAnswers.{extents-axesIn}
 use borrow.Author.Needs.{needs}
 use Rattle.record.proofs.normal.layout_count.Statement.{statement}
@@ -26,7 +29,8 @@ returns : tie.Need-returns
 returns c =
     let a = c .before .before in
     let l = a .before .args .layout in
-    c .checked-element-count .ensures (modelOf l .axes) (extents-axesIn (l .extents) (l .strides) (l .rank) (omega (arith, sixteen a)))
+    c .checked-element-count .ensures ∙ ap elementCount (sym (extents-axesIn (l .extents) (l .strides) (l .rank) (omega (arith, sixteen a))))
+    ∙ element-count-of-axes (modelOf l .axes) (omega (arith, length-axesIn (l .extents) (l .strides) (l .rank)))
 
 pub layout-count-spec : {M : Type 1} → statement M
 layout-count-spec =

@@ -1,5 +1,5 @@
 -- Refusal 1 by the number of entries, then 3 by the reach; of the list only its length matters.
-use mathlib.Core.Path.{sym, _∙_}
+use mathlib.Core.Path.{sym}
 use Prim.Native.Nat.{_≤_}
 use native.Mathlib.Omega.{arith}
 use borrow.Author.Needs.{needs}
@@ -45,19 +45,19 @@ returns-3 : tie.Need-returns-3
 returns-3 c list e =
     let r = c .before .before in
     let s = r .before .before .before .before .before in
-    sym (handed-outside (layout s) list (few s) (omega arith) (outside-means (layout s) (sym (r .reach-of .ensures) ∙ c .enum-told .given .1)))
+    sym (handed-outside (layout s) list (few s) (omega arith) (outside-means (layout s) (r .reach-of .ensures) (c .enum-told .given .1)))
 
 returns-4 : tie.Need-returns-4
 returns-4 c list e =
     let r = c .before .before in
     let s = r .before .before .before .before .before in
-    sym (handed-inside (layout s) list (few s) (omega arith) (empty-inReach (layout s) (empty-means (layout s) (sym (r .reach-of .ensures) ∙ c .enum-told2 .given .1))))
+    sym (handed-inside (layout s) list (few s) (omega arith) (empty-inReach (layout s) (empty-means (layout s) (r .reach-of .ensures) (c .enum-told2 .given .1))))
 
 returns-5 : tie.Need-returns-5
 returns-5 c list e =
     let r = c .before .before in
     let s = r .before .before .before .before .before in
-    sym (handed-inside (layout s) list (few s) (omega arith) (between-means (layout s) (sym (r .reach-of .ensures) ∙ c .enum-told3 .given .1) .1))
+    sym (handed-inside (layout s) list (few s) (omega arith) (between-means (layout s) (r .reach-of .ensures) (c .enum-told3 .given .1) .1))
 
 pub handed-lists-spec : {M : Type 1} → statement M
 handed-lists-spec =

@@ -13,13 +13,13 @@ use Rattle.view.proofs.axes.copy_axes.Statement.{statement}
 use Rattle.view.proofs.axes.copy_axes.Tie as tie
 
 abbrev Inv-loop : tie.InvT-loop
-Inv-loop extents strides numbers₀ steps₀ i₀ numbers steps i =
+Inv-loop extents strides copied-extents₀ copied-strides₀ i₀ copied-extents copied-strides i =
     (i ≤ length extents)
-    × (length numbers ≡ length numbers₀) × (length steps ≡ length steps₀)
-    × (axesIn numbers steps i ≡ axesIn extents strides i)
+    × (length copied-extents ≡ length copied-extents₀) × (length copied-strides ≡ length copied-strides₀)
+    × (axesIn copied-extents copied-strides i ≡ axesIn extents strides i)
 
 abbrev μ-loop : tie.MeasureT-loop
-μ-loop extents strides numbers₀ steps₀ i₀ numbers steps i = length extents - i
+μ-loop extents strides copied-extents₀ copied-strides₀ i₀ copied-extents copied-strides i = length extents - i
 
 loop-holds : tie.Need-loop-holds Inv-loop μ-loop
 loop-holds c = (search needs, refl, refl, table-zero _ ∙ sym (table-zero _))
@@ -36,11 +36,11 @@ mul-stride c = search needs
 shared-slice-copy-out-stride : tie.Need-shared-slice-copy-out-stride Inv-loop μ-loop
 shared-slice-copy-out-stride c = search needs
 
-mul-numbers : tie.Need-mul-numbers Inv-loop μ-loop
-mul-numbers c = search needs
+mul-copied-extents : tie.Need-mul-copied-extents Inv-loop μ-loop
+mul-copied-extents c = search needs
 
-slice-write-numbers : tie.Need-slice-write-numbers Inv-loop μ-loop
-slice-write-numbers c = search needs
+slice-write-copied-extents : tie.Need-slice-write-copied-extents Inv-loop μ-loop
+slice-write-copied-extents c = search needs
 
 mul-stride-2 : tie.Need-mul-stride-2 Inv-loop μ-loop
 mul-stride-2 c = search needs
@@ -59,9 +59,9 @@ loop-again c =
     let l = c .before .before .before .loop in
     let s = c .before .before .before .before in (
       search needs,
-      length-set (l .numbers) _ _ ∙ l .inv .1,
-      length-set (l .steps) _ _ ∙ l .inv .2,
-      axesIn-store (l .numbers) (l .steps) (l .i) _ _ (omega arith) (omega arith)
+      length-set (l .copied-extents) _ _ ∙ l .inv .1,
+      length-set (l .copied-strides) _ _ ∙ l .inv .2,
+      axesIn-store (l .copied-extents) (l .copied-strides) (l .i) _ _ (omega arith) (omega arith)
           ∙ rw (l .inv .3, toZ-ofZ w64 _ (record { sfits = c .stride .given }), axesIn-suc (s .args .extents .now) (s .args .strides .now) (l .i)),
     )
 
@@ -76,7 +76,7 @@ returns c =
     let l = c .before .loop in
     let s = c .before .before in
     let e : l .i ≡ length (s .args .extents .now) = omega arith in
-    ap (axesIn (l .numbers) (l .steps)) (sym e) ∙ l .inv .3
+    ap (axesIn (l .copied-extents) (l .copied-strides)) (sym e) ∙ l .inv .3
     ∙ axesIn-axesOf (s .args .extents .now) (s .args .strides .now) (l .i) (omega arith) (omega arith)
 
 pub copy-axes-spec : {M : Type 1} → statement M
@@ -90,8 +90,8 @@ copy-axes-spec =
     shared-slice-read-extent
     mul-stride
     shared-slice-copy-out-stride
-    mul-numbers
-    slice-write-numbers
+    mul-copied-extents
+    slice-write-copied-extents
     mul-stride-2
     slice-set-from-stride
     add-i

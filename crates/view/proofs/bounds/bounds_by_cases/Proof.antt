@@ -76,18 +76,18 @@ enum-told-3 c = search needs
 returns-3 : tie.Need-returns-3
 returns-3 c =
     let r = c .before .before in
-    sym (outside-bounds (layout (r .before .before .before .before)) (outside-means _ (sym (r .filled-reach .ensures) ∙ c .enum-told .given .1)))
+    sym (outside-bounds (layout (r .before .before .before .before)) (outside-means _ (r .filled-reach .ensures) (c .enum-told .given .1)))
 
 returns-4 : tie.Need-returns-4
 returns-4 c =
     let r = c .before .before in
-    sym (empty-bounds (layout (r .before .before .before .before)) (empty-means _ (sym (r .filled-reach .ensures) ∙ c .enum-told2 .given .1)))
+    sym (empty-bounds (layout (r .before .before .before .before)) (empty-means _ (r .filled-reach .ensures) (c .enum-told2 .given .1)))
 
 returns-5 : tie.Need-returns-5
 returns-5 c =
     let r = c .before .before in
     let s = r .before .before .before .before in
-    let b = between-means (layout s) (sym (r .filled-reach .ensures) ∙ c .enum-told3 .given .1) in
+    let b = between-means (layout s) (r .filled-reach .ensures) (c .enum-told3 .given .1) in
     sym (narrow-bounds (layout s) (b .0) (wide-tested s (neither (r .before) .1)) (b .1))
 
 pub bounds-by-cases-spec : {M : Type 1} → statement M

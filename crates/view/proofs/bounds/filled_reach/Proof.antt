@@ -2,14 +2,14 @@
 use mathlib.Core.Path.{_≡_, sym, ap, _∙_}
 use mathlib.Core.Bool.{false}
 use mathlib.Core.List.{List}
-use Prim.Native.Nat.{ℕ, _-_, _≤_}
+use Prim.Native.Nat.{ℕ, _+_, _-_, _^_, _<_, _≤_}
 use native.Mathlib.Omega.{arith}
 use lib.Dec.{eqb}
 use lib.IntN.{ℤ}
 use borrow.Author.Needs.{needs}
 use mir.Syntax.{w64}
 use mir.Val.{SFits}
-use mir.ValLaws.{toZ-ofZ}
+use mir.ValLaws.{toZ-ofZ, toZ-pos}
 use Rattle.integer.specs.Parts.{posPart, negPart}
 use Rattle.integer.proofs.MachineInteger.{negative-tested, nonnegative-tested}
 use Rattle.integer.proofs.PartLaws.{posPart-below}
@@ -55,6 +55,13 @@ spans-found : (a : tie.After-known-told) → let s = a .before in let l = layout
     × (upward (l .axes) ≤ 9223372036854775807 - s .before .before .before .positive-part .result) × (downward (l .axes) ≤ s .before .before .before .positive-part .result)
 spans-found a = spans-of _ _ _ _ _ (a .before .before .before .sum-spans .ensures) (a .before .spans .given .1)
 
+-- both ends are at most 2^63 - 1
+low-most : (c : tie.Else2) → c .before .before .before .before .before .positive-part .result - c .before .before .spans .given .0 .1 .0 < 2 ^ 63
+low-most c = let p = c .before .before .before .before .before in omega (arith, base-is p, posPart-below (offset-fits (p .before .before)))
+
+high-most : (c : tie.Else2) → c .before .before .before .before .before .positive-part .result + c .before .before .spans .given .0 .0 < 2 ^ 63
+high-most c = let p = c .before .before .before .before .before in omega (arith, spans-found (c .before), base-is p, posPart-below (offset-fits (p .before .before)))
+
 returns : tie.Need-returns
 returns c =
     let n = negative-tested _ (offset-fits (c .before)) (c .if1 .taken) in
@@ -76,14 +83,17 @@ enum-told c = search needs
 enum-known-spans : tie.Need-enum-known-spans
 enum-known-spans c = search needs
 
-add-if2 : tie.Need-add-if2
-add-if2 c = record { fits = omega (arith, spans-found c, base-is (c .before .before .before .before)) }
+sub-low : tie.Need-sub-low
+sub-low c = omega (arith, spans-found c)
 
-sub-t16 : tie.Need-sub-t16
-sub-t16 c = omega (arith, spans-found (c .before))
+add-high : tie.Need-add-high
+add-high c = record { fits = omega (arith, spans-found c, base-is (c .before .before .before .before)) }
 
-add-t17 : tie.Need-add-t17
-add-t17 c = search needs
+cast-lowest : tie.Need-cast-lowest
+cast-lowest c = record { sfits = low-most c }
+
+cast-highest : tie.Need-cast-highest
+cast-highest c = record { sfits = high-most c }
 
 returns-2 : tie.Need-returns-2
 returns-2 c =
@@ -106,7 +116,7 @@ returns-4 c =
     let p = c .before .before .before .before .before in
     let a = p .before .before in
     let f = spans-found (c .before) in
-    rw (f .0, f .1, base-is p)
+    rw (toZ-pos w64 _ (low-most c), toZ-pos w64 _ (high-most c), f .0, f .1, base-is p)
     (sym (reach-between (layout a) (not-empty a) (no-negative p)
     (omega (arith, base-is p)) (omega (arith, base-is p, posPart-below (offset-fits a))) (omega (arith, base-is p))))
 
@@ -120,9 +130,10 @@ filled-reach-spec =
     sum-spans-requires
     enum-told
     enum-known-spans
-    add-if2
-    sub-t16
-    add-t17
+    sub-low
+    add-high
+    cast-lowest
+    cast-highest
     returns-2
     returns-3
     returns-4)

@@ -18,7 +18,7 @@ use Rattle.specification.specs.Layout.{LayoutM}
 use Rattle.view.specs.Model.{modelFrom}
 use Rattle.view.specs.Reach.{tooWideExtent, SmallSpans}
 use Rattle.specification.proofs.SomeLaws.{some-axesOf}
-use Rattle.view.proofs.BoundsLaws.{reach-between, between-means}
+use Rattle.view.proofs.BoundsLaws.{spans-within}
 use Rattle.view.proofs.bounds.plainly_within.Statement.{statement}
 use Rattle.view.proofs.bounds.plainly_within.Tie as tie
 
@@ -81,12 +81,12 @@ returns-3 c told =
     let filled : isEmpty (layout a .axes) ≡ _ = some-axesOf (λ n. eqb n 0) (es a) (ss a) (a .before .before .pre) ∙ f .none-zero in
     let none : negPart (offset a) ≡ 0 = nonnegative-tested _ (offset-fits a) (p .before .if1 .left) .no-negative in
     let inside : p .positive-part .result + c .before .spans .given .0 .0 < a .before .before .args .len = ltb-true _ _ told in
-    let reached = reach-between (layout a) filled none
+    let reached = spans-within (layout a) filled none
     (omega (arith, base-is p, f .down-is, f .down-most)) (omega (arith, base-is p, f .up-is, f .up-most, posPart-below (offset-fits a))) (omega (arith, base-is p, f .up-is)) in
     record {
       not-empty = filled;
       not-wide = some-axesOf tooWideExtent (es a) (ss a) (a .before .before .pre) ∙ f .none-wide;
-      in-reach = between-means (layout a) reached .1;
+      in-reach = reached;
     }
 
 pub plainly-within-spec : {M : Type 1} → statement M

@@ -3,8 +3,9 @@ use mathlib.Core.Path.{sym, _∙_}
 use lib.Dec.{eqb}
 use borrow.Author.Needs.{needs}
 use Rattle.specification.specs.Axis.{isEmpty}
-use Rattle.view.specs.Reach.{reachOf}
 use Rattle.specification.proofs.SomeLaws.{some-axesOf}
+use Rattle.view.specs.Model.{modelFrom}
+use Rattle.view.proofs.BoundsLaws.{reach-empty}
 use Rattle.view.proofs.bounds.reach_of.Statement.{statement}
 use Rattle.view.proofs.bounds.reach_of.Tie as tie
 
@@ -12,10 +13,11 @@ empty-layout-requires : tie.Need-empty-layout-requires
 empty-layout-requires c κs = search needs
 
 returns : tie.Need-returns
-unfolding reachOf isEmpty
+unfolding isEmpty
 returns c =
     let a = c .before .before .before in
-    rw (some-axesOf (λ n. eqb n 0) (a .args .extents .now) (a .args .strides .now) (a .pre) ∙ sym (c .before .empty-layout .ensures) ∙ c .if1 .taken)
+    sym (reach-empty (modelFrom (a .args .len) (a .args .offset .0) (a .args .extents .now) (a .args .strides .now))
+    (some-axesOf (λ n. eqb n 0) (a .args .extents .now) (a .args .strides .now) (a .pre) ∙ sym (c .before .empty-layout .ensures) ∙ c .if1 .taken))
 
 filled-reach-requires : tie.Need-filled-reach-requires
 filled-reach-requires c κs = (search needs, sym (c .before .empty-layout .ensures) ∙ c .if1 .left)

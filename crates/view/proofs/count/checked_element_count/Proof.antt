@@ -11,13 +11,13 @@ use Rattle.integer.specs.Range.{mostUnsigned}
 use Rattle.specification.specs.Axis.{product}
 use Rattle.specification.specs.Beside.{zeroAmong}
 use Rattle.view.proofs.BoundedLaws.{is-bounded, over-bounded}
-use Rattle.view.proofs.CountLaws.{product-drop, product-end, product-above, factor-below, count-empty, count-of, count-over}
+use Rattle.view.proofs.CountLaws.{product-drop, product-end, product-above, factor-below, count-many, count-empty, count-within, count-over}
 use Rattle.view.proofs.count.checked_element_count.Statement.{statement}
 use Rattle.view.proofs.count.checked_element_count.Tie as tie
 
 abbrev Inv-loop : tie.InvT-loop
 Inv-loop extents count₀ i₀ count i =
-    (i ≤ length extents) × (zeroAmong extents ≡ false) × (count ≤ mostUnsigned) × (count * product (drop i extents) ≡ product extents)
+    (i ≤ length extents) × (length extents ≤ 16) × (zeroAmong extents ≡ false) × (count ≤ mostUnsigned) × (count * product (drop i extents) ≡ product extents)
 
 abbrev μ-loop : tie.MeasureT-loop
 μ-loop extents count₀ i₀ count i = length extents - i
@@ -28,7 +28,7 @@ module _ (t : tie.After-bounded-product Inv-loop μ-loop) where
   atLoop = t .before .before .before
 
   abbrev es : List ℕ
-  es = atLoop .before .before .before .before .args .extents .now
+  es = atLoop .before .before .before .before .before .args .extents .now
 
   abbrev next : ℕ
   next = atLoop .loop .count * getD es (atLoop .loop .i) 0
@@ -37,16 +37,19 @@ module _ (t : tie.After-bounded-product Inv-loop μ-loop) where
   turned =
       let l = atLoop .loop in
       mul-assoc (l .count) (getD es (l .i) 0) (product (drop (l .i + 1) es))
-      ∙ ap (λ (n : ℕ). l .count * n) (sym (product-drop es (l .i) (search needs))) ∙ l .inv .3
+      ∙ ap (λ (n : ℕ). l .count * n) (sym (product-drop es (l .i) (search needs))) ∙ l .inv .4
+
+returns : tie.Need-returns Inv-loop μ-loop
+returns c = sym (count-many _ (c .if1 .taken))
 
 empty-layout-requires : tie.Need-empty-layout-requires Inv-loop μ-loop
 empty-layout-requires c κs = search needs
 
-returns : tie.Need-returns Inv-loop μ-loop
-returns c axes e = count-empty axes _ e (sym (c .before .empty-layout .ensures) ∙ c .if1 .taken)
+returns-2 : tie.Need-returns-2 Inv-loop μ-loop
+returns-2 c = sym (count-empty _ (c .before .before .if1 .left) (sym (c .before .empty-layout .ensures) ∙ c .if2 .taken))
 
 loop-holds : tie.Need-loop-holds Inv-loop μ-loop
-loop-holds c = (search needs, sym (c .before .empty-layout .ensures) ∙ c .if1 .left, search needs, one-mul _)
+loop-holds c = (search needs, search needs, sym (c .before .empty-layout .ensures) ∙ c .if2 .left, search needs, one-mul _)
 
 mul-bounded-product : tie.Need-mul-bounded-product Inv-loop μ-loop
 mul-bounded-product c = search needs
@@ -63,12 +66,12 @@ enum-known-more c = search needs
 enum-told : tie.Need-enum-told Inv-loop μ-loop
 enum-told c = search needs
 
-returns-2 : tie.Need-returns-2 Inv-loop μ-loop
-returns-2 c axes e =
+returns-3 : tie.Need-returns-3 Inv-loop μ-loop
+returns-3 c =
     let t = c .before .before in
-    let z = atLoop t .loop .inv .1 in
-    count-over axes (es t) e z
-    (factor-below (next t) _ _ mostUnsigned (turned t) (product-above (es t) z) (over-bounded mostUnsigned (next t) (t .bounded-product .ensures) (c .enum-told .given .1)))
+    let z = atLoop t .loop .inv .2 in
+    sym (count-over (es t) (atLoop t .loop .inv .1) z
+    (factor-below (next t) _ _ mostUnsigned (turned t) (product-above (es t) z) (over-bounded mostUnsigned (next t) (t .bounded-product .ensures) (c .enum-told .given .1))))
 
 add-i : tie.Need-add-i Inv-loop μ-loop
 add-i c = search needs
@@ -80,14 +83,14 @@ loop-again : tie.Need-loop-again Inv-loop μ-loop
 loop-again c =
     let t = c .before .before .before in
     let b = is-bounded mostUnsigned (next t) (c .before .more .given .0 .0) (t .bounded-product .ensures) (c .before .more .given .1) in
-    (search needs, atLoop t .loop .inv .1, omega arith, rw (b .0) (turned t))
+    (search needs, atLoop t .loop .inv .1, atLoop t .loop .inv .2, omega arith, rw (b .0) (turned t))
 
-returns-3 : tie.Need-returns-3 Inv-loop μ-loop
-returns-3 c axes e =
+returns-4 : tie.Need-returns-4 Inv-loop μ-loop
+returns-4 c =
     let l = c .before .loop in
-    let es = c .before .before .before .before .before .args .extents .now in
-    let p : l .count ≡ product es = sym (mul-one (l .count)) ∙ ap (λ (n : ℕ). l .count * n) (sym (product-end es (l .i) (c .loop-test .left))) ∙ l .inv .3 in
-    rw p (count-of axes es e (l .inv .1) (omega arith))
+    let es = c .before .before .before .before .before .before .args .extents .now in
+    let p : l .count ≡ product es = sym (mul-one (l .count)) ∙ ap (λ (n : ℕ). l .count * n) (sym (product-end es (l .i) (c .loop-test .left))) ∙ l .inv .4 in
+    rw p (sym (count-within es (l .inv .1) (omega arith)))
 
 pub checked-element-count-spec : {M : Type 1} → statement M
 checked-element-count-spec =
@@ -95,16 +98,17 @@ checked-element-count-spec =
     (tie.spec
     Inv-loop
     μ-loop
-    empty-layout-requires
     returns
+    empty-layout-requires
+    returns-2
     loop-holds
     mul-bounded-product
     shared-slice-read-bounded-product
     bounded-product-requires
     enum-known-more
     enum-told
-    returns-2
+    returns-3
     add-i
     loop-less
     loop-again
-    returns-3)
+    returns-4)

@@ -29,11 +29,11 @@ use Rattle.view.proofs.diagonal.fuse.Statement.{statement}
 use Rattle.view.proofs.diagonal.fuse.Tie as tie
 
 abbrev Inv-loop : tie.InvT-loop
-Inv-loop extents strides roots mask numbers₀ steps₀ axis₀ numbers steps axis =
-    (axis ≤ length extents) × (length numbers ≡ 16) × (length steps ≡ 16) × Stored (axesOf extents strides) roots axis numbers steps
+Inv-loop extents strides roots mask fused-extents₀ fused-strides₀ axis₀ fused-extents fused-strides axis =
+    (axis ≤ length extents) × (length fused-extents ≡ 16) × (length fused-strides ≡ 16) × Stored (axesOf extents strides) roots axis fused-extents fused-strides
 
 abbrev μ-loop : tie.MeasureT-loop
-μ-loop extents strides roots mask numbers₀ steps₀ axis₀ numbers steps axis = length extents - axis
+μ-loop extents strides roots mask fused-extents₀ fused-strides₀ axis₀ fused-extents fused-strides axis = length extents - axis
 
 -- what was lent
 module _ (s : tie.Start Inv-loop μ-loop) where
@@ -89,7 +89,7 @@ placed c = c .before .before .before .before .before .before .before .before .be
 
 -- the sum so far and the stride that is added
 so-far : tie.After-checked-add Inv-loop μ-loop → ℤ
-so-far c = let p = c .before .before .before .before .before .before in getD (p .before .before .before .loop .steps) (p .place .result) (pos 0)
+so-far c = let p = c .before .before .before .before .before .before in getD (p .before .before .before .loop .fused-strides) (p .place .result) (pos 0)
 
 added : tie.After-checked-add Inv-loop μ-loop → ℤ
 added c = let p = c .before .before .before .before .before .before in getD (ss (begun (p .before .before))) (p .before .before .before .loop .axis) (pos 0)
@@ -114,12 +114,12 @@ module _ (s : tie.Start Inv-loop μ-loop) (pairs : List (ℕ × ℕ)) (of : Ties
       sums-over m of-model (sym (of-model .answer-is)) r (omega (arith, size)) own
       (rw (size, same) (subst (λ (k : ℕ). faultBelow (axesOf (es s) (ss s)) (roots s) k r ≡ refused 3 []) e (over-later (axesOf (es s) (ss s)) (roots s) n (length (es s) - n) r here)))
 
-  held : {numbers : List ℕ} {steps : List ℤ} → Stored (axesOf (es s) (ss s)) (roots s) (length (es s)) numbers steps
-      → (sumFaults m pairs (kept pairs (rank m)) ≡ pass) × (axesIn numbers steps (ones (s .args .mask)) ≡ diagonalAxes m pairs)
-  held {numbers} {steps} stored =
-      let now-stored : Stored (m .axes) (roots s) (rank m) numbers steps = rw (size, same) stored in (
+  held : {fused-extents : List ℕ} {fused-strides : List ℤ} → Stored (axesOf (es s) (ss s)) (roots s) (length (es s)) fused-extents fused-strides
+      → (sumFaults m pairs (kept pairs (rank m)) ≡ pass) × (axesIn fused-extents fused-strides (ones (s .args .mask)) ≡ diagonalAxes m pairs)
+  held {fused-extents} {fused-strides} stored =
+      let now-stored : Stored (m .axes) (roots s) (rank m) fused-extents fused-strides = rw (size, same) stored in (
         sums-none m of-model (sym (of-model .answer-is)) now-stored,
-        ap (axesIn numbers steps) (ap ones (s .pre .3) ∙ mask-ones (roots s) (length (es s)) ∙ ap (count (isRoot (roots s))) (sym size)) ∙ axes-stored m of-model (sym (of-model .answer-is)) now-stored,
+        ap (axesIn fused-extents fused-strides) (ap ones (s .pre .3) ∙ mask-ones (roots s) (length (es s)) ∙ ap (count (isRoot (roots s))) (sym size)) ∙ axes-stored m of-model (sym (of-model .answer-is)) now-stored,
       )
 
 loop-holds : tie.Need-loop-holds Inv-loop μ-loop
@@ -146,11 +146,11 @@ mul-stride c = search needs
 shared-slice-copy-out-stride : tie.Need-shared-slice-copy-out-stride Inv-loop μ-loop
 shared-slice-copy-out-stride c = search needs
 
-mul-numbers : tie.Need-mul-numbers Inv-loop μ-loop
-mul-numbers c = record { fits = omega (arith, place-low (c .before .before .before)) }
+mul-fused-extents : tie.Need-mul-fused-extents Inv-loop μ-loop
+mul-fused-extents c = record { fits = omega (arith, place-low (c .before .before .before)) }
 
-element-write-numbers : tie.Need-element-write-numbers Inv-loop μ-loop
-element-write-numbers c = place-low (c .before .before .before)
+element-write-fused-extents : tie.Need-element-write-fused-extents Inv-loop μ-loop
+element-write-fused-extents c = place-low (c .before .before .before)
 
 mul-stride-2 : tie.Need-mul-stride-2 Inv-loop μ-loop
 mul-stride-2 c = record { fits = omega (arith, place-low (c .before .before .before)) }
@@ -217,13 +217,13 @@ returns c =
 least-requires : tie.Need-least-requires Inv-loop μ-loop
 least-requires c κs = search needs
 
-mul-numbers-2 : tie.Need-mul-numbers-2 Inv-loop μ-loop
+mul-fused-extents-2 : tie.Need-mul-fused-extents-2 Inv-loop μ-loop
 unfolding placed
-mul-numbers-2 c = record { fits = omega (arith, place-low (placed c)) }
+mul-fused-extents-2 c = record { fits = omega (arith, place-low (placed c)) }
 
-element-write-numbers-2 : tie.Need-element-write-numbers-2 Inv-loop μ-loop
+element-write-fused-extents-2 : tie.Need-element-write-fused-extents-2 Inv-loop μ-loop
 unfolding placed
-element-write-numbers-2 c = place-low (placed c)
+element-write-fused-extents-2 c = place-low (placed c)
 
 mul-more : tie.Need-mul-more Inv-loop μ-loop
 unfolding placed
@@ -261,7 +261,7 @@ returns-2 c =
     let s = c .before .before .before in
     let l = c .before .loop in
     let e : l .axis ≡ length (es s) = omega arith in
-    (l .inv .1, l .inv .2, λ pairs of m same. held s pairs of m same (subst (λ (n : ℕ). Stored (axesOf (es s) (ss s)) (roots s) n (l .numbers) (l .steps)) e (l .inv .3)))
+    (l .inv .1, l .inv .2, λ pairs of m same. held s pairs of m same (subst (λ (n : ℕ). Stored (axesOf (es s) (ss s)) (roots s) n (l .fused-extents) (l .fused-strides)) e (l .inv .3)))
 
 pub fuse-spec : {M : Type 1} → statement M
 fuse-spec =
@@ -277,8 +277,8 @@ fuse-spec =
     shared-slice-read-extent
     mul-stride
     shared-slice-copy-out-stride
-    mul-numbers
-    element-write-numbers
+    mul-fused-extents
+    element-write-fused-extents
     mul-stride-2
     element-set-from-stride
     add-axis
@@ -293,8 +293,8 @@ fuse-spec =
     enum-told
     returns
     least-requires
-    mul-numbers-2
-    element-write-numbers-2
+    mul-fused-extents-2
+    element-write-fused-extents-2
     mul-more
     element-set-from-more
     add-axis-2

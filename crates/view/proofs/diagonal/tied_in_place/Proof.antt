@@ -82,13 +82,13 @@ module _ (f : tie.After-fuse) where
   abbrev kept-rank : ℕ
   kept-rank = ones (masked .root-mask .result)
 
-  abbrev numbers : List ℕ
-  numbers = f .fuse .last .1 .1 .1 .1 .0
+  abbrev fused-extents : List ℕ
+  fused-extents = f .fuse .last .1 .1 .1 .1 .0
 
-  abbrev steps : List ℤ
-  steps = f .fuse .last .1 .1 .1 .1 .1 .0
+  abbrev fused-strides : List ℤ
+  fused-strides = f .fuse .last .1 .1 .1 .1 .1 .0
 
-  told : (pairs : List (ℕ × ℕ)) → OfPairs (given masked) pairs → FusedInto (model (given masked)) pairs kept-rank numbers steps (f .fuse .result)
+  told : (pairs : List (ℕ × ℕ)) → OfPairs (given masked) pairs → FusedInto (model (given masked)) pairs kept-rank fused-extents fused-strides (f .fuse .result)
   told pairs of = f .fuse .ensures .2 pairs (of-done masked pairs of) (model (given masked)) refl
 
 -- where no sum was out of range
@@ -98,19 +98,19 @@ module _ (c : tie.Else1) where
 
   axes-told : (pairs : List (ℕ × ℕ)) → OfPairs (given (masked fused)) pairs
       → (sumFaults (model (given (masked fused))) pairs (kept pairs (rank (model (given (masked fused))))) ≡ pass)
-      × (axesIn (numbers fused) (steps fused) (kept-rank fused) ≡ diagonalAxes (model (given (masked fused))) pairs)
-  axes-told pairs of = subst (λ (t : Bool). FusedInto (model (given (masked fused))) pairs (kept-rank fused) (numbers fused) (steps fused) t) (not-false (fused .fuse .result) (c .if1 .left)) (told fused pairs of)
+      × (axesIn (fused-extents fused) (fused-strides fused) (kept-rank fused) ≡ diagonalAxes (model (given (masked fused))) pairs)
+  axes-told pairs of = subst (λ (t : Bool). FusedInto (model (given (masked fused))) pairs (kept-rank fused) (fused-extents fused) (fused-strides fused) t) (not-false (fused .fuse .result) (c .if1 .left)) (told fused pairs of)
 
-  room : (kept-rank fused ≤ length (numbers fused)) × (kept-rank fused ≤ length (steps fused))
+  room : (kept-rank fused ≤ length (fused-extents fused)) × (kept-rank fused ≤ length (fused-strides fused))
   room = (omega (arith, fused .fuse .ensures .0, roots-few (masked fused), few (given (masked fused))), omega (arith, fused .fuse .ensures .1, roots-few (masked fused), few (given (masked fused))))
 
-  taken : (length (take (kept-rank fused) (numbers fused)) ≡ kept-rank fused) × (length (take (kept-rank fused) (steps fused)) ≡ kept-rank fused)
+  taken : (length (take (kept-rank fused) (fused-extents fused)) ≡ kept-rank fused) × (length (take (kept-rank fused) (fused-strides fused)) ≡ kept-rank fused)
   taken = (length-take-le _ _ (room .0), length-take-le _ _ (room .1))
 
   -- the first places hold the axes of the diagonal
   first-axes : (pairs : List (ℕ × ℕ)) → OfPairs (given (masked fused)) pairs
-      → axesOf (take (kept-rank fused) (numbers fused)) (take (kept-rank fused) (steps fused)) ≡ diagonalAxes (model (given (masked fused))) pairs
-  first-axes pairs of = axesOf-take (numbers fused) (steps fused) (kept-rank fused) (room .0) (room .1) ∙ axes-told pairs of .1
+      → axesOf (take (kept-rank fused) (fused-extents fused)) (take (kept-rank fused) (fused-strides fused)) ≡ diagonalAxes (model (given (masked fused))) pairs
+  first-axes pairs of = axesOf-take (fused-extents fused) (fused-strides fused) (kept-rank fused) (room .0) (room .1) ∙ axes-told pairs of .1
 
 -- after their bounds were looked at
 module _ (b : tie.After-bounds-refusal) where
@@ -180,20 +180,20 @@ returns-3 c pairs of =
     let f = c .before in
     let r = masked f in
     let m = model (given r) in
-    let over = subst (λ (t : Bool). FusedInto m pairs (kept-rank f) (numbers f) (steps f) t) (not-true (f .fuse .result) (c .if1 .taken)) (told f pairs of) in
+    let over = subst (λ (t : Bool). FusedInto m pairs (kept-rank f) (fused-extents f) (fused-strides f) t) (not-true (f .fuse .result) (c .if1 .taken)) (told f pairs of) in
     record { after-is = sym (sum-refused m pairs (first (r .before .before .before)) (second r pairs of) over); kept-in = (refl, refl) }
 
 cast-rank : tie.Need-cast-rank
 cast-rank c = let r = masked (c .before) in record { fits = omega (arith, roots-few r, few (given r)) }
 
-array-share-prefix-numbers : tie.Need-array-share-prefix-numbers
-array-share-prefix-numbers c = room c .0
+array-share-prefix-fused-extents : tie.Need-array-share-prefix-fused-extents
+array-share-prefix-fused-extents c = room c .0
 
 slice-aggregate-bounds-refusal : tie.Need-slice-aggregate-bounds-refusal
 slice-aggregate-bounds-refusal c = sym (taken (c .before) .0)
 
-array-share-prefix-steps : tie.Need-array-share-prefix-steps
-array-share-prefix-steps c = room (c .before) .1
+array-share-prefix-fused-strides : tie.Need-array-share-prefix-fused-strides
+array-share-prefix-fused-strides c = room (c .before) .1
 
 slice-aggregate-bounds-refusal-2 : tie.Need-slice-aggregate-bounds-refusal-2
 slice-aggregate-bounds-refusal-2 c = sym (taken (c .before .before) .1)
@@ -222,14 +222,14 @@ returns-4 c pairs of =
 enum-told-3 : tie.Need-enum-told-3
 enum-told-3 c = search needs
 
-array-share-prefix-numbers-2 : tie.Need-array-share-prefix-numbers-2
-array-share-prefix-numbers-2 c = room (fitted (c .before .before)) .0
+array-share-prefix-fused-extents-2 : tie.Need-array-share-prefix-fused-extents-2
+array-share-prefix-fused-extents-2 c = room (fitted (c .before .before)) .0
 
 slice-aggregate-copy-axes : tie.Need-slice-aggregate-copy-axes
 slice-aggregate-copy-axes c = sym (taken (fitted (c .before .before .before)) .0)
 
-array-share-prefix-steps-2 : tie.Need-array-share-prefix-steps-2
-array-share-prefix-steps-2 c = room (fitted (c .before .before .before)) .1
+array-share-prefix-fused-strides-2 : tie.Need-array-share-prefix-fused-strides-2
+array-share-prefix-fused-strides-2 c = room (fitted (c .before .before .before)) .1
 
 slice-aggregate-copy-axes-2 : tie.Need-slice-aggregate-copy-axes-2
 slice-aggregate-copy-axes-2 c = sym (taken (fitted (c .before .before .before .before)) .1)
@@ -284,9 +284,9 @@ tied-in-place-spec =
     same-length-6
     returns-3
     cast-rank
-    array-share-prefix-numbers
+    array-share-prefix-fused-extents
     slice-aggregate-bounds-refusal
-    array-share-prefix-steps
+    array-share-prefix-fused-strides
     slice-aggregate-bounds-refusal-2
     bounds-refusal-requires
     enum-known-last
@@ -294,9 +294,9 @@ tied-in-place-spec =
     same-length-8
     returns-4
     enum-told-3
-    array-share-prefix-numbers-2
+    array-share-prefix-fused-extents-2
     slice-aggregate-copy-axes
-    array-share-prefix-steps-2
+    array-share-prefix-fused-strides-2
     slice-aggregate-copy-axes-2
     copy-axes-requires
     same-length-9

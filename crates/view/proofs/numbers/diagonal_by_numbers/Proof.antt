@@ -42,7 +42,7 @@ returns-2 c =
     let a = c .before .before .before .before .before .before in
     let s = a .before .before .before .before in
     c .with-axes .ensures
-    ∙ left-in-arrays (s .args .layout) (λ m. diagonalView m (pairsOf (s .args .numbers .now))) (b .last .1 .1 .0) (b .last .1 .1 .1 .0) (b .result) (lends a) (b .kept .1 .1 .0) (b .kept .1 .1 .1 .0) (b .ensures)
+    ∙ left-in-arrays (s .args .layout) (λ m. diagonalView m (pairsOf (s .args .pairs .now))) (b .last .1 .1 .0) (b .last .1 .1 .1 .0) (b .result) (lends a) (b .kept .1 .1 .0) (b .kept .1 .1 .1 .0) (b .ensures)
 
 pub diagonal-by-numbers-spec : {M : Type 1} → statement M
 diagonal-by-numbers-spec =

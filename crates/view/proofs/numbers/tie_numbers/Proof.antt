@@ -10,11 +10,11 @@ use Rattle.view.proofs.numbers.tie_numbers.Statement.{statement}
 use Rattle.view.proofs.numbers.tie_numbers.Tie as tie
 
 abbrev Inv-loop : tie.InvT-loop
-Inv-loop roots₀ rank numbers count answer₀ i₀ roots answer i =
-    (i ≤ count) × (length roots ≡ 16) × TiesOf rank (take i (pairsOf numbers)) (tiesIn roots rank answer)
+Inv-loop roots₀ rank pairs count answer₀ i₀ roots answer i =
+    (i ≤ count) × (length roots ≡ 16) × TiesOf rank (take i (pairsOf pairs)) (tiesIn roots rank answer)
 
 abbrev μ-loop : tie.MeasureT-loop
-μ-loop roots₀ rank numbers count answer₀ i₀ roots answer i = count - i
+μ-loop roots₀ rank pairs count answer₀ i₀ roots answer i = count - i
 
 loop-holds : tie.Need-loop-holds Inv-loop μ-loop
 loop-holds c = (search needs, c .before .pre .0, c .before .pre .1)
@@ -53,13 +53,13 @@ loop-again : tie.Need-loop-again Inv-loop μ-loop
 loop-again c =
     let l = c .before .before .before .before .before .loop in
     let s = c .before .before .before .before .before .before .before in
-    (search needs, c .tie-pair .ensures .0, rw (pairs-more (s .args .numbers .now) (l .i) (search needs)) (c .tie-pair .ensures .1 _ (l .inv .2)))
+    (search needs, c .tie-pair .ensures .0, rw (pairs-more (s .args .pairs .now) (l .i) (search needs)) (c .tie-pair .ensures .1 _ (l .inv .2)))
 
 returns : tie.Need-returns Inv-loop μ-loop
 returns c =
     let l = c .before .loop in
     let s = c .before .before .before in
-    rw (← pairs-all (s .args .numbers .now) (l .i) (c .loop-test .left)) (l .inv .2)
+    rw (← pairs-all (s .args .pairs .now) (l .i) (c .loop-test .left)) (l .inv .2)
 
 pub tie-numbers-spec : {M : Type 1} → statement M
 tie-numbers-spec =

@@ -1,5 +1,5 @@
 -- The sum over all axes is the sum so far with the axes and indices still left.
-use mathlib.Core.Path.{_≡_, sym, ap, _∙_}
+use mathlib.Core.Path.{_≡_, refl, sym, ap, _∙_}
 use mathlib.Core.List.{List, _∷_}
 use Prim.Native.Nat.{ℕ, _+_, _-_, _≤_}
 use native.Mathlib.Omega.{arith}
@@ -13,7 +13,7 @@ use Rattle.lists.proofs.TableLaws.{drop-table-end}
 use Rattle.specification.specs.Axis.{Axis}
 use Rattle.specification.specs.Beside.{sumIndexed}
 use Rattle.view.specs.declared.layout.Layout.{Layout}
-use Rattle.view.specs.Indexed.{addedOf}
+use Rattle.view.specs.Indexed.{addedOf, indexedOf}
 use Rattle.view.specs.Model.{modelOf, axisOf}
 use Rattle.view.proofs.ModelLaws.{drop-axesIn}
 use Rattle.view.proofs.IndexedLaws.{indexed-bad, indexed-over, indexed-on, indexed-end, index-here}
@@ -23,7 +23,7 @@ use Rattle.view.proofs.offset.sum_indexed.Tie as tie
 abbrev Inv-loop : tie.InvT-loop
 Inv-loop index layout sum₀ i₀ sum i =
     (i ≤ length index) × (layout .rank ≤ 16)
-    × (sumIndexed 0 (layout .offset .0) (modelOf layout .axes) index ≡ sumIndexed i (toZ w64 sum) (drop i (modelOf layout .axes)) (drop i index))
+    × (sumIndexed 0 (layout .offset .0) (modelOf layout .axes) index ≡ sumIndexed i (sum .0) (drop i (modelOf layout .axes)) (drop i index))
 
 abbrev μ-loop : tie.MeasureT-loop
 μ-loop index layout sum₀ i₀ sum i = length index - i
@@ -43,7 +43,7 @@ module _ (t : tie.After-shared-slice-known2 Inv-loop μ-loop) where
   i = atLoop .loop .i
 
   abbrev sum : ℤ
-  sum = toZ w64 (atLoop .loop .sum)
+  sum = atLoop .loop .sum .0
 
   abbrev axis : Axis
   axis = axisOf (layout .extents) (layout .strides) i
@@ -58,11 +58,11 @@ module _ (t : tie.After-shared-slice-known2 Inv-loop μ-loop) where
   stride-is = toZ-ofZ w64 _ (record { sfits = t .before .stride .given })
 
 added : (a : tie.After-add-indexed Inv-loop μ-loop) → let t = a .before .before in
-    a .add-indexed .result ≡ addedOf (sum t) (getD (vector t) (i t) 0) (axis t .stride)
+    indexedOf (a .add-indexed .result) ≡ addedOf (sum t) (getD (vector t) (i t) 0) (axis t .stride)
 added a = let t = a .before .before in a .add-indexed .ensures ∙ ap (addedOf (sum t) (getD (vector t) (i t) 0)) (stride-is t)
 
 loop-holds : tie.Need-loop-holds Inv-loop μ-loop
-loop-holds c = (search needs, search needs, rw (toZ-ofZ w64 _ (record { sfits = c .struct-told .given .1 .0 .1 .1 .0 .1 })))
+loop-holds c = (search needs, search needs, refl)
 
 mul-extent : tie.Need-mul-extent Inv-loop μ-loop
 mul-extent c = search needs
@@ -98,7 +98,7 @@ returns-2 : tie.Need-returns-2 Inv-loop μ-loop
 returns-2 c =
     let a = c .before .before in
     let t = a .before .before in
-    sym (here t ∙ indexed-over (i t) (sum t) (axis t) (rest t) (getD (vector t) (i t) 0) _ (a .before .if1 .left) (sym (added a) ∙ c .enum-told .given .1))
+    sym (here t ∙ indexed-over (i t) (sum t) (axis t) (rest t) (getD (vector t) (i t) 0) _ (a .before .if1 .left) (sym (added a) ∙ ap indexedOf (c .enum-told .given .1)))
 
 add-i : tie.Need-add-i Inv-loop μ-loop
 add-i c = search needs
@@ -110,12 +110,11 @@ loop-again : tie.Need-loop-again Inv-loop μ-loop
 loop-again c =
     let a = c .before .before .before in
     let t = a .before .before in
-    let n = c .before .next .given .0 .0 in (
+    let n = c .before .next .given .0 .0 .0 in (
       search needs,
       atLoop t .loop .inv .1,
       here t
-          ∙ indexed-on (i t) (sum t) (axis t) (rest t) (getD (vector t) (i t) 0) (drop (i t + 1) (vector t)) n (a .before .if1 .left) (sym (added a) ∙ c .before .next .given .1)
-          ∙ rw (toZ-ofZ w64 n (record { sfits = c .known-told .given .0 .1 })),
+          ∙ indexed-on (i t) (sum t) (axis t) (rest t) (getD (vector t) (i t) 0) (drop (i t + 1) (vector t)) n (a .before .if1 .left) (sym (added a) ∙ ap indexedOf (c .before .next .given .1)),
     )
 
 returns-3 : tie.Need-returns-3 Inv-loop μ-loop

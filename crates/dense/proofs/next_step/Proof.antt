@@ -4,10 +4,10 @@ use Prim.Native.Nat.{_*_}
 use borrow.Author.Needs.{needs}
 use Rattle.integer.specs.Range.{mostSigned}
 use Rattle.specification.specs.Outcome.{done}
 use Rattle.view.proofs.BoundedLaws.{is-bounded, over-bounded}
-use Rattle.view.proofs.DenseLaws.{step-fits, step-full-product, step-full-extent, fullStep}
-use Rattle.view.proofs.dense.next_step.Statement.{statement}
-use Rattle.view.proofs.dense.next_step.Tie as tie
+use Rattle.dense.proofs.DenseLaws.{step-fits, step-full-product, step-full-extent, fullStep}
+use Rattle.dense.proofs.next_step.Statement.{statement}
+use Rattle.dense.proofs.next_step.Tie as tie
 
 bounded-product-requires : tie.Need-bounded-product-requires
 bounded-product-requires c κs = search needs

@@ -1,14 +1,14 @@
-// Dense strides: running products of the extents.
+// The dense half of view.rs: strides that are running products of the extents.
 ghost use mathlib.Core.Path.{_≡_};
 ghost use Rattle.specification.specs.Outcome.{refused};
 ghost use Rattle.specification.specs.Beside.{nextStep, colMajor, rowMajor};
 ghost use Rattle.view.specs.Answers.{numberOf, valuesOf};
-ghost use Rattle.view.specs.Dense.{stepOf, denseOf, denseAfter};
-use crate::bounded::Bounded;
-use crate::bounded::bounded_product;
-use crate::bounds::empty_layout;
-use crate::layout::Answer;
-use crate::layout::Refusal;
+ghost use Rattle.dense.specs.Dense.{stepOf, denseOf, denseAfter};
+use view::bounded::Bounded;
+use view::bounded::bounded_product;
+use view::bounds::empty_layout;
+use view::layout::Answer;
+use view::layout::Refusal;
 
 // As many strides as the count says; none beside a refusal.
 pub struct Dense {
@@ -72,7 +72,7 @@ pub fn checked_col_major_strides(extents: &[u64]) -> Dense
     }
     Dense {
         strides: strides,
-        count: extents.len(),
+        count: i,
         answer: Answer::Done,
     }
 }
