@@ -29,8 +29,8 @@ fn words_needed(total: u64, span: u64) -> u64
     if words <= total { words + 1 } else { total }
 }
 
-// Whether two positions have one sum, in words of any number and content: the axes in two parts, whose distances meet. More
-// words only make the first part longer.
+// Whether two positions have one sum, in lent words whatever they hold: the axes in two parts, whose distances meet. More words
+// only make the first part longer.
 fn has_equal_sums(extents: &[u64], strides: &[u64], words: &mut [u64]) -> bool
     requires { ⌜ Part (now extents) (now strides) × (0 < length (now words)) ⌝ }
     ensures { λ r. ⌜ Tells r (Clash (positionSum (now (extents .entry)) (now (strides .entry))) (product (now (extents .entry)))) ⌝ }
