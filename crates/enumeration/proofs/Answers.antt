@@ -1,12 +1,13 @@
 -- The answers of `enumerate` are those that the verdict defines for step 6.
 use mathlib.Core.Bool.{Bool, true, false}
 use mathlib.Core.List.{List, [], _∷_, _++_}
-use mathlib.Core.Path.{_≡_, refl, sym, ap, ap₂, subst, _∙_}
+use mathlib.Core.Path.{_≡_, refl, sym, ap, ap₂, subst, subst⁻¹, _∙_}
 use Prim.Native.Nat.{ℕ, _+_, _/_, _<_, _≤_}
 use lib.ListN.{length, take, drop}
 use lib.Seq.{drop-at, length-front, length-take-le}
 use borrow.Author.Tests.{le-leb, lt-leb, lt-ltb, le-ltb}
 use Rattle.specification.specs.Tests.{if_then_else_, isYes}
+use Rattle.specification.specs.Axis.{product}
 use Rattle.specification.specs.Outcome.{Outcome, done, refused}
 use Rattle.specification.specs.Search.{ActiveAxis, total, spanSum, wordsFor, SameSum}
 use Rattle.specification.specs.Decided.{sameSum?}
@@ -16,9 +17,9 @@ use Rattle.specification.proofs.OutcomeLaws.{refuse-yes, refuse-no}
 use Rattle.specification.proofs.Pigeonhole.{Clash}
 use Rattle.enumeration.specs.Words.{Tells}
 use Rattle.enumeration.specs.Sums.{positionSum}
-use Rattle.enumeration.specs.Enumeration.{Describes, Block, outcomeOf, AsDefined, Enumerated}
-use Rattle.enumeration.specs.declared.Answer.{Answer}
-use Rattle.enumeration.specs.declared.Answer.the-variants.{Distinct, Repeated, Short}
+use Rattle.enumeration.specs.Enumeration.{Describes, Block, outcomeOf, AsDefined, AnswersBlocks}
+use Rattle.enumeration.specs.declared.Enumerated.{Enumerated}
+use Rattle.enumeration.specs.declared.Enumerated.the-variants.{Distinct, Repeated, Short}
 use Rattle.enumeration.proofs.BlockSums.{describes-total, describes-span, tells-same}
 
 pub words-by-span : (positions span : ℕ) → span / 64 ≤ positions → wordsFor positions span ≡ span / 64 + 1
@@ -57,7 +58,7 @@ module _ (block : List ActiveAxis) (words : ℕ) where
 
 -- ---- the answers
 
-abbrev found : Bool → Answer
+abbrev found : Bool → Enumerated
 found r = if r then Repeated else Distinct
 
 found-outcome : (need : ℕ) (r : Bool) → outcomeOf need (found r) ≡ judged need r
@@ -67,21 +68,18 @@ found-outcome need false = refl
 -- need is what the code found, and l is the scratch that it was lent
 module _ (es ss : List ℕ) (positions span : ℕ) (k : Block es ss positions span) (need : ℕ) (e : need ≡ wordsFor positions span) (l : List ℕ) where
   module _ (block : List ActiveAxis) (d : Describes es ss block) where
-    total-of : positions ≡ total block
-    total-of = k .total-is ∙ describes-total (k .described) d
-
     need-of : need ≡ needed block
-    need-of = e ∙ ap₂ wordsFor total-of (k .span-is ∙ describes-span (k .described) d)
+    need-of = e ∙ ap₂ wordsFor (k .total-is ∙ describes-total (k .described) d) (k .span-is ∙ describes-span (k .described) d)
 
     short-defined : length l < need → AsDefined block l l (Short need)
     short-defined h =
         let c = carried-short block (length l) (rw need-of at h) in
         record { outcome = ap (λ (z : ℕ). refused 9 (z ∷ [])) need-of ∙ sym c; scratch = (refl, refl) }
 
-    found-defined : need ≤ length l → (w : List ℕ) → length w ≡ length (take need l) → (r : Bool) → Tells r (Clash (positionSum es ss) positions) → AsDefined block l (w ++ drop need l) (found r)
+    found-defined : need ≤ length l → (w : List ℕ) → length w ≡ length (take need l) → (r : Bool) → Tells r (Clash (positionSum es ss) (product es)) → AsDefined block l (w ++ drop need l) (found r)
     unfolding freedBy
     found-defined h w q r t =
-        let c = carried-done block (length l) (rw need-of at h) r (tells-same es ss block d r (subst (λ (z : ℕ). Tells r (Clash (positionSum es ss) z)) total-of t)) in
+        let c = carried-done block (length l) (rw need-of at h) r (tells-same es ss block d r (subst⁻¹ (λ (z : ℕ). Tells r (Clash (positionSum es ss) z)) (ap product (d .extents-are)) t)) in
         record {
           outcome = found-outcome (needed block) r ∙ sym c;
           scratch = (
@@ -93,13 +91,13 @@ module _ (es ss : List ℕ) (positions span : ℕ) (k : Block es ss positions sp
         }
 
   -- the scratch is short, and stays as it is
-  pub enumerated-short : length l < need → Enumerated es ss l l (Short need)
+  pub enumerated-short : length l < need → AnswersBlocks es ss l l (Short need)
   enumerated-short h block d = short-defined block d h
 
   -- the words needed came back as w
-  module _ (h : need ≤ length l) (w : List ℕ) (q : length w ≡ length (take need l)) (r : Bool) (t : Tells r (Clash (positionSum es ss) positions)) where
-    pub enumerated-repeated : r ≡ true → Enumerated es ss l (w ++ drop need l) Repeated
+  module _ (h : need ≤ length l) (w : List ℕ) (q : length w ≡ length (take need l)) (r : Bool) (t : Tells r (Clash (positionSum es ss) (product es))) where
+    pub enumerated-repeated : r ≡ true → AnswersBlocks es ss l (w ++ drop need l) Repeated
     enumerated-repeated p block d = subst (λ (z : Bool). AsDefined block l (w ++ drop need l) (found z)) p (found-defined block d h w q r t)
 
-    pub enumerated-distinct : r ≡ false → Enumerated es ss l (w ++ drop need l) Distinct
+    pub enumerated-distinct : r ≡ false → AnswersBlocks es ss l (w ++ drop need l) Distinct
     enumerated-distinct p block d = subst (λ (z : Bool). AsDefined block l (w ++ drop need l) (found z)) p (found-defined block d h w q r t)

@@ -1,7 +1,7 @@
 -- A block's axes in two parts: each part's sums fit a word, and where the parts meet two positions of the block have one sum.
 use mathlib.Core.Bool.{Bool}
 use mathlib.Core.List.{List, _++_}
-use mathlib.Core.Path.{_≡_, sym, ap, subst, subst₂, _∙_}
+use mathlib.Core.Path.{_≡_, sym, ap, subst₂, _∙_}
 use Prim.Native.Nat.{ℕ, _-_, _/_, _^_, _<_, _≤_}
 use native.Mathlib.Decide.{decLe}
 use native.Mathlib.Omega.{arith}
@@ -35,52 +35,48 @@ module _ (es ss : List ℕ) (positions span : ℕ) (k : Block es ss positions sp
       go (yes h) = omega (arith, words-by-span positions span h)
       go (no h) = omega (arith, words-by-total positions span (omega arith), positions-are, product-positive (k .positive))
 
-  module _ (fits : span < 2 ^ 64) where
-    sums : SumsFit es ss
-    sums = block-fits es ss (k .block) (k .described) (k .positive) (omega (arith, k .span-is))
+  pub whole : span < 2 ^ 64 → Part es ss
+  whole h = record { sums = block-fits es ss (k .block) (k .described) (k .positive) (omega (arith, k .span-is)); rank = k .rank }
 
-    pub strides-length : length ss ≡ length es
-    strides-length = sums .one-length
+module _ (es ss : List ℕ) (p : Part es ss) (c : ℕ) (h : c ≤ length es) where
+  -- what stands from c on
+  rest : (l : List ℕ) → take (length l - c) (drop c l) ≡ drop c l
+  rest l = take-all (length l - c) (drop c l) (omega (arith, length-drop c l))
 
-    module _ (c : ℕ) (h : c ≤ length es) where
-      -- what stands from c on
-      rest : (l : List ℕ) → take (length l - c) (drop c l) ≡ drop c l
-      rest l = take-all (length l - c) (drop c l) (omega (arith, length-drop c l))
+  first-length : length (take c ss) ≡ length (take c es)
+  first-length = length-take-le c ss (omega (arith, p .sums .one-length)) ∙ sym (length-take-le c es h)
 
-      first-length : length (take c ss) ≡ length (take c es)
-      first-length = length-take-le c ss (omega (arith, strides-length)) ∙ sym (length-take-le c es h)
+  second-length : length (drop c ss) ≡ length (drop c es)
+  second-length = omega (arith, length-drop c ss, length-drop c es, p .sums .one-length)
 
-      second-length : length (drop c ss) ≡ length (drop c es)
-      second-length = omega (arith, length-drop c ss, length-drop c es, strides-length)
+  both-sums : SumsFit (take c es ++ drop c es) (take c ss ++ drop c ss)
+  both-sums = subst₂ SumsFit (sym (take-append-drop c es)) (sym (take-append-drop c ss)) (p .sums)
 
-      both-sums : SumsFit (take c es ++ drop c es) (take c ss ++ drop c ss)
-      both-sums = subst₂ SumsFit (sym (take-append-drop c es)) (sym (take-append-drop c ss)) sums
+  pub first-part : Part (take c es) (take c ss)
+  first-part = record {
+    sums = fits-first (take c es) (take c ss) (drop c es) (drop c ss) first-length (positive-take (p .sums .positive) c) (positive-drop (p .sums .positive) c) both-sums;
+    rank = omega (arith, length-take-le c es h, p .rank);
+  }
 
-      pub first-part : Part (take c es) (take c ss)
-      first-part = record {
-        sums = fits-first (take c es) (take c ss) (drop c es) (drop c ss) first-length (positive-take (k .positive) c) (positive-drop (k .positive) c) both-sums;
-        rank = omega (arith, length-take-le c es h, k .rank);
-      }
+  pub second-part : Part (take (length es - c) (drop c es)) (take (length ss - c) (drop c ss))
+  second-part = subst₂ Part (sym (rest es)) (sym (rest ss)) (record {
+    sums = fits-second (take c es) (take c ss) (drop c es) (drop c ss) first-length (positive-take (p .sums .positive) c) (positive-drop (p .sums .positive) c) second-length both-sums;
+    rank = omega (arith, length-drop c es, p .rank);
+  })
 
-      pub second-part : Part (take (length es - c) (drop c es)) (take (length ss - c) (drop c ss))
-      second-part = subst₂ Part (sym (rest es)) (sym (rest ss)) (record {
-        sums = fits-second (take c es) (take c ss) (drop c es) (drop c ss) first-length (positive-take (k .positive) c) (positive-drop (k .positive) c) second-length both-sums;
-        rank = omega (arith, length-drop c es, k .rank);
-      })
+  -- the parts meet exactly if two positions have one sum
+  pub meets-clash : (r : Bool) → Tells r (Meets (take c es) (take c ss) (take (length es - c) (drop c es)) (take (length ss - c) (drop c ss)))
+      → Tells r (Clash (positionSum es ss) (product es))
+  meets-clash r t = tells-iff r to from (subst₂ (λ (u v : List ℕ). Tells r (Meets (take c es) (take c ss) u v)) (rest es) (rest ss) t)
+    where
+      to : Meets (take c es) (take c ss) (drop c es) (drop c ss) → Clash (positionSum es ss) (product es)
+      to m =
+          let d : Distance es ss 0 = subst₂ (λ (u v : List ℕ). Distance u v 0) (take-append-drop c es) (take-append-drop c ss)
+          (meets-whole (take c es) (take c ss) (drop c es) (drop c ss) first-length (positive-take (p .sums .positive) c) (positive-drop (p .sums .positive) c) m) in
+          distance-clash es ss d
 
-      -- the parts meet exactly if two positions have one sum
-      pub meets-clash : (r : Bool) → Tells r (Meets (take c es) (take c ss) (take (length es - c) (drop c es)) (take (length ss - c) (drop c ss)))
-          → Tells r (Clash (positionSum es ss) positions)
-      meets-clash r t = tells-iff r to from (subst₂ (λ (u v : List ℕ). Tells r (Meets (take c es) (take c ss) u v)) (rest es) (rest ss) t)
-        where
-          to : Meets (take c es) (take c ss) (drop c es) (drop c ss) → Clash (positionSum es ss) positions
-          to m =
-              let d : Distance es ss 0 = subst₂ (λ (u v : List ℕ). Distance u v 0) (take-append-drop c es) (take-append-drop c ss)
-              (meets-whole (take c es) (take c ss) (drop c es) (drop c ss) first-length (positive-take (k .positive) c) (positive-drop (k .positive) c) m) in
-              subst (Clash (positionSum es ss)) (sym positions-are) (distance-clash es ss d)
-
-          from : Clash (positionSum es ss) positions → Meets (take c es) (take c ss) (drop c es) (drop c ss)
-          from m =
-              let d : Distance es ss 0 = clash-distance es ss (k .positive) (subst (Clash (positionSum es ss)) positions-are m) in
-              whole-meets (take c es) (take c ss) (drop c es) (drop c ss) first-length (positive-take (k .positive) c) (positive-drop (k .positive) c)
-              (subst₂ (λ (u v : List ℕ). Distance u v 0) (sym (take-append-drop c es)) (sym (take-append-drop c ss)) d)
+      from : Clash (positionSum es ss) (product es) → Meets (take c es) (take c ss) (drop c es) (drop c ss)
+      from m =
+          let d : Distance es ss 0 = clash-distance es ss (p .sums .positive) m in
+          whole-meets (take c es) (take c ss) (drop c es) (drop c ss) first-length (positive-take (p .sums .positive) c) (positive-drop (p .sums .positive) c)
+          (subst₂ (λ (u v : List ℕ). Distance u v 0) (sym (take-append-drop c es)) (sym (take-append-drop c ss)) d)

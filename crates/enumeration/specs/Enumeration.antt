@@ -9,8 +9,8 @@ use Rattle.specification.specs.Verdict.{Judged, enumerated, carryOut, freedBy, 
 use Rattle.specification.specs.Verdict as verdict
 use Rattle.specification.proofs.Digits.{PositiveExtents}
 use Rattle.odometer.specs.Odometer.{strides}
-use Rattle.enumeration.specs.declared.Answer.{Answer}
-use Rattle.enumeration.specs.declared.Answer.the-variants.{Distinct, Repeated, Short}
+use Rattle.enumeration.specs.declared.Enumerated.{Enumerated}
+use Rattle.enumeration.specs.declared.Enumerated.the-variants.{Distinct, Repeated, Short}
 
 -- the extents and the absolute strides of the block, in its order
 pub record Describes (es ss : List ℕ) (block : List ActiveAxis) : Type 0 where
@@ -27,16 +27,16 @@ pub record Block (es ss : List ℕ) (positions span : ℕ) : Type 0 where
   pub span-is : span ≡ spanSum block
 
 -- the answer as an outcome of the verdict, where so many words were needed
-abbrev pub outcomeOf : ℕ → Answer → Outcome Judged
+abbrev pub outcomeOf : ℕ → Enumerated → Outcome Judged
 outcomeOf need Distinct = done (record { answer = verdict.Distinct; count = 0; freed = need })
 outcomeOf need Repeated = done (record { answer = verdict.Repeated; count = 0; freed = need })
 outcomeOf need (Short words) = refused 9 (words ∷ [])
 
 -- answer and scratch are those of step 6 for the block
-pub record AsDefined (block : List ActiveAxis) (before after : List ℕ) (answer : Answer) : Type 0 where
+pub record AsDefined (block : List ActiveAxis) (before after : List ℕ) (answer : Enumerated) : Type 0 where
   pub outcome : outcomeOf (wordsFor (total block) (spanSum block)) answer ≡ carryOut (length before) (enumerated block)
   pub scratch : ScratchAfter (freedBy (carryOut (length before) (enumerated block))) before after
 
 -- they are so for every block of these extents and strides: the numbers of its axes are no part of step 6
-abbrev pub Enumerated : List ℕ → List ℕ → List ℕ → List ℕ → Answer → Type 0
-Enumerated es ss before after answer = (block : List ActiveAxis) → Describes es ss block → AsDefined block before after answer
+abbrev pub AnswersBlocks : List ℕ → List ℕ → List ℕ → List ℕ → Enumerated → Type 0
+AnswersBlocks es ss before after answer = (block : List ActiveAxis) → Describes es ss block → AsDefined block before after answer

@@ -4,17 +4,20 @@ mod parts;
 mod table;
 
 ghost use mathlib.Core.Path.{_≡_};
+ghost use Prim.Native.Nat.{_<_};
 ghost use lib.ListN.{length};
+ghost use Rattle.specification.specs.Axis.{product};
 ghost use Rattle.specification.specs.Search.{wordsFor};
 ghost use Rattle.specification.proofs.Pigeonhole.{Clash};
 ghost use Rattle.enumeration.specs.Words.{Tells};
 ghost use Rattle.enumeration.specs.Sums.{positionSum};
-ghost use Rattle.enumeration.specs.Enumeration.{Block, Enumerated};
+ghost use Rattle.enumeration.specs.Parts.{Part};
+ghost use Rattle.enumeration.specs.Enumeration.{Block, AnswersBlocks};
 
-pub enum Answer {
+// Step 6's answer: no two positions have one sum, some two have, or the scratch is short and so many words are needed.
+pub enum Enumerated {
     Distinct,
     Repeated,
-    // the scratch is short: so many words are needed
     Short(u64),
 }
 
@@ -26,16 +29,11 @@ fn words_needed(total: u64, span: u64) -> u64
     if words <= total { words + 1 } else { total }
 }
 
-// Whether two positions of the block have one sum, in as many words as are needed: its axes in two parts, whose distances meet.
-fn has_equal_sums(
-    extents: &[u64],
-    strides: &[u64],
-    total: u64,
-    span: u64,
-    words: &mut [u64],
-) -> bool
-    requires { ⌜ Block (now extents) (now strides) total span × (length (now words) ≡ wordsFor total span) ⌝ }
-    ensures { λ r. ⌜ Tells r (Clash (positionSum (now (extents .entry)) (now (strides .entry))) total) ⌝ }
+// Whether two positions have one sum, in lent words whatever they hold: the axes in two parts, whose distances meet. More words
+// only make the first part longer.
+fn has_equal_sums(extents: &[u64], strides: &[u64], words: &mut [u64]) -> bool
+    requires { ⌜ Part (now extents) (now strides) × (0 < length (now words)) ⌝ }
+    ensures { λ r. ⌜ Tells r (Clash (positionSum (now (extents .entry)) (now (strides .entry))) (product (now (extents .entry)))) ⌝ }
 {
     let split = parts::split_axes(extents, words.len());
     let c = split.place;
@@ -58,17 +56,17 @@ pub fn enumerate(
     total: u64,
     span: u64,
     scratch: &mut [u64],
-) -> Answer
+) -> Enumerated
     requires { ⌜ Block (now extents) (now strides) total span ⌝ }
-    ensures { λ r. ⌜ Enumerated (now (extents .entry)) (now (strides .entry)) (now (scratch .entry)) (now (scratch .exit)) r ⌝ }
+    ensures { λ r. ⌜ AnswersBlocks (now (extents .entry)) (now (strides .entry)) (now (scratch .entry)) (now (scratch .exit)) r ⌝ }
 {
     let need = words_needed(total, span);
     if (scratch.len() as u64) < need {
-        return Answer::Short(need);
+        return Enumerated::Short(need);
     }
     let words = need as usize;
-    if has_equal_sums(extents, strides, total, span, &mut scratch[..words]) {
-        return Answer::Repeated;
+    if has_equal_sums(extents, strides, &mut scratch[..words]) {
+        return Enumerated::Repeated;
     }
-    Answer::Distinct
+    Enumerated::Distinct
 }

@@ -16,7 +16,7 @@ use Rattle.specification.proofs.AxisOrder.{Perm, nil, skip, swap, trans}
 use Rattle.specification.proofs.Sorting.{Each, perm-length, perm-each, sort-perm}
 use Rattle.specification.proofs.Digits.{PositiveExtents}
 use Rattle.enumeration.specs.Enumeration.{Describes, Block, AsDefined, outcomeOf as outcomeFor}
-use Rattle.enumeration.specs.declared.Answer.{Answer}
+use Rattle.enumeration.specs.declared.Enumerated.{Enumerated}
 use Rattle.walk.specs.Walk.{axisWith}
 use Rattle.odometer.specs.Odometer.{strides}
 use Rattle.search.specs.Block.{Side, Sides, Blocked, InAxisOrder}
@@ -150,7 +150,7 @@ pub judged-plan : {plan other : Plan} (r : Judgement) (before after : List ℕ) 
 judged-plan r before after p j = subst (λ (q : Plan). JudgedAs (carryOut (length before) q) before after r) p j
 
 -- what the enumeration answers, in the words of the call
-pub judged-enumerated : {block : List ActiveAxis} {before after : List ℕ} {answer known : Answer} (r : Judgement) → AsDefined block before after answer → answer ≡ known
+pub judged-enumerated : {block : List ActiveAxis} {before after : List ℕ} {answer known : Enumerated} (r : Judgement) → AsDefined block before after answer → answer ≡ known
     → outcomeOf r ≡ toldOf (outcomeFor (wordsFor (total block) (spanSum block)) known) → JudgedAs (carryOut (length before) (enumerated block)) before after r
 judged-enumerated {block} r d e o =
-    record { told = o ∙ ap (λ (a : Answer). toldOf (outcomeFor (wordsFor (total block) (spanSum block)) a)) (sym e) ∙ ap toldOf (d .outcome); scratch = d .scratch }
+    record { told = o ∙ ap (λ (a : Enumerated). toldOf (outcomeFor (wordsFor (total block) (spanSum block)) a)) (sym e) ∙ ap toldOf (d .outcome); scratch = d .scratch }

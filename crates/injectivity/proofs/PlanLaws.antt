@@ -25,7 +25,7 @@ use Rattle.view.specs.declared.count.Count.{Count}
 use Rattle.view.specs.declared.count.Count.the-variants.{Of, Refused}
 use Rattle.view.specs.declared.layout.Refusal.{Refusal}
 use Rattle.view.proofs.CountLaws.{element-count-of-axes, counted-refused, counted-is}
-use Rattle.injectivity.specs.Judgement.{toldOf, JudgedAs}
+use Rattle.injectivity.specs.Judgement.{outcomeOf, toldOf, JudgedAs}
 use Rattle.injectivity.specs.Inputs.{LeftToBlock, Validated}
 use Rattle.injectivity.specs.declared.Judgement.{Judgement}
 use Rattle.injectivity.specs.declared.inputs.Inputs.{Inputs}
@@ -141,3 +141,9 @@ judged-block es ss l block b r before after j =
     let e : carryOut (length before) (byBlock block) ≡ verdict es ss (length before) =
     ap (λ (a : List ActiveAxis). carryOut (length before) (byBlock a)) b ∙ sym (by-block es ss l (length before)) in
     subst (λ (o : Outcome Judged). JudgedAs o before after r) e j
+
+-- no block is Distinct, and leaves the scratch alone
+pub judged-none : (es : List ℕ) (ss : List ℤ) → LeftToBlock es ss → [] ≡ blockOf (axesOf es ss)
+    → (r : Judgement) (before : List ℕ) → outcomeOf r ≡ done (record { answer = Distinct; count = 0 }) → JudgedAs (verdict es ss (length before)) before before r
+unfolding byBlock carryOut
+judged-none es ss l b r before o = judged-block es ss l [] b r before before (record { told = o; scratch = (refl, refl) })

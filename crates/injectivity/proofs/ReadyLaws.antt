@@ -27,10 +27,10 @@ use Rattle.specification.proofs.PlanCases.{ToBlock}
 use Rattle.specification.proofs.Sorting.{Each, EachTwo, each-two-implies, perm-length, perm-each, perm-each-two, sort-perm, sort-sorted}
 use Rattle.search.specs.Block.{Ascending}
 use Rattle.injectivity.specs.Axes.{axisFrom, axesFrom, blockFrom}
-use Rattle.injectivity.specs.Block.{WithinWords, Interleaved, Judgeable}
+use Rattle.injectivity.specs.Block.{WithinWords, FrontBlock, Judgeable}
 use Rattle.injectivity.specs.declared.block.InterleavedBlock.{InterleavedBlock}
 use Rattle.injectivity.proofs.AxesLaws.{front-axes}
-use Rattle.injectivity.proofs.CoverLaws.{span-append}
+use Rattle.injectivity.proofs.CoverLaws.{span-append, total-unnumbered, span-unnumbered}
 use Rattle.injectivity.proofs.InputsLaws.{in-range}
 use Rattle.injectivity.proofs.JudgeLaws.{Sided, span-perm, sides-of-each}
 use Rattle.injectivity.proofs.LeftLaws.{Low, active-length, active-total, active-span, active-low, numbers-differ}
@@ -81,12 +81,14 @@ module _ (axes : List Axis) (t : ToBlock axes) where
   total-is : total (inOrder axes) ≡ positions axes
   total-is = sym (total-perm perm) ∙ active-total 0 (full-pos axes (t .no-zero-extent))
 
-  pub sorted-within : WithinWords (inOrder axes)
-  sorted-within = record {
-    positive = omega (arith, total-is, positions-pos (full-pos axes (t .no-zero-extent)));
-    total-fits = omega (arith, total-is, count-low);
-    span-fits = spans-low;
-  }
+  -- whatever the numbers of the axes
+  pub sorted-within : (count : ℕ) (ns es ss : List ℕ) → axesFrom count ns es ss ≡ inOrder axes → (any : List ℕ) → WithinWords (axesFrom count any es ss)
+  sorted-within count ns es ss e any =
+      let same : total (axesFrom count any es ss) ≡ total (inOrder axes) = total-unnumbered count any ns es ss ∙ ap total e in record {
+        positive = omega (arith, same, total-is, positions-pos (full-pos axes (t .no-zero-extent)));
+        total-fits = omega (arith, same, total-is, count-low);
+        span-fits = omega (arith, span-unnumbered count any ns es ss, ap spanSum e, spans-low);
+      }
 
   sorted-length : length (inOrder axes) ≤ length axes
   sorted-length = omega (arith, perm-length perm, active-length 0 axes)
@@ -126,8 +128,12 @@ module _ (axes : List Axis) (t : ToBlock axes) where
         omega (arith, span-append (blockOf axes) (w .0), ap spanSum (w .1), spans-low),
       )
 
+  pub none-found : (count : ℕ) (ns es ss : List ℕ) → axesFrom count ns es ss ≡ inOrder axes → upToLast 0 (axesFrom count ns es ss) ≡ [] → [] ≡ blockOf axes
+  unfolding blockOf
+  none-found count ns es ss e z = sym z ∙ ap (upToLast 0) e
+
   -- the block, handed on as the fronts of three arrays
-  module _ (count : ℕ) (ns es ss : List ℕ) (e : axesFrom count ns es ss ≡ inOrder axes) (block : InterleavedBlock) (i : Interleaved count ns es ss block)
+  module _ (count : ℕ) (ns es ss : List ℕ) (e : axesFrom count ns es ss ≡ inOrder axes) (block : InterleavedBlock) (i : FrontBlock count ns es ss block)
       (h : length ns ≡ 16) (k : length es ≡ 16) (m : length ss ≡ 16) (few : length axes ≤ 16) where
     abbrev len : ℕ
     len = block .len
@@ -148,6 +154,7 @@ module _ (axes : List Axis) (t : ToBlock axes) where
     pub judgeable : Judgeable (take len ns) (take len es) (take len ss) (block .total) (block .span)
     judgeable =
         let n : len ≡ length (blockOf axes) = sym front-length ∙ sym (length-table (axisFrom (take len ns) (take len es) (take len ss)) (length (take len ns))) ∙ ap (λ (l : List ActiveAxis). length l) block-is in
+        let more : len ≢ 1 = λ q. not-one (sym n ∙ q) in
         record {
           searchable = record {
             extents-all = length-take-le len es (omega (arith, in-16)) ∙ sym front-length;
@@ -157,7 +164,7 @@ module _ (axes : List Axis) (t : ToBlock axes) where
             sides = rw block-is (sides-of-each (blockOf axes) block-sided);
             fits = rw block-is (block-front .1);
           };
-          not-one = λ q. not-one (sym n ∙ sym front-length ∙ q);
+          many = omega (arith, front-length, i .some, more);
           total-is = i .total-is ∙ ap total (sym front-is);
           span-is = i .span-is ∙ ap spanSum (sym front-is);
         }

@@ -1,5 +1,5 @@
--- The block by its size: none, crowded, two axes, three or more.
-use mathlib.Core.Path.{_≡_, refl, _∙_}
+-- The block by its size: crowded, two axes, three or more; past the search, its total.
+use mathlib.Core.Path.{_≡_, refl, sym, ap, _∙_}
 use mathlib.Core.Logic.{_≢_}
 use mathlib.Core.List.{List, [], _∷_}
 use Prim.Native.Nat.{ℕ, _-_, _≤_, _<_}
@@ -8,17 +8,14 @@ use lib.ListN.{length}
 use borrow.Author.Tests.{lt-ltb, le-ltb, le-leb, lt-leb}
 use Rattle.lists.proofs.TableLaws.{length-table}
 use Rattle.specification.specs.Tests.{sortBy}
+use Rattle.specification.specs.Axis.{product as productOf}
 use Rattle.specification.specs.Search.{ActiveAxis, total, spanSum}
-use Rattle.specification.specs.Verdict.{answered, Distinct, Repeated, Undecided, enumerated, pastSearch, longer, byMany, bySize, byBlock}
+use Rattle.specification.specs.Verdict.{answered, Repeated, Undecided, enumerated, pastSearch, longer, byMany, bySize, byBlock}
 use Rattle.specification.proofs.Digits.{product-positive}
+use Rattle.enumeration.specs.Enumeration.{Describes, Block}
 use Rattle.injectivity.specs.Axes.{axisFrom, blockFrom}
 use Rattle.injectivity.specs.Block.{Judgeable}
 use Rattle.injectivity.proofs.JudgeLaws.{lengths-positive}
-
-none-planned : (l : List ActiveAxis) → length l ≡ 0 → answered Distinct 0 ≡ byBlock l
-unfolding byBlock
-none-planned [] e = refl
-none-planned (a ∷ more) e = absurd (omega arith)
 
 crowd-planned : (l : List ActiveAxis) → 0 < length l → spanSum l < total l - 1 → answered Repeated 0 ≡ byBlock l
 unfolding byBlock
@@ -44,24 +41,25 @@ module _ (axes es ss : List ℕ) (product span : ℕ) (j : Judgeable axes es ss 
   pub total-above : 0 < product
   total-above = omega (arith, j .total-is, product-positive (lengths-positive (blockFrom axes es ss) (j .searchable .sides)))
 
-  pub no-block : length axes ≡ 0 → answered Distinct 0 ≡ byBlock (blockFrom axes es ss)
-  no-block e = none-planned (blockFrom axes es ss) (count-is ∙ e)
+  pub crowded : span < product - 1 → answered Repeated 0 ≡ byBlock (blockFrom axes es ss)
+  crowded k = crowd-planned (blockFrom axes es ss) (omega (arith, count-is, j .many)) (omega (arith, j .total-is, j .span-is))
 
-  module _ (h : length axes ≢ 0) where
-    pub crowded : span < product - 1 → answered Repeated 0 ≡ byBlock (blockFrom axes es ss)
-    crowded k = crowd-planned (blockFrom axes es ss) (omega (arith, count-is)) (omega (arith, j .total-is, j .span-is))
+  module _ (k : product - 1 ≤ span) where
+    pub sized : bySize (blockFrom axes es ss) ≡ byBlock (blockFrom axes es ss)
+    sized = size-planned (blockFrom axes es ss) (omega (arith, count-is, j .many)) (omega (arith, j .total-is, j .span-is))
 
-    module _ (k : product - 1 ≤ span) where
-      pub sized : bySize (blockFrom axes es ss) ≡ byBlock (blockFrom axes es ss)
-      sized = size-planned (blockFrom axes es ss) (omega (arith, count-is)) (omega (arith, j .total-is, j .span-is))
+    pub many : length axes ≢ 2 → byMany (blockFrom axes es ss) (sortBy longer (blockFrom axes es ss)) ≡ byBlock (blockFrom axes es ss)
+    many n = many-planned (blockFrom axes es ss) (omega (arith, count-is, j .many)) ∙ sized
 
-      pub many : length axes ≢ 2 → byMany (blockFrom axes es ss) (sortBy longer (blockFrom axes es ss)) ≡ byBlock (blockFrom axes es ss)
-      many n = many-planned (blockFrom axes es ss) (omega (arith, count-is, j .not-one)) ∙ sized
+-- past the search, a block of these extents and strides
+module _ (es ss : List ℕ) (product span : ℕ) (k : Block es ss product span) (block : List ActiveAxis) (d : Describes es ss block) where
+  total-is : product ≡ total block
+  total-is = k .total-is ∙ ap productOf (k .described .extents-are ∙ sym (d .extents-are))
 
-  pub enumerable : product ≤ 16777216 → enumerated (blockFrom axes es ss) ≡ pastSearch (blockFrom axes es ss)
+  pub enumerable : product ≤ 16777216 → enumerated block ≡ pastSearch block
   unfolding pastSearch
-  enumerable h = rw (le-leb (total (blockFrom axes es ss)) 16777216 (omega (arith, j .total-is)))
+  enumerable h = rw (le-leb (total block) 16777216 (omega (arith, total-is)))
 
-  pub past-both : 16777216 < product → answered Undecided 0 ≡ pastSearch (blockFrom axes es ss)
+  pub past-both : 16777216 < product → answered Undecided 0 ≡ pastSearch block
   unfolding pastSearch
-  past-both h = rw (lt-leb (total (blockFrom axes es ss)) 16777216 (omega (arith, j .total-is)))
+  past-both h = rw (lt-leb (total block) 16777216 (omega (arith, total-is)))

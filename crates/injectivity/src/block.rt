@@ -1,7 +1,8 @@
 // Step 3: the block of small-stride axes whose spans reach into each other.
-ghost use Prim.Native.Nat.{_≤_};
+ghost use mathlib.Core.List.{List};
+ghost use Prim.Native.Nat.{ℕ, _≤_};
 ghost use Rattle.injectivity.specs.Axes.{axesFrom};
-ghost use Rattle.injectivity.specs.Block.{WithinWords, Interleaved};
+ghost use Rattle.injectivity.specs.Block.{WithinWords, BlockFound};
 
 // How many of the sorted axes are in the block, the product of their extents, and the sum of their absolute spans.
 pub struct InterleavedBlock {
@@ -10,20 +11,18 @@ pub struct InterleavedBlock {
     pub span: u64,
 }
 
-// Of sorted axes, those up to the last whose absolute stride is at most the sum of absolute spans before it; none where every
-// axis is separated.
-pub fn interleaved_block(
-    count: usize,
-    axes: &[usize; 16],
-    extents: &[u64; 16],
-    strides: &[u64; 16],
-) -> InterleavedBlock
-    requires { ⌜ (count ≤ 16) × WithinWords (axesFrom count (now axes) (now extents) (now strides)) ⌝ }
-    ensures { λ r. ⌜ Interleaved count (now (axes .entry)) (now (extents .entry)) (now (strides .entry)) r ⌝ }
+// No block, where every axis is separated, or the block.
+pub enum Interleaved {
+    NoBlock,
+    Block(InterleavedBlock),
+}
+
+// Of sorted axes, those up to the last whose absolute stride is at most the sum of absolute spans before it.
+pub fn interleaved_block(count: usize, extents: &[u64; 16], strides: &[u64; 16]) -> Interleaved
+    requires { ⌜ (count ≤ 16) × ((axes : List ℕ) → WithinWords (axesFrom count axes (now extents) (now strides))) ⌝ }
+    ensures { λ r. ⌜ ((axes : List ℕ) → BlockFound count axes (now (extents .entry)) (now (strides .entry)) r) ⌝ }
 {
-    let mut len: usize = 0;
-    let mut total: u64 = 1;
-    let mut span: u64 = 0;
+    let mut found = Interleaved::NoBlock;
     let mut covered_total: u64 = 1;
     let mut covered_span: u64 = 0;
     let mut i: usize = 0;
@@ -37,14 +36,12 @@ pub fn interleaved_block(
             i += 1;
         } else {
             i += 1;
-            len = i;
-            total = covered_total;
-            span = covered_span;
+            found = Interleaved::Block(InterleavedBlock {
+                len: i,
+                total: covered_total,
+                span: covered_span,
+            });
         }
     }
-    InterleavedBlock {
-        len: len,
-        total: total,
-        span: span,
-    }
+    found
 }

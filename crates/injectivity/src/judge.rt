@@ -2,15 +2,16 @@
 ghost use mathlib.Core.Path.{_≡_};
 ghost use Prim.Native.Nat.{_<_};
 ghost use lib.ListN.{length};
-ghost use Rattle.specification.specs.Tests.{if_then_else_, sortBy};
-ghost use Rattle.specification.specs.Verdict.{answered, Distinct, Repeated, enumerated, longer, pastSearch, byMany, byBlock, bySize, carryOut};
+ghost use Rattle.specification.specs.Tests.{sortBy};
+ghost use Rattle.specification.specs.Verdict.{enumerated, longer, pastSearch, byMany, byBlock, carryOut};
+ghost use Rattle.enumeration.specs.Enumeration.{Block};
 ghost use Rattle.search.specs.Block.{planOf};
 ghost use Rattle.injectivity.specs.Axes.{blockFrom};
-ghost use Rattle.injectivity.specs.Block.{Searchable, Judgeable};
+ghost use Rattle.injectivity.specs.Block.{Searchable, Judgeable, JudgedByPlan};
 ghost use Rattle.injectivity.specs.Judgement.{JudgedAs};
 use crate::Judgement;
 use crate::axes::sort_by_axis;
-use enumeration::Answer;
+use enumeration::Enumerated;
 use enumeration::enumerate;
 use search::Searched;
 use search::search_block;
@@ -19,14 +20,6 @@ use view::layout::Refusal;
 
 // The largest total that is enumerated. It bounds the words needed, by 16,777,217.
 const EXACT_BLOCK_BUDGET: u64 = 16777216;
-
-// Step 4.
-fn two_axes_are_apart(axes: &[usize], extents: &[u64], strides: &[u64]) -> bool
-    requires { ⌜ Searchable (now axes) (now extents) (now strides) × (length (now axes) ≡ 2) ⌝ }
-    ensures { λ r. ⌜ bySize (blockFrom (now (axes .entry)) (now (extents .entry)) (now (strides .entry))) ≡ (if r then answered Distinct 0 else answered Repeated 0) ⌝ }
-{
-    two_axis_block_is_injective(extents[0], strides[0], extents[1], strides[1])
-}
 
 // Step 5, on the axes in axis order.
 fn block_differences_avoid_zero(axes: &[usize], extents: &[u64], strides: &[u64]) -> Searched
@@ -50,38 +43,36 @@ fn block_differences_avoid_zero(axes: &[usize], extents: &[u64], strides: &[u64]
 
 // Step 6 within its budget, on the axes in the order of sorting.
 fn block_offsets_unique(
-    axes: &[usize],
     extents: &[u64],
     strides: &[u64],
     total: u64,
     span: u64,
     scratch: &mut [u64],
 ) -> Judgement
-    requires { ⌜ Judgeable (now axes) (now extents) (now strides) total span ⌝ }
-    ensures { λ r. ⌜ JudgedAs (carryOut (length (now (scratch .entry))) (enumerated (blockFrom (now (axes .entry)) (now (extents .entry)) (now (strides .entry))))) (now (scratch .entry)) (now (scratch .exit)) r ⌝ }
+    requires { ⌜ Block (now extents) (now strides) total span ⌝ }
+    ensures { λ r. ⌜ JudgedByPlan enumerated (now (extents .entry)) (now (strides .entry)) (now (scratch .entry)) (now (scratch .exit)) r ⌝ }
 {
     let answer = enumerate(extents, strides, total, span, scratch);
     match answer {
-        Answer::Distinct => Judgement::Distinct(0),
-        Answer::Repeated => Judgement::Repeated(0),
-        Answer::Short(words) => Judgement::Refused(Refusal::ShortScratch(words as usize)),
+        Enumerated::Distinct => Judgement::Distinct(0),
+        Enumerated::Repeated => Judgement::Repeated(0),
+        Enumerated::Short(words) => Judgement::Refused(Refusal::ShortScratch(words as usize)),
     }
 }
 
 // Past the budget of step 5.
 fn judge_past_search(
-    axes: &[usize],
     extents: &[u64],
     strides: &[u64],
     total: u64,
     span: u64,
     scratch: &mut [u64],
 ) -> Judgement
-    requires { ⌜ Judgeable (now axes) (now extents) (now strides) total span ⌝ }
-    ensures { λ r. ⌜ JudgedAs (carryOut (length (now (scratch .entry))) (pastSearch (blockFrom (now (axes .entry)) (now (extents .entry)) (now (strides .entry))))) (now (scratch .entry)) (now (scratch .exit)) r ⌝ }
+    requires { ⌜ Block (now extents) (now strides) total span ⌝ }
+    ensures { λ r. ⌜ JudgedByPlan pastSearch (now (extents .entry)) (now (strides .entry)) (now (scratch .entry)) (now (scratch .exit)) r ⌝ }
 {
     if total <= EXACT_BLOCK_BUDGET {
-        block_offsets_unique(axes, extents, strides, total, span, scratch)
+        block_offsets_unique(extents, strides, total, span, scratch)
     } else {
         Judgement::Undecided
     }
@@ -96,19 +87,19 @@ fn judge_many(
     span: u64,
     scratch: &mut [u64],
 ) -> Judgement
-    requires { ⌜ Judgeable (now axes) (now extents) (now strides) total span × (1 < length (now axes)) ⌝ }
+    requires { ⌜ Judgeable (now axes) (now extents) (now strides) total span ⌝ }
     ensures { λ r. ⌜ JudgedAs (carryOut (length (now (scratch .entry))) (byMany (blockFrom (now (axes .entry)) (now (extents .entry)) (now (strides .entry))) (sortBy longer (blockFrom (now (axes .entry)) (now (extents .entry)) (now (strides .entry)))))) (now (scratch .entry)) (now (scratch .exit)) r ⌝ }
 {
     let found = block_differences_avoid_zero(axes, extents, strides);
     match found {
         Searched::Repeated(count) => Judgement::Repeated(count),
         Searched::Distinct(count) => Judgement::Distinct(count),
-        Searched::PastBudget => { judge_past_search(axes, extents, strides, total, span, scratch) }
+        Searched::PastBudget => judge_past_search(extents, strides, total, span, scratch),
     }
 }
 
-// The block judged: none is Distinct, two axes are step 4. Sums go from 0 to the span: more positions than that are crowded,
-// and some two of them share one.
+// The block judged: two axes are step 4. Sums go from 0 to the span: more positions than that are crowded, and some two of
+// them share one.
 pub fn judge_block(
     axes: &[usize],
     extents: &[u64],
@@ -120,14 +111,11 @@ pub fn judge_block(
     requires { ⌜ Judgeable (now axes) (now extents) (now strides) total span ⌝ }
     ensures { λ r. ⌜ JudgedAs (carryOut (length (now (scratch .entry))) (byBlock (blockFrom (now (axes .entry)) (now (extents .entry)) (now (strides .entry))))) (now (scratch .entry)) (now (scratch .exit)) r ⌝ }
 {
-    if axes.len() == 0 {
-        return Judgement::Distinct(0);
-    }
     if span < total - 1 {
         return Judgement::Repeated(0);
     }
     if axes.len() == 2 {
-        if two_axes_are_apart(axes, extents, strides) {
+        if two_axis_block_is_injective(extents[0], strides[0], extents[1], strides[1]) {
             return Judgement::Distinct(0);
         }
         return Judgement::Repeated(0);

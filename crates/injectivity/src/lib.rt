@@ -9,6 +9,7 @@ ghost use Rattle.specification.specs.Verdict.{verdict};
 ghost use Rattle.injectivity.specs.Inputs.{LeftToBlock};
 ghost use Rattle.injectivity.specs.Judgement.{JudgedAs};
 use axes::sort_by_stride;
+use block::Interleaved;
 use block::interleaved_block;
 use inputs::Inputs;
 use inputs::validate_injective_layout_inputs;
@@ -23,7 +24,7 @@ pub enum Judgement {
     Refused(Refusal),
 }
 
-// Steps 3 to 6 of a layout that steps 1 and 2 leave to them.
+// Steps 3 to 6 of a layout that steps 1 and 2 leave to them. No block is Distinct: every axis is separated.
 fn judge_active_axes(extents: &[u64], strides: &[i64], scratch: &mut [u64]) -> Judgement
     requires { ⌜ LeftToBlock (now extents) (now strides) ⌝ }
     ensures { λ r. ⌜ JudgedAs (verdict (now (extents .entry)) (now (strides .entry)) (length (now (scratch .entry)))) (now (scratch .entry)) (now (scratch .exit)) r ⌝ }
@@ -38,7 +39,10 @@ fn judge_active_axes(extents: &[u64], strides: &[i64], scratch: &mut [u64]) -> J
         &mut sorted_extents,
         &mut sorted_strides,
     );
-    let block = interleaved_block(count, &sorted_axes, &sorted_extents, &sorted_strides);
+    let found = interleaved_block(count, &sorted_extents, &sorted_strides);
+    let Interleaved::Block(block) = found else {
+        return Judgement::Distinct(0);
+    };
     let len = block.len;
     judge_block(
         &sorted_axes[..len],

@@ -18,6 +18,7 @@ use Rattle.odometer.specs.Odometer.{dot, strides}
 use Rattle.walk.specs.Walk.{axisWith, axesWith, middleOf, Small, Room, halfOf, hits, hitAfter, foundOf}
 use Rattle.walk.specs.declared.TwoAxes.{TwoAxes}
 use Rattle.walk.specs.declared.Found.{Found}
+use Rattle.walk.specs.declared.Found.the-variants.{At, Nowhere}
 use Rattle.walk.proofs.AxisLaws.{half-twice}
 use Rattle.search.specs.Longest.{FirstLongest, removeAt}
 use Rattle.search.specs.Block.{Blocked, planOf, searchedOr, AnswersBlocks}
@@ -108,21 +109,21 @@ module _ (a b : ActiveAxis) (es ss : List ℕ) (e : length ss ≡ length es) (p 
           ap (λ (t : Bool). if t then placed (axesWith es ss) (firstOf (hit a b (axesWith es ss)) (half (axesWith es ss)) 1) else answered isRepeated 0) m
           ∙ ap (λ (o : Option ℕ). placed (axesWith es ss) o) (sym same-first)
 
-      pub walk-found : f .found ≡ true → Answers (Repeated (f .count)) a b (axesWith es ss)
+      pub walk-found : (n : ℕ) → f ≡ At n → Answers (Repeated n) a b (axesWith es ss)
       unfolding placed
-      walk-found y past = sym (within-budget past ∙ searched-is ∙ go (hitAfter t es ss 0) w)
+      walk-found n y past = sym (within-budget past ∙ searched-is ∙ go (hitAfter t es ss 0) (sym y ∙ w))
         where
-          go : (o : Option ℕ) → f ≡ foundOf (halfOf es ss) o → placed (axesWith es ss) o ≡ answered isRepeated (f .count)
-          go none q = absurd (let z : false ≡ true = sym (ap (λ (x : Found). x .found) q) ∙ y in let k : _≡_ {A = ℕ} 0 1 = cc in omega arith)
-          go (some c) q = ap (answered isRepeated) (sym (ap (λ (x : Found). x .count) q))
+          go : (o : Option ℕ) → At n ≡ foundOf (halfOf es ss) o → placed (axesWith es ss) o ≡ answered isRepeated n
+          go none q = absurd (let k : _≡_ {A = ℕ} 0 1 = cc in omega arith)
+          go (some c) q = ap (answered isRepeated) (let k : c ≡ n = cc in k)
 
-      pub walk-ended : f .found ≡ false → Answers (Distinct (f .count)) a b (axesWith es ss)
+      pub walk-ended : (n : ℕ) → f ≡ Nowhere n → Answers (Distinct n) a b (axesWith es ss)
       unfolding placed
-      walk-ended y past = sym (within-budget past ∙ searched-is ∙ go (hitAfter t es ss 0) w)
+      walk-ended n y past = sym (within-budget past ∙ searched-is ∙ go (hitAfter t es ss 0) (sym y ∙ w))
         where
-          go : (o : Option ℕ) → f ≡ foundOf (halfOf es ss) o → placed (axesWith es ss) o ≡ answered isDistinct (f .count)
-          go none q = ap (answered isDistinct) (sym (ap (λ (x : Found). x .count) q))
-          go (some c) q = absurd (let z : true ≡ false = sym (ap (λ (x : Found). x .found) q) ∙ y in let k : _≡_ {A = ℕ} 0 1 = cc in omega arith)
+          go : (o : Option ℕ) → Nowhere n ≡ foundOf (halfOf es ss) o → placed (axesWith es ss) o ≡ answered isDistinct n
+          go none q = ap (answered isDistinct) (let k : halfOf es ss ≡ n = cc in k)
+          go (some c) q = absurd (let k : _≡_ {A = ℕ} 0 1 = cc in omega arith)
 
 -- ---- a block, in whatever order
 

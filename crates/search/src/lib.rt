@@ -84,11 +84,10 @@ fn search_two(d1: u64, s1: u64, d2: u64, s2: u64, extents: &[u64], strides: &[u6
     }
     let two = set_up::couple(d1, s1, d2, s2, g);
     let end = set_up::walk_others(two, half, extents, strides);
-    let count = end.count;
-    if end.found {
-        return Searched::Repeated(count);
+    match end {
+        walk::Found::At(count) => Searched::Repeated(count),
+        walk::Found::Nowhere(count) => Searched::Distinct(count),
     }
-    Searched::Distinct(count)
 }
 
 // The first place of the largest number.

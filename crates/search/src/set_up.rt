@@ -131,7 +131,7 @@ fn set_up_and_walk(
     walk::walk_all(two, half, extents, strides, zs, zb, qs, qb, digits)
 }
 
-// The same with room for 16 axes.
+// The walk over the others, with room of its own for 16 axes.
 pub fn walk_others(two: walk::TwoAxes, half: u64, extents: &[u64], strides: &[u64]) -> walk::Found
     requires { ⌜ Ready two × Room two (now extents) (now strides) × (half ≡ halfOf (now extents) (now strides)) × (length (now extents) ≤ 16) ⌝ }
     ensures { λ r. ⌜ r ≡ foundOf (halfOf (now (extents .entry)) (now (strides .entry))) (hitAfter two (now (extents .entry)) (now (strides .entry)) 0) ⌝ }

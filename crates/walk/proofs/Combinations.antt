@@ -76,7 +76,7 @@ module _ (a b X Y inverse τ κ : ℕ) (inverse-is : Congruent b 1 (inverse * a)
       let b-above : 0 < b = omega arith in
       ((Y * b - (τ + (b - κ) * a)) / b, le-of-mul-le-mul-right l b-above, omega (arith, m))
 
--- ---- the same times g
+-- ---- strides with a common divisor g
 module _ (A X B Y g a inverse w t k : ℕ) (C : Coupled A X B g a inverse w) where
   pub combination-divides : Combination A X B Y t → t % g ≡ 0
   combination-divides s =

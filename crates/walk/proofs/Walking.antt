@@ -20,6 +20,10 @@ use Rattle.odometer.proofs.OrderLaws.{digits-after, digits-within}
 use Rattle.walk.specs.Equation.{Tells}
 use Rattle.walk.specs.Walk.{first, second, axesWith, halfOf, hits, widthsOf, middleOf, Ready, Room, Steps, Moves, Stands, Question, hitAfter, Reached, foundOf}
 use Rattle.walk.specs.declared.TwoAxes.{TwoAxes}
+use Rattle.walk.specs.declared.Place.{Place}
+use Rattle.walk.specs.declared.Walked.{Walked}
+use Rattle.walk.specs.declared.Walked.the-variants.{Completed, Stopped}
+use Rattle.walk.specs.declared.Found.the-variants.{At, Nowhere}
 use Rattle.walk.proofs.AxisLaws.{widths-with, widths-positive, digits-length, half-place, middle-within}
 use Rattle.walk.proofs.ResidueLaws.{window-below}
 
@@ -149,13 +153,9 @@ module _ (t : TwoAxes) (es ss zs zb qs qb : List ℕ) (i : ℕ) (x : List ℕ) (
   stands-next = stands-more t es ss zs zb qs qb x x′ z q z′ q′ (w .room) (w .z-steps) (w .q-steps) (w .stands)
       (subst⁻¹ (λ (y : List ℕ). IndexVector (widthsOf es) y) at-next (digits-within (widths-positive (w .room .positive)) (halfOf es ss + (n + 1)))) mz mq
 
-  pub walk-yes : (r : Bool) (stop : ℕ) → Tells r (Question t es ss x′) → r ≡ true → n < stop → stop ≤ halfOf es ss → Reached t es ss i stop x′ true (n + 1) z′ q′
-  walk-yes r stop f y h l = record {
-    from = omega (arith, w .from);
-    to = omega arith;
-    yes = λ _. (omega (arith, w .from), sym (w .so) ∙ after-yes t es ss n (omega arith) (asked t es ss (n + 1) x′ r (w .room .one-length) at-next f ∙ y));
-    no = λ e. absurd (let z : _≡_ {A = ℕ} 0 1 = cc in omega arith);
-  }
+  pub walk-yes : (r : Bool) (stop : ℕ) → Tells r (Question t es ss x′) → r ≡ true → n < stop → stop ≤ halfOf es ss → Reached t es ss i stop x′ (Completed (n + 1))
+  walk-yes r stop f y h l =
+      (omega (arith, w .from), omega arith, sym (w .so) ∙ after-yes t es ss n (omega arith) (asked t es ss (n + 1) x′ r (w .room .one-length) at-next f ∙ y))
 
   pub walk-on : (r : Bool) → Tells r (Question t es ss x′) → r ≡ false → n < halfOf es ss → Walking t es ss zs zb qs qb i x′ (n + 1) z′ q′
   walk-on r f y h = record {
@@ -170,13 +170,10 @@ module _ (t : TwoAxes) (es ss zs zb qs qb : List ℕ) (i : ℕ) (x : List ℕ) (
     so = sym (after-no t es ss n h (asked t es ss (n + 1) x′ r (w .room .one-length) at-next f ∙ y)) ∙ w .so;
   }
 
-pub walk-over : (t : TwoAxes) (es ss zs zb qs qb : List ℕ) (i : ℕ) (x : List ℕ) (n z q stop : ℕ) → Walking t es ss zs zb qs qb i x n z q → n ≡ stop → Reached t es ss i stop x false stop z q
-walk-over t es ss zs zb qs qb i x n z q stop w e = record {
-  from = omega (arith, w .from);
-  to = omega arith;
-  yes = λ f. absurd (let z : _≡_ {A = ℕ} 0 1 = cc in omega arith);
-  no = λ _. (refl, w .at ∙ ap (λ (k : ℕ). indexAt (widthsOf es) (halfOf es ss + k)) e, w .stands, sym (ap (λ (k : ℕ). hitAfter t es ss k) e) ∙ w .so);
-}
+pub walk-over : (t : TwoAxes) (es ss zs zb qs qb : List ℕ) (i : ℕ) (x : List ℕ) (n z q stop : ℕ) → Walking t es ss zs zb qs qb i x n z q → n ≡ stop
+    → Reached t es ss i stop x (Stopped (record { count = n; z = z; q = q }))
+walk-over t es ss zs zb qs qb i x n z q stop w e =
+    (e, w .at ∙ ap (λ (k : ℕ). indexAt (widthsOf es) (halfOf es ss + k)) e, w .stands, sym (ap (λ (k : ℕ). hitAfter t es ss k) e) ∙ w .so)
 
 -- ---- the start, and the whole walk
 
@@ -194,13 +191,11 @@ start-stands t es ss x r p e = subst⁻¹ (λ (y : List ℕ). Stands t es ss y (
   q-is = record { p = 0; q = 0; eq = omega arith };
 })
 
-pub whole-yes : (t : TwoAxes) (es ss x : List ℕ) (h : ℕ) (f : Bool) (n z q : ℕ) → Reached t es ss 0 h x f n z q → f ≡ true
-    → record { found = true; count = n } ≡ foundOf (halfOf es ss) (hitAfter t es ss 0)
-whole-yes t es ss x h f n z q r e = sym (ap (λ (o : Option ℕ). foundOf (halfOf es ss) o) (r .yes e .1))
+module _ (t : TwoAxes) (es ss x : List ℕ) (h : ℕ) (r : Walked) (w : Reached t es ss 0 h x r) where
+  pub whole-yes : (n : ℕ) → r ≡ Completed n → At n ≡ foundOf (halfOf es ss) (hitAfter t es ss 0)
+  whole-yes n e = sym (ap (λ (o : Option ℕ). foundOf (halfOf es ss) o) (subst (Reached t es ss 0 h x) e w .2))
 
-pub whole-no : (t : TwoAxes) (es ss x : List ℕ) (h : ℕ) (f : Bool) (n z q : ℕ) → h ≡ halfOf es ss → Reached t es ss 0 h x f n z q → f ≡ false
-    → record { found = false; count = h } ≡ foundOf (halfOf es ss) (hitAfter t es ss 0)
-whole-no t es ss x h f n z q e r g =
-    let w = r .no g in
-    ap (λ (k : ℕ). record { found = false; count = k }) e
-    ∙ ap (λ (o : Option ℕ). foundOf (halfOf es ss) o) (sym (after-all t es ss n (omega (arith, w .0, e))) ∙ w .3)
+  pub whole-no : (at : Place) → r ≡ Stopped at → h ≡ halfOf es ss → Nowhere (at .count) ≡ foundOf (halfOf es ss) (hitAfter t es ss 0)
+  whole-no at e k =
+      let v = subst (Reached t es ss 0 h x) e w in
+      ap Nowhere (v .0 ∙ k) ∙ ap (λ (o : Option ℕ). foundOf (halfOf es ss) o) (sym (after-all t es ss h (omega arith)) ∙ v .3)

@@ -1,7 +1,7 @@
 -- The walk of step 5: the axes it goes over, where it stands, and what it comes to.
 -- es and ss are the extents and absolute strides of the others, in axis order; x are digits, one for each of them.
 use mathlib.Core.Path.{_≡_}
-use mathlib.Core.Bool.{Bool, true, false}
+use mathlib.Core.Bool.{Bool}
 use mathlib.Core.Option.{Option, some, none}
 use mathlib.Core.List.{List, [], _∷_}
 use Prim.Native.Nat.{ℕ, suc, _+_, _*_, _-_, _^_, _<_, _≤_}
@@ -15,7 +15,10 @@ use Rattle.specification.proofs.Digits.{PositiveExtents}
 use Rattle.odometer.specs.Odometer.{dot}
 use Rattle.walk.specs.Equation.{Coupled}
 use Rattle.walk.specs.declared.TwoAxes.{TwoAxes}
+use Rattle.walk.specs.declared.Walked.{Walked}
+use Rattle.walk.specs.declared.Walked.the-variants.{Completed, Stopped}
 use Rattle.walk.specs.declared.Found.{Found}
+use Rattle.walk.specs.declared.Found.the-variants.{At, Nowhere}
 
 -- ---- the axes, by their extents and strides
 
@@ -106,7 +109,7 @@ pub record Parts (es ss x : List ℕ) (up down : ℕ) : Type 0 where
 abbrev pub Question : TwoAxes → List ℕ → List ℕ → List ℕ → Type 0
 Question t es ss x = Completes (first t) (second t) (differenceSum (axesWith es ss) (fromDigits (axesWith es ss) x))
 
--- the same of the vector in place c, as the definitions ask it
+-- whether some difference completes the vector in place c, as the definitions ask it
 abbrev pub hits : TwoAxes → List ℕ → List ℕ → ℕ → Bool
 hits t es ss = hit (first t) (second t) (axesWith es ss)
 
@@ -118,14 +121,16 @@ halfOf es ss = half (axesWith es ss)
 abbrev pub hitAfter : TwoAxes → List ℕ → List ℕ → ℕ → Option ℕ
 hitAfter t es ss n = firstOf (hits t es ss) (halfOf es ss - n) (suc n)
 
--- the walk went on from i, to a vector n that is completed or to the stop; from there it can go on
-pub record Reached (t : TwoAxes) (es ss : List ℕ) (i stop : ℕ) (x : List ℕ) (found : Bool) (n z q : ℕ) : Type 0 where
-  pub from : i ≤ n
-  pub to : n ≤ stop
-  pub yes : found ≡ true → (i < n) × (hitAfter t es ss i ≡ some n)
-  pub no : found ≡ false → (n ≡ stop) × (x ≡ indexAt (widthsOf es) (halfOf es ss + n)) × Stands t es ss x z q × (hitAfter t es ss n ≡ hitAfter t es ss i)
+-- the walk went on from i vectors to the first that is completed, or to the stop with none; from there it can go on
+abbrev pub Reached : TwoAxes → List ℕ → List ℕ → ℕ → ℕ → List ℕ → Walked → Type 0
+Reached t es ss i stop x (Completed n) = (i < n) × (n ≤ stop) × (hitAfter t es ss i ≡ some n)
+Reached t es ss i stop x (Stopped at) =
+    (at .count ≡ stop)
+    × (x ≡ indexAt (widthsOf es) (halfOf es ss + stop))
+    × Stands t es ss x (at .z) (at .q)
+    × (hitAfter t es ss stop ≡ hitAfter t es ss i)
 
--- the count of a whole walk: the place, else half
+-- what a whole walk comes to: the place, else nowhere among half
 abbrev pub foundOf : ℕ → Option ℕ → Found
-foundOf h none = record { found = false; count = h }
-foundOf h (some n) = record { found = true; count = n }
+foundOf h none = Nowhere h
+foundOf h (some n) = At n

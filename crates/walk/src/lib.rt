@@ -35,18 +35,23 @@ struct Residues {
     pub q: u64,
 }
 
-// Where a walk has come to, beside its digits: at a vector that is completed, or at a place to go on from.
+// A place to go on from, beside the digits there: how many vectors were looked at, and the residues of the sum.
 pub struct Place {
-    pub found: bool,
     pub count: u64,
     pub z: u64,
     pub q: u64,
 }
 
-// What a whole walk comes to: whether some vector is completed, and how many were looked at.
-pub struct Found {
-    pub found: bool,
-    pub count: u64,
+// What a walk comes to: a vector that is completed, with how many were looked at, or the place where it stops.
+pub enum Walked {
+    Completed(u64),
+    Stopped(Place),
+}
+
+// What a whole walk comes to, with how many vectors were looked at: the last of them is completed, or none is.
+pub enum Found {
+    At(u64),
+    Nowhere(u64),
 }
 
 // Whether the difference k / g of the first axis leaves a multiple of b that the second axis has; yb is y b.
@@ -191,9 +196,9 @@ pub fn walk_to(
     digits: &mut [u64],
     start: Place,
     stop: u64,
-) -> Place
+) -> Walked
     requires { ⌜ Ready two × Room two (now extents) (now strides) × Steps (two .b) (two .inverse) (now extents) (now strides) (now zs) (now zb) × Steps (two .g) 1 (now extents) (now strides) (now qs) (now qb) × (start .count ≤ stop) × (stop ≤ halfOf (now extents) (now strides)) × (now digits ≡ indexAt (widthsOf (now extents)) (halfOf (now extents) (now strides) + start .count)) × Stands two (now extents) (now strides) (now digits) (start .z) (start .q) ⌝ }
-    ensures { λ r. ⌜ Reached two (now (extents .entry)) (now (strides .entry)) (start .count) stop (now (digits .exit)) (r .found) (r .count) (r .z) (r .q) ⌝ }
+    ensures { λ r. ⌜ Reached two (now (extents .entry)) (now (strides .entry)) (start .count) stop (now (digits .exit)) r ⌝ }
 {
     let b = two.b;
     let g = two.g;
@@ -206,20 +211,14 @@ pub fn walk_to(
         q = s.q;
         n += 1;
         if completes(two, extents, strides, digits, z, q) {
-            return Place {
-                found: true,
-                count: n,
-                z: z,
-                q: q,
-            };
+            return Walked::Completed(n);
         }
     }
-    Place {
-        found: false,
-        count: stop,
+    Walked::Stopped(Place {
+        count: n,
         z: z,
         q: q,
-    }
+    })
 }
 
 // The whole walk, from the digits of no difference.
@@ -239,21 +238,13 @@ pub fn walk_all(
 {
     let window = two.window;
     let start = Place {
-        found: false,
         count: 0,
         z: window,
         q: 0,
     };
     let end = walk_to(two, extents, strides, zs, zb, qs, qb, digits, start, half);
-    let n = end.count;
-    if end.found {
-        return Found {
-            found: true,
-            count: n,
-        };
-    }
-    Found {
-        found: false,
-        count: half,
+    match end {
+        Walked::Completed(count) => Found::At(count),
+        Walked::Stopped(place) => Found::Nowhere(place.count),
     }
 }

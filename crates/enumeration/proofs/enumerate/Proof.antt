@@ -1,8 +1,9 @@
 -- `enumerate` meets its contract: each of its three ends gives the answer that the verdict defines.
 use borrow.Author.Needs.{needs}
-use mathlib.Core.Path.{sym, _∙_}
+use mathlib.Core.Path.{sym}
 use native.Mathlib.Omega.{arith}
 use lib.Seq.{length-take-le}
+use Rattle.enumeration.proofs.BlockParts.{words-above, whole}
 use Rattle.enumeration.proofs.Answers.{enumerated-short, enumerated-repeated, enumerated-distinct}
 use Rattle.enumeration.proofs.enumerate.Statement.{statement}
 use Rattle.enumeration.proofs.enumerate.Tie as tie
@@ -22,7 +23,11 @@ slice-aggregate-has-equal-sums : tie.Need-slice-aggregate-has-equal-sums
 slice-aggregate-has-equal-sums c = sym (length-take-le _ _ (omega arith))
 
 has-equal-sums-requires : tie.Need-has-equal-sums-requires
-has-equal-sums-requires c κs = (c .before .before .before .before .before .before .pre, length-take-le _ _ (c .before .if1 .left) ∙ c .before .before .words-needed .ensures)
+has-equal-sums-requires c κs =
+    let s = c .before .before .before .before .before .before in
+    let w = c .before .before .words-needed in
+    let l = length-take-le (w .result) (s .args .scratch .now) (c .before .if1 .left) in
+    (whole _ _ _ _ (s .pre) (omega (arith, s .fits .span .fits)), omega (arith, l, w .ensures, words-above _ _ _ _ (s .pre)))
 
 same-length : tie.Need-same-length
 same-length c = search needs
@@ -32,7 +37,7 @@ returns-2 c =
     let s = c .before .before .before .before .before .before .before .before .before .before in
     let w = c .before .before .before .before .before .before .words-needed in
     let r = c .before .before .before .has-equal-sums in
-    enumerated-repeated _ _ _ _ (s .pre) _ (w .ensures) _ (c .before .before .before .before .before .if1 .left) (r .last .1 .1 .1 .1 .0) (r .kept .1 .1 .1 .1 .0) _ (r .ensures) (c .if2 .taken)
+    enumerated-repeated _ _ _ _ (s .pre) _ (w .ensures) _ (c .before .before .before .before .before .if1 .left) (r .last .1 .1 .0) (r .kept .1 .1 .0) _ (r .ensures) (c .if2 .taken)
 
 same-length-2 : tie.Need-same-length-2
 same-length-2 c = search needs
@@ -42,7 +47,7 @@ returns-3 c =
     let s = c .before .before .before .before .before .before .before .before .before .before in
     let w = c .before .before .before .before .before .before .words-needed in
     let r = c .before .before .before .has-equal-sums in
-    enumerated-distinct _ _ _ _ (s .pre) _ (w .ensures) _ (c .before .before .before .before .before .if1 .left) (r .last .1 .1 .1 .1 .0) (r .kept .1 .1 .1 .1 .0) _ (r .ensures) (c .if2 .left)
+    enumerated-distinct _ _ _ _ (s .pre) _ (w .ensures) _ (c .before .before .before .before .before .if1 .left) (r .last .1 .1 .0) (r .kept .1 .1 .0) _ (r .ensures) (c .if2 .left)
 
 pub enumerate-spec : {M : Type 1} → statement M
 enumerate-spec =

@@ -1,4 +1,4 @@
--- `has_equal_sums` meets its contract: the block's axes are split, and the parts meet in the words that there are.
+-- `has_equal_sums` meets its contract: the axes are split, and the parts meet in the words that there are.
 use borrow.Author.Needs.{needs}
 use Prim.Native.Nat.{_*_, _-_}
 use mathlib.Core.Path.{sym}
@@ -6,14 +6,14 @@ use native.Mathlib.Omega.{arith}
 use lib.Seq.{length-take-le}
 use Rattle.differences.proofs.NumberLaws.{box-positive}
 use Rattle.enumeration.proofs.PartLaws.{positive-take}
-use Rattle.enumeration.proofs.BlockParts.{words-above, strides-length, first-part, second-part, meets-clash}
+use Rattle.enumeration.proofs.BlockParts.{first-part, second-part, meets-clash}
 use Rattle.enumeration.proofs.has_equal_sums.Statement.{statement}
 use Rattle.enumeration.proofs.has_equal_sums.Tie as tie
 
 split-axes-requires : tie.Need-split-axes-requires
 split-axes-requires c κs =
     let s = c .before .before .before in
-    (s .pre .0 .positive, omega (arith, s .pre .1, words-above _ _ _ _ (s .pre .0)))
+    (s .pre .0 .sums .positive, s .pre .1)
 
 mul-room : tie.Need-mul-room
 mul-room c = search needs
@@ -21,7 +21,7 @@ mul-room c = search needs
 sub-room : tie.Need-sub-room
 sub-room c =
     let s = c .before .before .before .before in
-    omega (arith, c .split-axes .ensures .vectors-are, box-positive (positive-take (s .pre .0 .positive) (c .split-axes .result .place)))
+    omega (arith, c .split-axes .ensures .vectors-are, box-positive (positive-take (s .pre .0 .sums .positive) (c .split-axes .result .place)))
 
 slice-aggregate-meet : tie.Need-slice-aggregate-meet
 slice-aggregate-meet c = sym (length-take-le _ _ (c .before .split-axes .ensures .within))
@@ -30,7 +30,7 @@ slice-aggregate-meet-2 : tie.Need-slice-aggregate-meet-2
 slice-aggregate-meet-2 c =
     let s = c .before .before .before .before .before .before in
     let p = c .before .before .split-axes .ensures in
-    sym (length-take-le _ _ (omega (arith, p .within, strides-length _ _ _ _ (s .pre .0) (omega (arith, s .fits .span .fits)))))
+    sym (length-take-le _ _ (omega (arith, p .within, s .pre .0 .sums .one-length)))
 
 mul-meet : tie.Need-mul-meet
 mul-meet c = search needs
@@ -51,13 +51,13 @@ sub-meet-2 : tie.Need-sub-meet-2
 sub-meet-2 c =
     let s = c .before .before .before .before .before .before .before in
     let p = c .before .before .before .split-axes .ensures in
-    omega (arith, p .within, strides-length _ _ _ _ (s .pre .0) (omega (arith, s .fits .span .fits)))
+    omega (arith, p .within, s .pre .0 .sums .one-length)
 
 part-meet-start-2 : tie.Need-part-meet-start-2
 part-meet-start-2 c =
     let s = c .before .before .before .before .before .before .before in
     let p = c .before .before .before .split-axes .ensures in
-    omega (arith, p .within, strides-length _ _ _ _ (s .pre .0) (omega (arith, s .fits .span .fits)))
+    omega (arith, p .within, s .pre .0 .sums .one-length)
 
 part-meet-end-2 : tie.Need-part-meet-end-2
 part-meet-end-2 c = search needs
@@ -76,7 +76,7 @@ meet-requires c κs =
     let s = c .before .before .before .before .before .before .before .before .before in
     let p = c .before .before .before .before .before .split-axes .ensures in
     let l = length-take-le (2 * c .before .before .before .before .before .split-axes .result .vectors - 1) (s .args .words .now) (omega (arith, p .room)) in
-    (first-part _ _ _ _ (s .pre .0) (omega (arith, s .fits .span .fits)) _ (p .within), second-part _ _ _ _ (s .pre .0) (omega (arith, s .fits .span .fits)) _ (p .within), p .vectors-are, omega (arith, p .vectors-are, p .room, l))
+    (first-part _ _ (s .pre .0) _ (p .within), second-part _ _ (s .pre .0) _ (p .within), p .vectors-are, omega (arith, p .vectors-are, p .room, l))
 
 same-length : tie.Need-same-length
 same-length c = search needs
@@ -85,7 +85,7 @@ returns : tie.Need-returns
 returns c =
     let s = c .before .before .before .before .before .before .before .before .before .before .before .before in
     let p = c .before .before .before .before .before .before .before .before .split-axes .ensures in
-    meets-clash _ _ _ _ (s .pre .0) (omega (arith, s .fits .span .fits)) _ (p .within) _ (c .before .before .meet .ensures)
+    meets-clash _ _ (s .pre .0) _ (p .within) _ (c .before .before .meet .ensures)
 
 pub has-equal-sums-spec : {M : Type 1} → statement M
 has-equal-sums-spec =

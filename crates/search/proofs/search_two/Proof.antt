@@ -46,19 +46,27 @@ walk-others-requires c κs =
     let t = c .couple .ensures in
     (t .0, room-of _ _ _ _ _ _ _ (s .pre) (t .1), half-right _ _ (s .pre .one-length) (blocked-positive _ _ _ (s .pre)) _ u, s .pre .rank)
 
+enum-known-end : tie.Need-enum-known-end
+enum-known-end c = search needs
+
+enum-known-end-2 : tie.Need-enum-known-end-2
+enum-known-end-2 c = search needs
+
 returns-3 : tie.Need-returns-3
 returns-3 c =
-    let s = c .before .before .before .before .before .before .before .before .before .before .before .before in
-    let u = subst (Budget (s .args .extents .now)) (c .before .before .before .before .before .before .before .half .given .1) (c .before .before .before .before .before .before .before .before .before .half-within .ensures) in
-    let m = sym (c .before .before .before .before .apart-by-quotients .ensures) ∙ not-false _ (c .before .before .before .if1 .left) in
-    walk-found _ _ _ _ (s .pre .one-length) (blocked-positive _ _ _ (s .pre)) _ u (c .before .before .couple .result) (c .before .before .couple .ensures .1) (c .before .walk-others .result) (c .before .walk-others .ensures) m (c .if2 .taken)
+    let t = c .before .before .before in
+    let s = t .before .before .before .before .before .before .before .before .before .before .before in
+    let u = subst (Budget (s .args .extents .now)) (t .before .before .before .before .before .before .half .given .1) (t .before .before .before .before .before .before .before .before .half-within .ensures) in
+    let m = sym (t .before .before .before .apart-by-quotients .ensures) ∙ not-false _ (t .before .before .if1 .left) in
+    walk-found _ _ _ _ (s .pre .one-length) (blocked-positive _ _ _ (s .pre)) _ u (t .before .couple .result) (t .before .couple .ensures .1) (t .walk-others .result) (t .walk-others .ensures) m _ (c .before .end .given .1)
 
 returns-4 : tie.Need-returns-4
 returns-4 c =
-    let s = c .before .before .before .before .before .before .before .before .before .before .before .before in
-    let u = subst (Budget (s .args .extents .now)) (c .before .before .before .before .before .before .before .half .given .1) (c .before .before .before .before .before .before .before .before .before .half-within .ensures) in
-    let m = sym (c .before .before .before .before .apart-by-quotients .ensures) ∙ not-false _ (c .before .before .before .if1 .left) in
-    walk-ended _ _ _ _ (s .pre .one-length) (blocked-positive _ _ _ (s .pre)) _ u (c .before .before .couple .result) (c .before .before .couple .ensures .1) (c .before .walk-others .result) (c .before .walk-others .ensures) m (c .if2 .left)
+    let t = c .before .before .before in
+    let s = t .before .before .before .before .before .before .before .before .before .before .before in
+    let u = subst (Budget (s .args .extents .now)) (t .before .before .before .before .before .before .half .given .1) (t .before .before .before .before .before .before .before .before .half-within .ensures) in
+    let m = sym (t .before .before .before .apart-by-quotients .ensures) ∙ not-false _ (t .before .before .if1 .left) in
+    walk-ended _ _ _ _ (s .pre .one-length) (blocked-positive _ _ _ (s .pre)) _ u (t .before .couple .result) (t .before .couple .ensures .1) (t .walk-others .result) (t .walk-others .ensures) m _ (c .before .end2 .given .1)
 
 pub search-two-spec : {M : Type 1} → statement M
 search-two-spec =
@@ -73,5 +81,7 @@ search-two-spec =
     returns-2
     couple-requires
     walk-others-requires
+    enum-known-end
+    enum-known-end-2
     returns-3
     returns-4)

@@ -5,7 +5,6 @@ use Rattle.walk.proofs.walk_to.Tie as tie
 use Prim.Native.Nat.{_-_, _≤_}
 use mathlib.Core.Path.{sym, _∙_}
 use native.Mathlib.Omega.{arith}
-use Rattle.walk.proofs.Walking.{Walking, walking-start, stands-next, walk-yes, walk-on, walk-over}
 use Rattle.walk.proofs.Walking.{Walking, walking-start, stands-next, stands-length, walk-yes, walk-on, walk-over}
 
 abbrev Inv-loop : tie.InvT-loop

@@ -1,5 +1,6 @@
 -- `interleaved_block`: what is covered so far says whether an axis is separated, and the last one that is not ends the block.
-use Prim.Native.Nat.{_+_, _*_, _-_, _^_, _<_}
+use mathlib.Core.List.{List, []}
+use Prim.Native.Nat.{ℕ, _+_, _*_, _-_, _^_, _<_}
 use native.Mathlib.Omega.{arith}
 use borrow.Author.Tests.{ltb-true, ltb-false}
 use Rattle.injectivity.specs.Axes.{axisFrom}
@@ -9,22 +10,22 @@ use Rattle.injectivity.proofs.block.interleaved_block.Statement.{statem
 use Rattle.injectivity.proofs.block.interleaved_block.Tie as tie
 
 abbrev Inv-loop : tie.InvT-loop
-Inv-loop count axes extents strides len₀ total₀ span₀ covered-total₀ covered-span₀ i₀ len total span covered-total covered-span i =
-    Covering (axisFrom axes extents strides) count i len total span covered-total covered-span
+Inv-loop count extents strides found₀ covered-total₀ covered-span₀ i₀ found covered-total covered-span i =
+    (axes : List ℕ) → Covering (axisFrom axes extents strides) count i found covered-total covered-span
 
 abbrev μ-loop : tie.MeasureT-loop
-μ-loop count axes extents strides len₀ total₀ span₀ covered-total₀ covered-span₀ i₀ len total span covered-total covered-span i =
+μ-loop count extents strides found₀ covered-total₀ covered-span₀ i₀ found covered-total covered-span i =
     count - i
 
 -- a word holds what is covered with axis i
 fits : (c : tie.After-stride Inv-loop μ-loop) → let l = c .before .before .before .loop in
     let s = c .before .before .before .before .args in
-    let a = axisFrom (s .axes .now) (s .extents .now) (s .strides .now) (l .i) in
+    let a = axisFrom [] (s .extents .now) (s .strides .now) (l .i) in
     (0 < a .extent) × (l .covered-total * a .extent < 2 ^ 64) × (l .covered-span + (a .extent - 1) * a .stride < 2 ^ 64)
-fits c = let l = c .before .before .before in cover-fits (l .loop .inv) (omega arith) (l .before .pre .1)
+fits c = let l = c .before .before .before in cover-fits (l .loop .inv []) (omega arith) (l .before .pre .1 [])
 
 loop-holds : tie.Need-loop-holds Inv-loop μ-loop
-loop-holds c = cover-none _ _
+loop-holds c = λ axes. cover-none _ _
 
 mul-extent : tie.Need-mul-extent Inv-loop μ-loop
 mul-extent c = search needs
@@ -57,7 +58,7 @@ loop-less : tie.Need-loop-less Inv-loop μ-loop
 loop-less c = search needs
 
 loop-again : tie.Need-loop-again Inv-loop μ-loop
-loop-again c = cover-far (c .before .before .before .before .loop .inv) (omega arith) (ltb-true _ _ (c .if1 .taken))
+loop-again c = λ axes. cover-far (c .before .before .before .before .loop .inv axes) (omega arith) (ltb-true _ _ (c .if1 .taken))
 
 add-i-2 : tie.Need-add-i-2 Inv-loop μ-loop
 add-i-2 c = search needs
@@ -66,12 +67,10 @@ loop-less-2 : tie.Need-loop-less-2 Inv-loop μ-loop
 loop-less-2 c = search needs
 
 loop-again-2 : tie.Need-loop-again-2 Inv-loop μ-loop
-loop-again-2 c = cover-near (c .before .before .before .before .loop .inv) (omega arith) (ltb-false _ _ (c .if1 .left))
+loop-again-2 c = λ axes. cover-near (c .before .before .before .before .loop .inv axes) (omega arith) (ltb-false _ _ (c .if1 .left))
 
 returns : tie.Need-returns Inv-loop μ-loop
-returns c =
-    let v = c .before .loop .inv in
-    record { to = v .len-to; axes-are = cover-all v (omega arith); total-is = v .total-is; span-is = v .span-is }
+returns c = λ axes. cover-all _ axes _ _ _ _ _ _ (c .before .loop .inv axes) (omega arith)
 
 pub interleaved-block-spec : {M : Type 1} → statement M
 interleaved-block-spec =

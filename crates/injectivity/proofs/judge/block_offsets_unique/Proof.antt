@@ -1,20 +1,12 @@
 -- `block_offsets_unique` hands the block to step 6 in the order of sorting, and tells its answer.
 use mathlib.Core.Path.{refl}
-use Rattle.enumeration.specs.Enumeration.{AsDefined}
-use Rattle.injectivity.specs.Axes.{blockFrom}
-use Rattle.injectivity.proofs.JudgeLaws.{block-described, block-handed, judged-enumerated}
+use Rattle.injectivity.proofs.JudgeLaws.{judged-enumerated}
 use borrow.Author.Needs.{needs}
 use Rattle.injectivity.proofs.judge.block_offsets_unique.Statement.{statement}
 use Rattle.injectivity.proofs.judge.block_offsets_unique.Tie as tie
 
--- the enumeration's answer, of this block
-defined : (t : tie.After-enumerate) → let s = t .before .before .before .before .before .before in
-    AsDefined (blockFrom (s .args .axes .now) (s .args .extents .now) (s .args .strides .now)) (s .args .scratch .now) (t .enumerate .last .1 .1 .1 .1 .0) (t .enumerate .result)
-defined t = let s = t .before .before .before .before .before .before in
-    t .enumerate .ensures _ (block-described (s .args .axes .now) (s .args .extents .now) (s .args .strides .now) _ _ (s .pre))
-
 enumerate-requires : tie.Need-enumerate-requires
-enumerate-requires c κs = let s = c .before .before .before .before .before in block-handed (s .args .axes .now) (s .args .extents .now) (s .args .strides .now) _ _ (s .pre)
+enumerate-requires c κs = search needs
 
 enum-told : tie.Need-enum-told
 enum-told c = search needs
@@ -29,19 +21,19 @@ same-length : tie.Need-same-length
 same-length c = search needs
 
 returns : tie.Need-returns
-returns c = let t = c .before .before .before .before in judged-enumerated _ (defined t) (c .enum-told .given .1) refl
+returns c = λ block d. judged-enumerated _ (c .before .before .before .before .enumerate .ensures block d) (c .enum-told .given .1) refl
 
 same-length-2 : tie.Need-same-length-2
 same-length-2 c = search needs
 
 returns-2 : tie.Need-returns-2
-returns-2 c = let t = c .before .before .before .before in judged-enumerated _ (defined t) (c .enum-told2 .given .1) refl
+returns-2 c = λ block d. judged-enumerated _ (c .before .before .before .before .enumerate .ensures block d) (c .enum-told2 .given .1) refl
 
 same-length-3 : tie.Need-same-length-3
 same-length-3 c = search needs
 
 returns-3 : tie.Need-returns-3
-returns-3 c = let t = c .before .before .before .before .before in judged-enumerated _ (defined t) (c .before .answer .given .1) refl
+returns-3 c = λ block d. judged-enumerated _ (c .before .before .before .before .before .enumerate .ensures block d) (c .before .answer .given .1) refl
 
 pub block-offsets-unique-spec : {M : Type 1} → statement M
 block-offsets-unique-spec =

@@ -4,7 +4,7 @@ use Rattle.specification.specs.Verdict.{pastSearch}
 use Rattle.search.specs.Block.{planOf}
 use Rattle.search.specs.declared.Searched.{Searched}
 use Rattle.injectivity.specs.Axes.{blockFrom}
-use Rattle.injectivity.proofs.JudgeLaws.{judged-answered, judged-plan}
+use Rattle.injectivity.proofs.JudgeLaws.{block-described, block-handed, judged-answered, judged-plan}
 use borrow.Author.Needs.{needs}
 use Rattle.injectivity.proofs.judge.judge_many.Statement.{statement}
 use Rattle.injectivity.proofs.judge.judge_many.Tie as tie
@@ -22,7 +22,7 @@ enum-told : tie.Need-enum-told
 enum-told c = search needs
 
 judge-past-search-requires : tie.Need-judge-past-search-requires
-judge-past-search-requires c κs = search needs
+judge-past-search-requires c κs = let s = c .before .before .before .before .before .before .before .before in block-handed (s .args .axes .now) (s .args .extents .now) (s .args .strides .now) _ _ (s .pre)
 
 returns : tie.Need-returns
 returns c =
@@ -40,8 +40,9 @@ same-length c = search needs
 returns-3 : tie.Need-returns-3
 returns-3 c =
     let t = c .before .before .before .before in
-    let s = c .before .before .before .before .before .before .before .before .before .before .before .args in
-    judged-plan _ _ _ (sym (ap (λ (r : Searched). planOf r (pastSearch (blockFrom (s .axes .now) (s .extents .now) (s .strides .now)))) (t .enum-told .given .1)) ∙ t .before .before .block-differences-avoid-zero .ensures) (c .before .before .judge-past-search .ensures)
+    let b = c .before .before .before .before .before .before .before .before .before .before .before in
+    let s = b .args in
+    judged-plan _ _ _ (sym (ap (λ (r : Searched). planOf r (pastSearch (blockFrom (s .axes .now) (s .extents .now) (s .strides .now)))) (t .enum-told .given .1)) ∙ t .before .before .block-differences-avoid-zero .ensures) (c .before .before .judge-past-search .ensures _ (block-described (s .axes .now) (s .extents .now) (s .strides .now) _ _ (b .pre)))
 
 pub judge-many-spec : {M : Type 1} → statement M
 judge-many-spec =

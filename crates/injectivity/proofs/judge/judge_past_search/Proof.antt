@@ -13,15 +13,11 @@ same-length : tie.Need-same-length
 same-length c = search needs
 
 returns : tie.Need-returns
-returns c =
-    let s = c .before .before .before .before .before .before .before .before .before in
-    let t = c .before .before .before .before in
-    judged-plan _ _ _ (enumerable (s .args .axes .now) (s .args .extents .now) (s .args .strides .now) _ _ (s .pre) (t .if1 .taken)) (c .before .before .block-offsets-unique .ensures)
+returns c = λ block d.
+    judged-plan _ _ _ (enumerable _ _ _ _ (c .before .before .before .before .before .before .before .before .pre) block d (c .before .before .before .before .if1 .taken)) (c .before .before .block-offsets-unique .ensures block d)
 
 returns-2 : tie.Need-returns-2
-returns-2 c =
-    let s = c .before .before .before .before .before in
-    judged-answered _ _ (past-both (s .args .axes .now) (s .args .extents .now) (s .args .strides .now) _ _ (s .pre) (c .if1 .left)) refl
+returns-2 c = λ block d. judged-answered _ _ (past-both _ _ _ _ (c .before .before .before .before .pre) block d (c .if1 .left)) refl
 
 pub judge-past-search-spec : {M : Type 1} → statement M
 judge-past-search-spec =
