@@ -26,9 +26,7 @@ enum-told : tie.Need-enum-told
 enum-told c = search needs
 
 store-strides-requires : tie.Need-store-strides-requires
-store-strides-requires c κs =
-    let s = c .before .before .before .before in
-    (few (c .before .before), s .pre .1)
+store-strides-requires c κs = (omega (arith, few (c .before .before)), search needs)
 
 returns : tie.Need-returns
 returns c = search needs
