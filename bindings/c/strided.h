@@ -4,7 +4,8 @@
  *   0         done
  *   1 to 11   a refusal, by its number (STRIDED_* below); but for `values`, all that was handed over is as it was
  *             (where strided_read meets a false verdict, 11, the scratch words that the verdict needed may have changed)
- *   255       a buffer is too short for its part; nothing was written
+ *   255       a buffer is too short for its part (numbers, steps, values, found, dense strides); nothing was written.
+ *             In every call it comes before every other refusal.
  *
  * A slice is a pointer and a length. What the calls assume of their caller: each pointer is true for its length, and no
  * buffer that a call writes overlaps another one that is handed to it. A pointer of length 0 must still not be null.
@@ -101,11 +102,11 @@ uint8_t strided_read(const uint8_t *bytes, size_t bytes_len, uint64_t *scratch, 
 /* Where the bytes behind the record at the front begin; the end if there is none. */
 size_t strided_step(const uint8_t *bytes, size_t bytes_len);
 
-/* Each stride's number by absolute value; out is as long as strides: 1, 2. */
-uint8_t strided_index_order(const int64_t *strides, size_t strides_len, size_t *out, size_t out_len, uint64_t *values,
-                            size_t values_len);
+/* Each stride's number by absolute value: 1, 2. An out that is not as long as strides is 2, also a shorter one. */
+uint8_t strided_index_order(const int64_t *strides, size_t strides_len, size_t *out, size_t out_len);
 
-/* Dense strides, the first or the last axis the densest, into the first places: 1, 255, 3. */
+/* Dense strides, the first or the last axis the densest, into the first places: 1, 3. With fewer places than extents 255,
+ * also where there are more than 16 extents. */
 uint8_t strided_column_strides(const uint64_t *extents, size_t extents_len, int64_t *strides, size_t strides_len);
 uint8_t strided_row_strides(const uint64_t *extents, size_t extents_len, int64_t *strides, size_t strides_len);
 

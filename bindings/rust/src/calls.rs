@@ -35,9 +35,7 @@ extern "C" {
         steps: *mut i64, steps_len: usize, values: *mut u64, values_len: usize,
     ) -> u8;
     pub fn strided_step(bytes: *const u8, bytes_len: usize) -> usize;
-    pub fn strided_index_order(
-        strides: *const i64, strides_len: usize, out: *mut usize, out_len: usize, values: *mut u64, values_len: usize,
-    ) -> u8;
+    pub fn strided_index_order(strides: *const i64, strides_len: usize, out: *mut usize, out_len: usize) -> u8;
     pub fn strided_column_strides(extents: *const u64, extents_len: usize, strides: *mut i64, strides_len: usize) -> u8;
     pub fn strided_row_strides(extents: *const u64, extents_len: usize, strides: *mut i64, strides_len: usize) -> u8;
 }

@@ -255,12 +255,9 @@ pub fn index_order(strides: &[i64]) -> Result<Vec<usize>, Refusal> {
         return Err(Refusal::TooManyAxes);
     }
     let mut order = vec![0; strides.len()];
-    let mut values = [0; 2];
     // SAFETY: as in `Layout::new`.
-    let answer = unsafe {
-        calls::strided_index_order(strides.as_ptr(), strides.len(), order.as_mut_ptr(), order.len(), values.as_mut_ptr(), values.len())
-    };
-    Refusal::of(answer, values).map(|()| order)
+    let answer = unsafe { calls::strided_index_order(strides.as_ptr(), strides.len(), order.as_mut_ptr(), order.len()) };
+    Refusal::of(answer, [0; 2]).map(|()| order)
 }
 
 /// Dense strides, the first axis the densest: refusals 1, 3.
@@ -274,6 +271,9 @@ pub fn row_strides(extents: &[u64]) -> Result<Vec<i64>, Refusal> {
 }
 
 fn dense(call: unsafe extern "C" fn(*const u64, usize, *mut i64, usize) -> u8, extents: &[u64]) -> Result<Vec<i64>, Refusal> {
+    if 16 < extents.len() {
+        return Err(Refusal::TooManyAxes);
+    }
     let mut strides = [0; 16];
     // SAFETY: as in `Layout::new`.
     let answer = unsafe { call(extents.as_ptr(), extents.len(), strides.as_mut_ptr(), strides.len()) };

@@ -1,4 +1,4 @@
--- The same for the calls that answer something other than a layout.
+-- From what the code was told to what crosses the boundary, for the calls that answer something other than a layout.
 use mathlib.Core.Bool.{Bool, true, false, _&&_}
 use mathlib.Core.List.{List}
 use mathlib.Core.Path.{_≡_, refl, sym, subst, ap, _∙_}
@@ -106,16 +106,11 @@ read-there {bytes} {scratch} {numbers} {steps} {values} {scratch-then} {numbers-
 
 -- ---- the order of strides
 
-pub order-short : {output values : List ℕ} (room : Bool) (o : Outcome (List ℕ)) → room ≡ false → OrderCrossed (ifRoom room o) output values output values 255
-order-short {output} {values} room o none =
-    subst (λ (t : Bool). OrderCrossed (ifRoom t o) output values output values 255) (sym none) (record { answer-is = refl; output-is = refl; values-are = refl })
-
 order-result : (o : Outcome (List ℕ)) (before : List ℕ) → orderAfter o before ≡ resultAfter o before
 order-result (done order) before = refl
 order-result (refused number values) before = refl
 
-pub order-there : {output values output-then : List ℕ} {n : ℕ} (room : Bool) (o : Outcome (List ℕ)) (answer : Answer) → room ≡ true → outcomeOf answer ≡ answerOf o
-    → output-then ≡ orderAfter o output → n ≡ answerNumber (outcomeOf answer) → OrderCrossed (ifRoom room o) output values output-then values n
-order-there {output} {values} {output-then} {n} room o answer there same put number =
-    subst (λ (t : Bool). OrderCrossed (ifRoom t o) output values output-then values n) (sym there)
-    (record { answer-is = number ∙ ap answerNumber same ∙ number-back o; output-is = put ∙ order-result o output; values-are = refl })
+pub order-crossed : {output output-then : List ℕ} {n : ℕ} (o : Outcome (List ℕ)) (answer : Answer) → outcomeOf answer ≡ answerOf o → output-then ≡ orderAfter o output
+    → n ≡ answerNumber (outcomeOf answer) → OrderCrossed o output output-then n
+order-crossed {output} o answer same put number =
+    record { answer-is = number ∙ ap answerNumber same ∙ number-back o; output-is = put ∙ order-result o output }

@@ -3,14 +3,16 @@ use mathlib.Core.Bool.{Bool}
 use mathlib.Core.List.{List, [], _∷_, reverse}
 use mathlib.Core.Path.{_≡_, refl, sym, subst, ap, _∙_}
 use Prim.Native.Nat.{ℕ, zero, suc, _<_, _≤_}
-use borrow.Author.Tests.{lt-ltb, le-ltb, le-leb, lt-leb}
-use lib.Dec.{leb}
+use native.Mathlib.Omega.{arith}
+use borrow.Author.Tests.{le-leb, lt-leb}
+use native.Mathlib.Decide.{decLt}
 use lib.IntN.{ℤ}
 use lib.ListN.{length, take, length-reverse}
-use Rattle.specification.specs.Tests.{if_then_else_}
-use Rattle.specification.specs.Outcome.{Outcome, done, refused, _>>=_}
+use Rattle.specification.specs.Outcome.{Outcome, done, refused, pass, _>>=_}
 use Rattle.specification.specs.Beside.{colMajor, rowMajor}
+use Rattle.specification.specs.BesideClaims.{too-many}
 use Rattle.specification.proofs.DenseLaws.{dense-claims}
+use Rattle.specification.proofs.OutcomeLaws.{clash}
 use Rattle.view.specs.Answers.{outcomeOf}
 use Rattle.dense.specs.Dense.{DenseM, denseOf, denseAfter}
 use Rattle.dense.specs.declared.Dense.{Dense}
@@ -55,22 +57,30 @@ dense-told dense n (done strides) same long =
     ∙ ap done (ap (λ (k : ℕ). take k (dense .strides)) (sym (long strides refl) ∙ sym (ap (λ (m : DenseM). length (m .strides)) same)) ∙ take-own (dense .count) (dense .strides) ∙ ap (λ (m : DenseM). m .strides) same)
 dense-told dense n (refused number values) same long = ap (λ (m : DenseM). stridesOf (m .answer) n (dense .strides)) same
 
--- ---- the call: too many extents, no room, or the strides
+-- ---- more than 16 extents are refused, so a done answer has at most 16 strides
+
+pub column-many : (extents : List ℕ) → 16 < length extents → colMajor extents ≡ refused 1 []
+column-many extents many = dense-claims .column-refuses extents 1 [] .1 (too-many many)
+
+pub row-many : (extents : List ℕ) → 16 < length extents → rowMajor extents ≡ refused 1 []
+row-many extents many = dense-claims .row-refuses extents 1 [] .1 (too-many many)
+
+pub dense-few : (told : Dense) (n : ℕ) (o : Outcome (List ℤ)) → denseOf told ≡ denseAfter o → (16 < n → o ≡ refused 1 []) → outcomeOf (told .answer) ≡ pass → n ≤ 16
+dense-few told n o same many passed = by (decLt 16 n)
+  where
+    by : Dec (16 < n) → n ≤ 16
+    by (yes h) = absurd (clash (sym passed ∙ ap (λ (m : DenseM). m .answer) (same ∙ ap denseAfter (many h))))
+    by (no h) = omega arith
+
+-- ---- the call: no room, or the strides
 
 module _ {strides : List ℤ} (dense : List ℕ → Outcome (List ℤ)) (extents : List ℕ) where
-  pub dense-many : 16 < length extents → DenseCrossed (denseInto dense extents (length strides)) strides strides 1
-  dense-many many =
-      subst (λ (t : Bool). DenseCrossed (if t then refused 1 [] else ifRoom (leb (length extents) (length strides)) (dense extents)) strides strides 1) (sym (lt-ltb 16 (length extents) many))
-      (record { answer-is = refl; strides-are = refl })
+  pub dense-short : length strides < length extents → DenseCrossed (denseInto dense extents (length strides)) strides strides 255
+  dense-short short =
+      subst (λ (t : Bool). DenseCrossed (ifRoom t (dense extents)) strides strides 255) (sym (lt-leb (length extents) (length strides) short)) (record { answer-is = refl; strides-are = refl })
 
-  pub dense-short : length extents ≤ 16 → length strides < length extents → DenseCrossed (denseInto dense extents (length strides)) strides strides 255
-  dense-short few short =
-      subst (λ (t : Bool). DenseCrossed (if t then refused 1 [] else ifRoom (leb (length extents) (length strides)) (dense extents)) strides strides 255) (sym (le-ltb 16 (length extents) few))
-      (subst (λ (t : Bool). DenseCrossed (ifRoom t (dense extents)) strides strides 255) (sym (lt-leb (length extents) (length strides) short)) (record { answer-is = refl; strides-are = refl }))
-
-  pub dense-there : {strides-then : List ℤ} {n : ℕ} (told : Dense) → length extents ≤ 16 → length extents ≤ length strides → denseOf told ≡ denseAfter (dense extents) → Long (length extents) (dense extents)
+  pub dense-there : {strides-then : List ℤ} {n : ℕ} (told : Dense) → length extents ≤ length strides → denseOf told ≡ denseAfter (dense extents) → Long (length extents) (dense extents)
       → DenseTold told (length extents) strides strides-then n → DenseCrossed (denseInto dense extents (length strides)) strides strides-then n
-  dense-there {strides-then} {n} told few room same long crossed =
-      subst (λ (t : Bool). DenseCrossed (if t then refused 1 [] else ifRoom (leb (length extents) (length strides)) (dense extents)) strides strides-then n) (sym (le-ltb 16 (length extents) few))
-      (subst (λ (t : Bool). DenseCrossed (ifRoom t (dense extents)) strides strides-then n) (sym (le-leb (length extents) (length strides) room))
-      (subst (λ (p : Outcome (List ℤ)). DenseCrossed p strides strides-then n) (dense-told told (length extents) (dense extents) same long) crossed))
+  dense-there {strides-then} {n} told room same long crossed =
+      subst (λ (t : Bool). DenseCrossed (ifRoom t (dense extents)) strides strides-then n) (sym (le-leb (length extents) (length strides) room))
+      (subst (λ (p : Outcome (List ℤ)). DenseCrossed p strides strides-then n) (dense-told told (length extents) (dense extents) same long) crossed)

@@ -1,9 +1,9 @@
 -- The outcomes of the calls that answer something other than a layout, and what they leave in lent memory.
 use mathlib.Core.Bool.{Bool}
-use mathlib.Core.List.{List, [], _∷_, _++_}
+use mathlib.Core.List.{List, _∷_, _++_}
 use mathlib.Core.Path.{_≡_}
 use Prim.Native.Nat.{ℕ, _≤_}
-use lib.Dec.{ltb, leb}
+use lib.Dec.{leb}
 use lib.IntN.{ℤ}
 use lib.ListN.{length, take, drop}
 use Rattle.specification.specs.Tests.{if_then_else_}
@@ -70,14 +70,13 @@ pub record Behind (bytes : List ℕ) (start : ℕ) : Type 0 where
   pub rest-is : drop start bytes ≡ restOf bytes
 
 -- the order of strides; its refusals have no values
-pub record OrderCrossed (outcome : Outcome (List ℕ)) (output values output-then values-then : List ℕ) (answer : ℕ) : Type 0 where
+pub record OrderCrossed (outcome : Outcome (List ℕ)) (output output-then : List ℕ) (answer : ℕ) : Type 0 where
   pub answer-is : answer ≡ answerNumber outcome
   pub output-is : output-then ≡ resultAfter outcome output
-  pub values-are : values-then ≡ values
 
--- dense strides into a buffer of this length: refusal 1, then 255, then those of the call
+-- dense strides into a buffer of this length: 255, then the refusals of the call
 abbrev pub denseInto : (List ℕ → Outcome (List ℤ)) → List ℕ → ℕ → Outcome (List ℤ)
-denseInto dense extents room = if ltb 16 (length extents) then refused 1 [] else ifRoom (leb (length extents) room) (dense extents)
+denseInto dense extents room = ifRoom (leb (length extents) room) (dense extents)
 
 -- the first strides of an answer that is done
 abbrev pub stridesOf : Check → ℕ → List ℤ → Outcome (List ℤ)

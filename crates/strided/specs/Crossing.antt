@@ -1,5 +1,5 @@
 -- What crosses the boundary: for an outcome its number, the values returned, and what the lent memory holds afterwards.
--- A buffer that is too short for its part is one refusal more, 255, without values.
+-- A buffer that is too short for its part is one refusal more, 255, without values; in every call it comes before the others.
 use mathlib.Core.Bool.{Bool, true, false}
 use mathlib.Core.List.{List, [], _++_}
 use mathlib.Core.Path.{_≡_}
@@ -57,7 +57,7 @@ pub record Crossed (outcome : Outcome LayoutM) (numbers : List ℕ) (steps : Lis
   pub answer-is : answer ≡ answerNumber outcome
   pub layout-is : LayoutAfter outcome numbers steps numbers-then steps-then
 
--- the same, with the values of a refusal
+-- a call that leaves a layout in two buffers, and the values of a refusal
 pub record CrossedWithValues (outcome : Outcome LayoutM) (numbers : List ℕ) (steps : List ℤ) (values : List ℕ) (numbers-then : List ℕ) (steps-then : List ℤ) (values-then : List ℕ) (answer : ℕ) : Type 0 where
   pub crossed : Crossed outcome numbers steps numbers-then steps-then answer
   pub values-are : values-then ≡ valuesAfter outcome values

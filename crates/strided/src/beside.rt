@@ -2,10 +2,11 @@
 ghost use mathlib.Core.List.{_++_};
 ghost use mathlib.Core.Path.{_≡_};
 ghost use Prim.Native.Nat.{_≤_};
-ghost use lib.Dec.{leb};
 ghost use lib.ListN.{length, take, drop};
+ghost use Rattle.specification.specs.Outcome.{pass};
 ghost use Rattle.specification.specs.CheckIn.{checkIn};
 ghost use Rattle.specification.specs.Beside.{indexedOffset, indexOrder, colMajor, rowMajor};
+ghost use Rattle.view.specs.Answers.{outcomeOf};
 ghost use Rattle.strided.specs.Flat.{holdsView, modelOfFlat};
 ghost use Rattle.strided.specs.Crossing.{ifRoom, answerNumber};
 ghost use Rattle.strided.specs.Calls.{Located, OrderCrossed, denseInto, DenseCrossed, DenseTold};
@@ -64,12 +65,9 @@ pub extern "C" fn strided_indexed_offset(
 
 // Each stride's number by absolute value.
 #[no_mangle]
-pub extern "C" fn strided_index_order(strides: &[i64], out: &mut [usize], values: &mut [u64]) -> u8
-    ensures { λ r. ⌜ OrderCrossed (ifRoom (leb 2 (length (now (values .entry)))) (indexOrder (now (strides .entry)) (length (now (out .entry))))) (now (out .entry)) (now (values .entry)) (now (out .exit)) (now (values .exit)) r ⌝ }
+pub extern "C" fn strided_index_order(strides: &[i64], out: &mut [usize]) -> u8
+    ensures { λ r. ⌜ OrderCrossed (indexOrder (now (strides .entry)) (length (now (out .entry)))) (now (out .entry)) (now (out .exit)) r ⌝ }
 {
-    if values.len() < 2 {
-        return 255;
-    }
     let answer = index_order_into(strides, out);
     number_of(answer)
 }
@@ -89,7 +87,7 @@ fn store_strides(from: [i64; 16], count: usize, strides: &mut [i64])
 
 // As many strides as there are extents into the first places; on a refusal its number.
 fn answer_dense(dense: Dense, count: usize, strides: &mut [i64]) -> u8
-    requires { ⌜ (count ≤ 16) × (count ≤ length (now strides)) ⌝ }
+    requires { ⌜ (outcomeOf (dense .answer) ≡ pass → count ≤ 16) × (count ≤ length (now strides)) ⌝ }
     ensures { λ r. ⌜ DenseTold dense count (now (strides .entry)) (now (strides .exit)) r ⌝ }
 {
     let answer = dense.answer;
@@ -108,9 +106,6 @@ fn answer_dense(dense: Dense, count: usize, strides: &mut [i64]) -> u8
 pub extern "C" fn strided_column_strides(extents: &[u64], strides: &mut [i64]) -> u8
     ensures { λ r. ⌜ DenseCrossed (denseInto colMajor (now (extents .entry)) (length (now (strides .entry)))) (now (strides .entry)) (now (strides .exit)) r ⌝ }
 {
-    if 16 < extents.len() {
-        return 1;
-    }
     if strides.len() < extents.len() {
         return 255;
     }
@@ -123,9 +118,6 @@ pub extern "C" fn strided_column_strides(extents: &[u64], strides: &mut [i64]) -
 pub extern "C" fn strided_row_strides(extents: &[u64], strides: &mut [i64]) -> u8
     ensures { λ r. ⌜ DenseCrossed (denseInto rowMajor (now (extents .entry)) (length (now (strides .entry)))) (now (strides .entry)) (now (strides .exit)) r ⌝ }
 {
-    if 16 < extents.len() {
-        return 1;
-    }
     if strides.len() < extents.len() {
         return 255;
     }

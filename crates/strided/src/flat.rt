@@ -18,7 +18,7 @@ pub fn holds_layout(numbers: usize, steps: usize) -> bool
     17 <= steps
 }
 
-// The same, with two words for the values of a refusal.
+// Whether there is room for a layout and for the two values of a refusal.
 pub fn holds_view(numbers: usize, steps: usize, values: usize) -> bool
     ensures { λ r. ⌜ r ≡ holdsView numbers steps values ⌝ }
 {
@@ -115,16 +115,17 @@ pub fn store_lists(
     numbers: &mut [u64],
     steps: &mut [i64],
     len: u64,
-    offset: i64,
+    offset: ReadingOffset,
     extents: &[u64],
     strides: &[i64],
 )
     requires { ⌜ (18 ≤ length (now numbers)) × (17 ≤ length (now steps)) × (length (now extents) ≤ 16) × (length (now strides) ≡ length (now extents)) ⌝ }
-    ensures { λ _. ⌜ Stored (modelFrom len offset (now (extents .entry)) (now (strides .entry))) (now (numbers .entry)) (now (steps .entry)) (now (numbers .exit)) (now (steps .exit)) ⌝ }
+    ensures { λ _. ⌜ Stored (modelFrom len (offset .0) (now (extents .entry)) (now (strides .entry))) (now (numbers .entry)) (now (steps .entry)) (now (numbers .exit)) (now (steps .exit)) ⌝ }
 {
     numbers[0] = len;
     numbers[1] = extents.len() as u64;
-    steps[0] = offset;
+    let first = offset.0;
+    steps[0] = first;
     let mut i = 0;
     while i < extents.len() {
         let extent = extents[i];

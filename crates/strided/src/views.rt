@@ -39,7 +39,7 @@ fn store_viewed(viewed: Viewed, numbers: &mut [u64], steps: &mut [i64]) -> u8
     }
 }
 
-// The same, with the values of a refusal.
+// The layout after a call into the buffers; on a refusal its number and its values, and the buffers as they were.
 pub fn answer_viewed(
     viewed: Viewed,
     numbers: &mut [u64],
@@ -89,11 +89,12 @@ pub extern "C" fn strided_new(
     if !holds_layout(numbers.len(), steps.len()) {
         return 255;
     }
-    let answer = validate_bounds(len, ReadingOffset(offset), extents, strides);
+    let from = ReadingOffset(offset);
+    let answer = validate_bounds(len, from, extents, strides);
     match answer {
         Answer::Refused(why) => why.number(),
         Answer::Done => {
-            store_lists(numbers, steps, len, offset, extents, strides);
+            store_lists(numbers, steps, len, from, extents, strides);
             0
         }
     }

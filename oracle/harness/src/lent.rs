@@ -149,7 +149,7 @@ impl Lent {
         self.put_signed(SECOND, strides.slice());
         let len = strides.len;
         // SAFETY: as above.
-        let run = |lent: &mut Lent| unsafe { strided_index_order(lent.signed_at(SECOND), len, lent.at(OUT), out, lent.at(VALUES_AT), 2) };
+        let run = |lent: &mut Lent| unsafe { strided_index_order(lent.signed_at(SECOND), len, lent.at(OUT), out) };
         self.call(run, |lent| {
             lent.allow(OUT, out);
             Given::Order(List::of(&lent.words[OUT..OUT + out]))

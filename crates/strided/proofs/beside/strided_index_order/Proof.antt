@@ -1,16 +1,10 @@
--- `strided_index_order`: no room, or what the call below answers.
-use lib.Dec.{leb}
+-- `strided_index_order`: what the call below answers.
 use lib.ListN.{length}
-use borrow.Author.Tests.{lt-leb, le-leb}
 use borrow.Author.Needs.{needs}
 use Rattle.specification.specs.Beside.{indexOrder}
-use Rattle.strided.proofs.CallLaws.{order-short, order-there}
+use Rattle.strided.proofs.CallLaws.{order-crossed}
 use Rattle.strided.proofs.beside.strided_index_order.Statement.{statement}
 use Rattle.strided.proofs.beside.strided_index_order.Tie as tie
-
-returns : tie.Need-returns
-returns c =
-    let s = c .before .before .before in order-short (leb 2 (length (s .args .values .now))) (indexOrder (s .args .strides .now) (length (s .args .out .now))) (lt-leb 2 _ (c .if1 .taken))
 
 index-order-into-requires : tie.Need-index-order-into-requires
 index-order-into-requires c κs = search needs
@@ -21,12 +15,12 @@ number-of-requires c κs = search needs
 same-length : tie.Need-same-length
 same-length c = search needs
 
-returns-2 : tie.Need-returns-2
-returns-2 c =
-    let s = c .before .before .before .before .before .before .before .before in
+returns : tie.Need-returns
+returns c =
+    let s = c .before .before .before .before .before .before in
     let x = c .before .before .before in
-    order-there (leb 2 (length (s .args .values .now))) (indexOrder (s .args .strides .now) (length (s .args .out .now))) (x .index-order-into .result) (le-leb 2 _ (c .before .before .before .before .before .if1 .left)) (x .index-order-into .ensures .answered) (x .index-order-into .ensures .written) (c .number-of .ensures)
+    order-crossed (indexOrder (s .args .strides .now) (length (s .args .out .now))) (x .index-order-into .result) (x .index-order-into .ensures .answered) (x .index-order-into .ensures .written) (c .number-of .ensures)
 
 pub strided-index-order-spec : {M : Type 1} → statement M
 strided-index-order-spec =
-    tie.close (tie.spec returns index-order-into-requires number-of-requires same-length returns-2)
+    tie.close (tie.spec index-order-into-requires number-of-requires same-length returns)
