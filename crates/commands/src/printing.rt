@@ -1,7 +1,7 @@
 // Output gathered in a buffer that is written when it is full. Each call answers the next free place.
 use crate::list::first_bytes;
+use integer::least;
 use integer::signed::magnitude;
-use spelling::hexadecimal::least;
 use view::layout::Layout;
 
 fn write_first(bytes: &[u8], count: usize) {

@@ -1,10 +1,17 @@
-// Integers in words of 64 bits: the greatest common divisor, arithmetic modulo a word, signed arithmetic that refuses on overflow.
+// Integers in words of 64 bits: the smaller of two, the greatest common divisor, arithmetic modulo a word, signed arithmetic that refuses on overflow.
 ghost use mathlib.Core.Path.{_≡_};
-ghost use Prim.Native.Nat.{_%_, _<_};
+ghost use Prim.Native.Nat.{_%_, _≤_, _<_, min};
 ghost use Rattle.integer.specs.Gcd.{gcd};
 
 pub mod modular;
 pub mod signed;
+
+// The smaller of two numbers.
+pub fn least(a: usize, b: usize) -> usize
+    ensures { λ r. ⌜ (r ≤ a) × (r ≤ b) × (r ≡ min a b) ⌝ }
+{
+    if a < b { a } else { b }
+}
 
 // a modulo b. A quotient of 0 or 1, which most of Euclid's are, needs no division.
 fn remainder(a: u64, b: u64) -> u64

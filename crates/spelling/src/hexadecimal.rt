@@ -1,16 +1,9 @@
 // Bytes written as pairs of hexadecimal digits.
 ghost use mathlib.Core.Path.{_≡_};
-ghost use Prim.Native.Nat.{_≤_, min};
 ghost use Rattle.specification.specs.Tests.{some};
 ghost use Rattle.spelling.specs.Front.{Front};
 ghost use Rattle.spelling.specs.Hexadecimal.{digitOf, notHexadecimal, byteOf, BytesPut};
-
-// The smaller of two numbers.
-pub fn least(a: usize, b: usize) -> usize
-    ensures { λ r. ⌜ (r ≤ a) × (r ≤ b) × (r ≡ min a b) ⌝ }
-{
-    if a < b { a } else { b }
-}
+use integer::least;
 
 // The value of a digit in either case, or 16 for a byte that is none.
 pub fn digit_value(byte: u8) -> u8
