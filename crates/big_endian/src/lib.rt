@@ -57,7 +57,7 @@ pub fn from_twos(n: u64) -> i64
     }
 }
 
-// A byte as a number of 64 bits.
+// A byte as a `u64`.
 fn wide(x: u8) -> u64
     ensures { λ r. ⌜ (r ≡ x) × (r < 256) ⌝ }
 {

@@ -1,7 +1,7 @@
 // The fields of a record at the front of an output.
 ghost use mathlib.Core.Path.{_≡_};
 ghost use mathlib.Core.List.{[], _∷_, _++_};
-ghost use Prim.Native.Nat.{_≤_, _<_, _+_};
+ghost use Prim.Native.Nat.{_≤_, _+_};
 ghost use lib.ListN.{length, take, drop};
 ghost use Rattle.specification.specs.Record.{recordLength};
 ghost use Rattle.view.specs.Model.{modelOf};

@@ -1,10 +1,10 @@
 // Stepping over a record: the part of the caller's bytes behind it.
 ghost use mathlib.Core.Path.{_≡_};
-ghost use Prim.Native.Nat.{_≤_, _<_, _^_};
+ghost use Prim.Native.Nat.{_≤_, _<_};
 ghost use lib.ListN.{length};
 ghost use Rattle.specification.specs.Record.{numberFrom, restOf};
 
-// A byte as a number that counts bytes.
+// A byte as a `usize`.
 pub(crate) fn wide(x: u8) -> usize
     ensures { λ r. ⌜ (r ≡ x) × (r < 256) ⌝ }
 {
