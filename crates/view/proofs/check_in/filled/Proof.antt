@@ -1,12 +1,16 @@
 -- The axes stored so far are those of the lists, one more with each turn.
-use mathlib.Core.Path.{_≡_, refl, sym, _∙_}
-use Prim.Native.Nat.{_-_, _≤_}
+use mathlib.Core.Path.{_≡_, refl, sym, ap, _∙_}
+use mathlib.Core.List.{List}
+use Prim.Native.Nat.{ℕ, _-_, _≤_}
 use native.Mathlib.Omega.{arith}
+use lib.IntN.{ℤ}
 use lib.ListN.{length, length-set}
 use borrow.Author.Needs.{needs}
 use mir.Syntax.{w64}
 use mir.ValLaws.{toZ-ofZ}
 use Rattle.lists.proofs.TableLaws.{table-zero}
+use Rattle.specification.specs.Axis.{Axis}
+use Rattle.specification.specs.Layout.{LayoutM}
 use Rattle.view.specs.Model.{axesIn}
 use Rattle.view.proofs.ModelLaws.{axesIn-store, axesIn-suc, axesIn-axesOf}
 use Rattle.view.proofs.check_in.filled.Statement.{statement}
@@ -15,7 +19,7 @@ use Rattle.view.proofs.check_in.filled.Tie as tie
 abbrev Inv-loop : tie.InvT-loop
 Inv-loop len extents strides next₀ i₀ next i =
     (i ≤ length extents)
-    × (next .len ≡ next₀ .len) × (next .offset ≡ next₀ .offset) × (next .rank ≡ next₀ .rank)
+    × (next .len ≡ len) × (next .offset ≡ next₀ .offset) × (next .rank ≡ next₀ .rank)
     × (length (next .extents) ≡ 16) × (length (next .strides) ≡ 16)
     × (axesIn (next .extents) (next .strides) i ≡ axesIn extents strides i)
 
@@ -72,13 +76,18 @@ loop-again c =
           ∙ rw (l .inv .6, toZ-ofZ w64 _ (record { sfits = c .stride .given })) (sym (axesIn-suc (a .extents .now) (a .strides .now) (l .i))),
     )
 
+-- a layout, as a function of its axes
+abbrev modelAt : ℕ → ℤ → List Axis → LayoutM
+modelAt buffer offset axes = record { buffer = buffer; offset = offset; axes = axes }
+
 returns : tie.Need-returns Inv-loop μ-loop
 returns c =
     let l = c .before .loop in
     let a = c .before .before .before .before .args in
     let e : l .i ≡ length (a .extents .now) = omega arith in
-    let x = axesIn-axesOf (a .extents .now) (a .strides .now) (length (a .extents .now)) refl (c .before .before .before .before .pre .1) in
-    rw (l .inv .1, l .inv .2, l .inv .3) (cc)
+    let x =
+    ap (axesIn (l .next .extents) (l .next .strides)) (sym e) ∙ l .inv .6 ∙ axesIn-axesOf (a .extents .now) (a .strides .now) (l .i) (sym e) (c .before .before .before .before .pre .1 ∙ sym e) in
+    rw (l .inv .1, l .inv .2, l .inv .3) (ap (modelAt (a .len) (a .offset .0)) x)
 
 pub filled-spec : {M : Type 1} → statement M
 filled-spec =
