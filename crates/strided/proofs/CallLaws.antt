@@ -23,9 +23,11 @@ use Rattle.view.specs.declared.offset.Indexed.the-variants.{At, Refused}
 use Rattle.injectivity.specs.Judgement.{JudgedAs}
 use Rattle.injectivity.specs.Judgement as judgement
 use Rattle.injectivity.specs.declared.Judgement.{Judgement}
-use Rattle.strided.specs.Crossing.{ifRoom, answerNumber, resultAfter, CrossedWithValues}
+use Rattle.flat.specs.Number.{answerNumber}
+use Rattle.strided.specs.Crossing.{ifRoom, resultAfter, CrossedWithValues}
 use Rattle.strided.specs.Calls.{Located, ToldAfter, Judging, WroteAfter, RecordWritten, RecordRead, layoutRead, OrderCrossed}
-use Rattle.strided.proofs.CrossingLaws.{placed, number-back, view-short, view-there}
+use Rattle.strided.proofs.CrossingLaws.{number-back, view-short, view-there}
+use Rattle.flat.proofs.WordLaws.{placed}
 
 -- ---- room for two words twice
 

@@ -1,37 +1,23 @@
 -- From what the code was told to what crosses the boundary, for the calls that leave a layout.
 use mathlib.Core.Bool.{Bool, true, false}
-use mathlib.Core.List.{List, [], _∷_, _++_}
+use mathlib.Core.List.{List}
 use mathlib.Core.Path.{_≡_, refl, sym, subst, ap, _∙_}
-use Prim.Native.Nat.{ℕ, _≤_}
-use native.Mathlib.Omega.{arith}
+use Prim.Native.Nat.{ℕ}
 use lib.IntN.{ℤ}
-use lib.ListN.{length, drop, set}
 use Rattle.specification.specs.Outcome.{Outcome, done, refused}
 use Rattle.specification.specs.Layout.{LayoutM}
 use Rattle.specification.specs.Record.{WasRead}
-use Rattle.view.specs.Answers.{numberOf, valuesOf, outcomeOf, answerOf}
+use Rattle.view.specs.Answers.{numberOf, outcomeOf, answerOf}
 use Rattle.view.specs.declared.layout.Answer.{Answer}
 use Rattle.view.specs.declared.layout.Answer.the-variants.{Done, Refused}
 use Rattle.view.specs.declared.layout.Refusal.{Refusal}
 use Rattle.record.specs.Normal.{orOld}
 use Rattle.record.specs.Reading.{readAfter}
-use Rattle.strided.specs.Flat.{Stored}
-use Rattle.strided.specs.Crossing.{ifRoom, answerNumber, valuesAfter, besideAnswer, layoutOf, Crossed, CrossedWithValues}
+use Rattle.flat.specs.Flat.{Stored}
+use Rattle.flat.specs.Number.{answerNumber}
+use Rattle.flat.proofs.WordLaws.{placed}
+use Rattle.strided.specs.Crossing.{ifRoom, valuesAfter, besideAnswer, layoutOf, Crossed, CrossedWithValues}
 use Rattle.strided.specs.Calls.{layoutRead}
-
--- one and two stores at the front
-pub front-one : (l : List ℕ) (a : ℕ) → 2 ≤ length l → set l 0 a ≡ a ∷ drop 1 l
-front-one [] a room = absurd (omega arith)
-front-one (x ∷ l) a room = refl
-
-pub front-two : (l : List ℕ) (a b : ℕ) → 2 ≤ length l → set (set l 0 a) 1 b ≡ a ∷ b ∷ drop 2 l
-front-two [] a b room = absurd (omega arith)
-front-two (x ∷ []) a b room = absurd (omega arith)
-front-two (x ∷ y ∷ l) a b room = refl
-
--- the values of a refusal at the front of a buffer
-abbrev pub placed : List ℕ → Refusal → List ℕ
-placed before why = valuesOf why ++ drop (length (valuesOf why)) before
 
 -- ---- what stands beside an answer
 

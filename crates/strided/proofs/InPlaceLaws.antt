@@ -20,10 +20,10 @@ use Rattle.view.specs.declared.layout.RankAfter.the-variants.{Is, Refused}
 use Rattle.view.proofs.HandedLaws.{handed-many-axes}
 use Rattle.view.proofs.ModelLaws.{axesOf-take, length-axesIn}
 use Rattle.strided.specs.Crossing.{layoutOf, Answered, CrossedWithValues, Viewing}
-use Rattle.strided.specs.Flat.{holdsView, modelOfFlat, Stored}
-use Rattle.strided.proofs.CopyLaws.{behind-front}
+use Rattle.flat.specs.Flat.{holdsView, modelOfFlat, Stored}
+use Rattle.flat.proofs.CopyLaws.{behind-front}
 use Rattle.strided.proofs.CrossingLaws.{view-there}
-use Rattle.strided.proofs.FlatLaws.{axes-in-front}
+use Rattle.flat.proofs.FlatLaws.{axes-in-front}
 use Rattle.strided.proofs.RoomLaws.{view-room}
 
 -- the words of the axes make the layout that the buffers hold

@@ -1,6 +1,4 @@
 pub mod RoomLaws
-pub mod CopyLaws
-pub mod FlatLaws
 pub mod StepLaws
 pub mod CrossingLaws
 pub mod InPlaceLaws

@@ -5,7 +5,7 @@ use Prim.Native.Nat.{ℕ, _≤_}
 use lib.Dec.{leb}
 use borrow.Author.Tests.{leb-true}
 use Rattle.specification.proofs.ReachLaws.{and-true}
-use Rattle.strided.specs.Flat.{holdsLayout, holdsView}
+use Rattle.flat.specs.Flat.{holdsLayout, holdsView}
 
 pub layout-room : (numbers steps : ℕ) → holdsLayout numbers steps ≡ true → (18 ≤ numbers) × (17 ≤ steps)
 layout-room numbers steps held =

@@ -14,7 +14,8 @@ use Rattle.specification.specs.Record.{Made, WasRead, verdictByte, outputAfter,
 use Rattle.dense.specs.Dense.{denseOf}
 use Rattle.dense.specs.declared.Dense.{Dense}
 use Rattle.injectivity.specs.Judgement.{Told, toldOf}
-use Rattle.strided.specs.Crossing.{ifRoom, answerNumber, valuesAfter, resultAfter, frontAfter, CrossedWithValues}
+use Rattle.flat.specs.Number.{answerNumber}
+use Rattle.strided.specs.Crossing.{ifRoom, valuesAfter, resultAfter, frontAfter, CrossedWithValues}
 
 -- the offset of an index vector
 pub record Located (outcome : Outcome ℤ) (offset : ℤ) (values : List ℕ) (offset-then : ℤ) (values-then : List ℕ) (answer : ℕ) : Type 0 where

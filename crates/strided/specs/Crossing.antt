@@ -12,17 +12,13 @@ use Rattle.specification.specs.Views.{After}
 use Rattle.view.specs.Answers.{numberOf, valuesOf}
 use Rattle.view.specs.declared.layout.RankAfter.{RankAfter}
 use Rattle.view.specs.declared.layout.RankAfter.the-variants.{Is, Refused}
-use Rattle.strided.specs.Flat.{holdsLayout, holdsView, modelOfFlat, Stored}
+use Rattle.flat.specs.Flat.{holdsLayout, holdsView, modelOfFlat, Stored}
+use Rattle.flat.specs.Number.{answerNumber}
 
 -- the outcome where there is room, else 255
 abbrev pub ifRoom : {A : Type 0} → Bool → Outcome A → Outcome A
 ifRoom true outcome = outcome
 ifRoom false outcome = refused 255 []
-
--- 0 done, else the number of the refusal
-abbrev pub answerNumber : {A : Type 0} → Outcome A → ℕ
-answerNumber (done a) = 0
-answerNumber (refused number values) = number
 
 -- the values of a refusal in the first places; the others stay
 abbrev pub valuesAfter : {A : Type 0} → Outcome A → List ℕ → List ℕ

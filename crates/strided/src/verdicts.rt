@@ -9,7 +9,7 @@ ghost use Rattle.specification.specs.Verdict.{verdict};
 ghost use Rattle.injectivity.specs.Judgement.{outcomeOf};
 ghost use Rattle.strided.specs.Crossing.{ifRoom};
 ghost use Rattle.strided.specs.Calls.{ToldAfter, Judging};
-use crate::refusals::refuse;
+use flat::refusals::refuse;
 use injectivity::Judgement;
 use injectivity::is_injective_layout;
 

@@ -10,7 +10,7 @@ use lib.IntN.{pos}
 use mir.Syntax.{w64}
 use mir.ValLaws.{toZ-ofZ}
 use borrow.Author.Needs.{needs}
-use Rattle.strided.proofs.CopyLaws.{front-turn}
+use Rattle.flat.proofs.CopyLaws.{front-turn}
 use Rattle.strided.proofs.beside.store_strides.Statement.{statement}
 use Rattle.strided.proofs.beside.store_strides.Tie as tie
 

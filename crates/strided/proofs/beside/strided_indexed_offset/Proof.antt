@@ -8,7 +8,7 @@ use borrow.Author.Tests.{not-true, not-false}
 use borrow.Author.Needs.{needs}
 use Rattle.specification.specs.Layout.{LayoutM}
 use Rattle.specification.specs.Beside.{indexedOffset}
-use Rattle.strided.specs.Flat.{holdsView, modelOfFlat}
+use Rattle.flat.specs.Flat.{holdsView, modelOfFlat}
 use Rattle.strided.proofs.CallLaws.{located-short, located-at, located-refused}
 use Rattle.strided.proofs.RoomLaws.{view-room}
 use Rattle.strided.proofs.beside.strided_indexed_offset.Statement.{statement}

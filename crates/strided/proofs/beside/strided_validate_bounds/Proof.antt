@@ -5,7 +5,7 @@ use mir.Syntax.{w64}
 use mir.ValLaws.{toZ-ofZ}
 use borrow.Author.Needs.{needs}
 use Rattle.specification.specs.CheckIn.{checkIn}
-use Rattle.strided.specs.Crossing.{answerNumber}
+use Rattle.flat.specs.Number.{answerNumber}
 use Rattle.strided.proofs.CrossingLaws.{number-back}
 use Rattle.strided.proofs.beside.strided_validate_bounds.Statement.{statement}
 use Rattle.strided.proofs.beside.strided_validate_bounds.Tie as tie

@@ -5,7 +5,7 @@ use borrow.Author.Needs.{needs}
 use Rattle.record.specs.Writer.{wroteOf}
 use Rattle.record.specs.declared.writer.Wrote.{Wrote}
 use Rattle.strided.specs.Calls.{WroteAfter}
-use Rattle.strided.proofs.CrossingLaws.{front-one}
+use Rattle.flat.proofs.WordLaws.{front-one}
 use Rattle.strided.proofs.records.answer_wrote.Statement.{statement}
 use Rattle.strided.proofs.records.answer_wrote.Tie as tie
 

@@ -6,7 +6,7 @@ use borrow.Author.Tests.{not-true, not-false}
 use borrow.Author.Needs.{needs}
 use Rattle.specification.specs.Record.{readOf}
 use Rattle.view.specs.Model.{viewedOf}
-use Rattle.strided.specs.Flat.{holdsView}
+use Rattle.flat.specs.Flat.{holdsView}
 use Rattle.strided.specs.Crossing.{layoutOf}
 use Rattle.strided.proofs.CrossingLaws.{read-back}
 use Rattle.strided.proofs.CallLaws.{read-short, read-there}

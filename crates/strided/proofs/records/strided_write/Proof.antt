@@ -6,7 +6,7 @@ use borrow.Author.Tests.{not-true, not-false}
 use borrow.Author.Needs.{needs}
 use Rattle.view.specs.Model.{modelOf}
 use Rattle.record.specs.Writer.{wroteOf}
-use Rattle.strided.specs.Flat.{holdsView, modelOfFlat}
+use Rattle.flat.specs.Flat.{holdsView, modelOfFlat}
 use Rattle.strided.proofs.CallLaws.{written-short, written-there}
 use Rattle.strided.proofs.RoomLaws.{view-room}
 use Rattle.strided.proofs.records.strided_write.Statement.{statement}

@@ -1,6 +1,6 @@
 -- `put_found`: two stores at the front.
 use borrow.Author.Needs.{needs}
-use Rattle.strided.proofs.CrossingLaws.{front-two}
+use Rattle.flat.proofs.WordLaws.{front-two}
 use Rattle.strided.proofs.verdicts.put_found.Statement.{statement}
 use Rattle.strided.proofs.verdicts.put_found.Tie as tie
 

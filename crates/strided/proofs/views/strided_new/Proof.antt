@@ -15,7 +15,7 @@ use Rattle.specification.specs.CheckIn.{checkIn}
 use Rattle.view.specs.Answers.{outcomeOf, answerOf, numberOf, valuesOf}
 use Rattle.view.specs.Model.{modelFrom}
 use Rattle.view.proofs.CheckInLaws.{checked-refused, checked-done}
-use Rattle.strided.specs.Flat.{holdsLayout, Stored}
+use Rattle.flat.specs.Flat.{holdsLayout, Stored}
 use Rattle.strided.proofs.CrossingLaws.{crossed-short, crossed-room}
 use Rattle.strided.proofs.RoomLaws.{layout-room}
 use Rattle.strided.proofs.views.strided_new.Statement.{statement}

@@ -6,7 +6,7 @@ use borrow.Author.Tests.{not-true, not-false}
 use borrow.Author.Needs.{needs}
 use Rattle.specification.specs.Normal.{normalForm}
 use Rattle.view.specs.Model.{viewedOf}
-use Rattle.strided.specs.Flat.{holdsLayout, modelOfFlat}
+use Rattle.flat.specs.Flat.{holdsLayout, modelOfFlat}
 use Rattle.strided.specs.Crossing.{layoutOf}
 use Rattle.strided.proofs.CrossingLaws.{crossed-short, crossed-room, normal-back}
 use Rattle.strided.proofs.RoomLaws.{layout-room}

@@ -1,0 +1,3 @@
+pub mod CopyLaws
+pub mod FlatLaws
+pub mod WordLaws
