@@ -1,13 +1,13 @@
 -- Laws of a call list in numbers: the calls from one call on, where it is ill-formed, and a list past 16 entries is refused by its length.
 use mathlib.Core.Path.{_≡_, refl, sym, ap, _∙_}
-use mathlib.Core.Bool.{Bool, true, false, _&&_, _||_}
+use mathlib.Core.Bool.{Bool, true, false, _||_}
 use mathlib.Core.List.{List, [], _∷_}
 use Prim.Native.Nat.{ℕ, zero, suc, min, _+_, _-_, _<_, _≤_}
 use native.Mathlib.Omega.{arith}
-use lib.Dec.{leb, ltb}
+use lib.Dec.{ltb}
 use lib.ListN.{length, take, drop, getD, length-drop, length-take, drop-of-length-le}
 use lib.Seq.{drop-cons, drop-drop, take-all}
-use borrow.Author.Tests.{lt-ltb, ltb-true, ltb-false, le-leb, lt-leb, eq-eqb, ne-eqb}
+use borrow.Author.Tests.{lt-ltb, ltb-true, ltb-false, le-leb, eq-eqb, ne-eqb}
 use Rattle.specification.specs.Tests.{if_then_else_}
 use Rattle.specification.specs.Outcome.{refused, refuseIf, _>>_}
 use Rattle.specification.specs.Layout.{LayoutM, tooLong, handed}
@@ -169,29 +169,3 @@ module _ {calls : List ℕ} {start : LayoutM} {place : ℕ} {current : LayoutM} 
       let e = drop-of-length-le calls {i = place} h in
       let t : takenWithin (length calls) calls ≡ length calls = r .taken ∙ rw e (omega (arith, r .within)) in
       (sym (ends-here (ap callsOf e)), rw (t, eq-eqb (length calls) (length calls) refl))
-
--- ---- what makes a call ill-formed
-
-first-false : (a b c : Bool) → a ≡ false → (a && b && c) ≡ false
-first-false true b c e = absurd (let z : _≡_ {A = ℕ} 0 1 = cc in omega arith)
-first-false false b c e = refl
-
-second-false : (a b c : Bool) → b ≡ false → (a && b && c) ≡ false
-second-false true true c e = absurd (let z : _≡_ {A = ℕ} 0 1 = cc in omega arith)
-second-false true false c e = refl
-second-false false b c e = refl
-
-third-false : (a b c : Bool) → c ≡ false → (a && b && c) ≡ false
-third-false true true c e = e
-third-false true false c e = refl
-third-false false b c e = refl
-
-module _ (kind count : ℕ) (rest : List ℕ) where
-  pub kind-zero : kind ≡ 0 → wellFormed kind count rest ≡ false
-  kind-zero e = first-false (leb 1 kind) (leb kind 3) (leb count (length rest)) (lt-leb 1 kind (omega arith))
-
-  pub kind-large : 3 < kind → wellFormed kind count rest ≡ false
-  kind-large h = second-false (leb 1 kind) (leb kind 3) (leb count (length rest)) (lt-leb kind 3 h)
-
-  pub count-large : length rest < count → wellFormed kind count rest ≡ false
-  count-large h = third-false (leb 1 kind) (leb kind 3) (leb count (length rest)) (lt-leb count (length rest) h)

@@ -11,8 +11,7 @@ use Rattle.specification.specs.Layout.{LayoutM}
 use Rattle.specification.specs.Calls.{endOf}
 use Rattle.specification.proofs.ReachLaws.{and-true}
 use Rattle.record.specs.declared.calls.Ended.the-variants.{IllFormed}
-use Rattle.record.specs.CallList.{wellFormed, callsOf, endedOf}
-use Rattle.record.specs.CallPlace.{isCallAt}
+use Rattle.record.specs.CallList.{wellFormed, isCallAt, callsOf, endedOf}
 use Rattle.record.proofs.CallListLaws.{Running, running-ill, running-odd}
 
 -- the kind of a call that stands at a place is known, and its arguments end within the list

@@ -74,6 +74,7 @@ read-done (done w) e = (w, refl, ap (λ (a : After). a .layout) e)
 read-done (refused number values) e = absurd (clash (ap (λ (a : After). a .answer) e))
 
 pub running-round-trip : RunningRoundTrip
+unfolding writeAnswer
 running-round-trip = record {
   write-read = λ l output scratch output-then scratch-then wrote n a w e scratch′ scratch-then′ answer h r.
       let m = made-record (modelOf l) output scratch output-then scratch-then (wroteOf wrote) w e in
@@ -87,6 +88,8 @@ running-round-trip = record {
       let o : output-then ≡ t .0 .bytes ++ drop (length (t .0 .bytes)) output
       = w .output-is ∙ ap (λ (x : LayoutM). outputAfter (written x (length output) (length scratch′)) output) (d .2) ∙ ap (λ (x : Outcome Made). outputAfter x output) (t .1) in
       let f = reads bytes (length scratch) (d .0) (d .1) .whole .fields in
-      let n : length (t .0 .bytes) ≡ numberFrom bytes 0 2 = ap length (t .2) ∙ length-take-le (numberFrom bytes 0 2) bytes (omega (arith, f .length-is, f .whole-there)) in
-      ap (take (numberFrom bytes 0 2)) o ∙ take-at (t .0 .bytes) (drop (length (t .0 .bytes)) output) (numberFrom bytes 0 2) n ∙ t .2;
+      let n : length (t .0 .bytes) ≡ numberFrom bytes 0 2 = ap length (t .2) ∙ length-take-le (numberFrom bytes 0 2) bytes (omega (arith, f .length-is, f .whole-there)) in (
+        w .answer-is ∙ ap (λ (x : LayoutM). writeAnswer (written x (length output) (length scratch′))) (d .2) ∙ ap writeAnswer (t .1) ∙ ap done n,
+        ap (take (numberFrom bytes 0 2)) o ∙ take-at (t .0 .bytes) (drop (length (t .0 .bytes)) output) (numberFrom bytes 0 2) n ∙ t .2,
+      );
 }

@@ -3,7 +3,7 @@ use mathlib.Core.Bool.{Bool, _&&_}
 use mathlib.Core.List.{List, [], _∷_}
 use Prim.Native.Nat.{ℕ, zero, suc, _+_}
 use lib.Dec.{eqb, leb}
-use lib.ListN.{length, take, drop}
+use lib.ListN.{length, take, drop, getD}
 use Rattle.specification.specs.Tests.{if_then_else_}
 use Rattle.specification.specs.Views.{pairsOf}
 use Rattle.specification.specs.Calls.{Call, permuting, diagonal, broadcasting}
@@ -17,6 +17,10 @@ callOf kind numbers = if eqb kind 1 then permuting numbers else if eqb kind 2 th
 -- a known kind, with as many numbers as it says there are
 abbrev pub wellFormed : ℕ → ℕ → List ℕ → Bool
 wellFormed kind count rest = leb 1 kind && leb kind 3 && leb count (length rest)
+
+-- a call stands at a place of a list: its first two numbers are there, and with those behind them they are well-formed
+abbrev pub isCallAt : List ℕ → ℕ → Bool
+isCallAt calls place = leb (place + 2) (length calls) && wellFormed (getD calls place 0) (getD calls (place + 1) 0) (drop (place + 2) calls)
 
 -- the calls from the front on, up to the first that is ill-formed; the first number bounds how many are looked for
 unfoldable pub callsWithin : ℕ → List ℕ → List Call

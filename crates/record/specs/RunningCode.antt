@@ -56,8 +56,8 @@ pub record RunningRoundTrip : Type 0 where
       → Writing (modelOf l) output scratch (wroteOf wrote) output-then scratch-then → wroteOf wrote ≡ done n
       → (scratch′ scratch-then′ : List ℕ) (answer : After) → wordsNeeded (normalOf (modelOf l) .axes) ≤ length scratch′ → Reading output-then scratch′ answer scratch-then′
       → answer ≡ record { answer = pass; layout = withBuffer (normalOf (modelOf l)) }
-  -- read then write: the bytes of the front again
+  -- read then write: a record of the same length is made, and it is the bytes of the front again
   pub read-write : (bytes scratch scratch-then : List ℕ) (l : LayoutM) → Bytes bytes → Reading bytes scratch (record { answer = pass; layout = l }) scratch-then
       → (output scratch′ output-then scratch-then′ : List ℕ) (answer : Outcome ℕ) → wordsNeeded (l .axes) ≤ length scratch′ → numberFrom bytes 0 2 ≤ length output
       → Writing l output scratch′ answer output-then scratch-then′
-      → take (numberFrom bytes 0 2) output-then ≡ take (numberFrom bytes 0 2) bytes
+      → (answer ≡ done (numberFrom bytes 0 2)) × (take (numberFrom bytes 0 2) output-then ≡ take (numberFrom bytes 0 2) bytes)
