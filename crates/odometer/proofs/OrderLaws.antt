@@ -27,7 +27,7 @@ goes-round : (e i : ℕ) (es x : List ℕ) → e ≤ i + 1 → after (e ∷ es) 
 unfolding after
 goes-round e i es x h = ap (λ (t : Bool). if t then (i + 1) ∷ x else 0 ∷ after es x) (le-ltb (i + 1) e h)
 
--- ---- the same at place j
+-- ---- at place j of longer vectors
 
 after-up : (es x : List ℕ) (j : ℕ) → j < length es → j < length x → getD x j 0 + 1 < getD es j 0
     → after (drop j es) (drop j x) ≡ (getD x j 0 + 1) ∷ drop (suc j) x

@@ -34,7 +34,7 @@ abbrev pub negativeOf : Unsigned → Checked
 negativeOf (Is n) = checkedOf (negℤ (pos n))
 negativeOf Not = Over
 
--- the same as a positive number
+-- a magnitude as a positive number, where 64 bits hold it
 abbrev pub positiveOf : Unsigned → Checked
 positiveOf (Is n) = checkedOf (pos n)
 positiveOf Not = Over
