@@ -11,6 +11,7 @@ pub mod JudgedLaws
 pub mod ReadLaws
 pub mod CallsInNumbers
 pub mod ChainThere
+pub mod PremisesAreContracts
 pub mod ChainLaws
 pub mod RunningLaws
 pub mod Proved

@@ -1,5 +1,5 @@
 -- Calls of the views as they were made, one after another: what each call handed back, and the next call on that layout.
--- `Layout`, `Viewed` and `Ran` are what runs; the premises are the contracts of the calls, word for word.
+-- `Layout`, `Viewed` and `Ran` are what runs; the premises are the contracts of the calls, word for word (held to them in proofs/PremisesAreContracts).
 use mathlib.Core.List.{List, [], _∷_}
 use mathlib.Core.Path.{_≡_}
 use Prim.Native.Nat.{ℕ}

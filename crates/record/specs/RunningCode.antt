@@ -1,5 +1,5 @@
 -- Demand 3 and the round trip said of running code: what any two chains of calls, or runs of `run_calls`, and any calls of `write_record` and `read_record` come to.
--- `Layout`, `Ran` and `Wrote` are what the functions hand back; the premises are their contracts, word for word.
+-- `Layout`, `Ran` and `Wrote` are what the functions hand back; the premises are their contracts, word for word (held to them in proofs/PremisesAreContracts).
 use mathlib.Core.List.{List}
 use mathlib.Core.Path.{_≡_}
 use Prim.Native.Nat.{ℕ, _≤_}
