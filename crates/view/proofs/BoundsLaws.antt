@@ -110,7 +110,7 @@ bounds-three l = by (isEmpty (l .axes)) _ (refuses _)
     by false c f = f
 
 -- the ends, where the layout is in reach
-within-ends : (l : LayoutM) {e : Ends} → reachOf l ≡ done e → (inReach l ≡ true) × (e ≡ (if isEmpty (l .axes) then none else ends (lowest l) (highest l)))
+pub within-ends : (l : LayoutM) {e : Ends} → reachOf l ≡ done e → (inReach l ≡ true) × (e ≡ (if isEmpty (l .axes) then none else ends (lowest l) (highest l)))
 unfolding reachOf
 within-ends l q = let p = passed (not (inReach l)) 3 [] q in (not-false (inReach l) (p .0), sym (done-inj (p .1)))
 

@@ -9,6 +9,7 @@ pub mod HandedLaws
 pub mod CheckInLaws
 pub mod ListedLaws
 pub mod CountLaws
+pub mod AnswersClaimed
 pub mod IndexedLaws
 pub mod ChainLaws
 pub mod RangeLaws

@@ -26,6 +26,6 @@ elementCount extents =
     >> done (product extents)
 
 -- how many positions axes have: 8 as the normal form refuses it. Up to 16 axes it is the count of their extents
--- (`element-count-of-axes`), so that strides do not matter
+-- (`ElementCountClaims.of-axes`), so that strides do not matter
 unfoldable pub countOf : List Axis → Outcome ℕ
 countOf axes = refuseIf (overfull axes) 8 [] >> done (positions axes)

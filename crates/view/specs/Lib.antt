@@ -5,5 +5,6 @@ pub mod Bounded
 pub mod Reach
 pub mod Refusals
 pub mod Count
+pub mod AnswerClaims
 pub mod Indexed
 pub mod Ties
