@@ -1,4 +1,5 @@
 // The text program: a line of words in, a line of text out.
+#![tactic(auto)]
 mod arguments;
 mod change;
 mod command;

@@ -1,1 +1,2 @@
 // Index vectors in the order of their positions, and their sums: definitions in specs/, laws in proofs/.
+#![tactic(auto)]

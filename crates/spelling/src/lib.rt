@@ -1,4 +1,5 @@
 // Numbers and bytes as text spells them: decimal numbers, and bytes as pairs of hexadecimal digits.
+#![tactic(auto)]
 pub mod hexadecimal;
 pub mod line;
 pub mod number;
