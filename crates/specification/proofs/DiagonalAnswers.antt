@@ -138,8 +138,11 @@ module _ (l : LayoutM) (pairs : List (ℕ × ℕ)) where
   by-rule (sooner (HandedRefused.too_many (inl h))) = DiagonalRefused.too_many h
   by-rule (sooner (HandedRefused.too_many (inr h))) = absurd (omega arith)
   by-rule (sooner (HandedRefused.not-accepted h k f)) = DiagonalRefused.not-accepted h f
-  by-rule (later w (sooner (first i h g (outside o)))) = DiagonalRefused.outside w.0 i h g o
-  by-rule (later w (sooner (first i h g (same-axis o e)))) = DiagonalRefused.same-axis w.0 i h g o e
+  by-rule (later w (sooner (first i h g b))) = bad i _ b h g
+    where
+      bad : (i : ℕ) (vs : List ℕ) → {n : ℕ} → BadPair (rank l) (pair_at pairs i) n vs → i < length pairs → ((j : ℕ) → j < i → GoodPair (rank l) pairs j) → DiagonalRefused l pairs n vs
+      bad i vs (outside o) h g = DiagonalRefused.outside w.0 i h g o
+      bad i vs (same-axis o e) h g = DiagonalRefused.same-axis w.0 i h g o e
   by-rule (later w (later g (sooner (first p h s (only f))))) = DiagonalRefused.sum-out w.0 g p h f
   by-rule (later w (later g (later s (out-of-bounds e)))) = DiagonalRefused.not-checked w.0 g s e
 

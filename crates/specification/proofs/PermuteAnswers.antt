@@ -80,7 +80,10 @@ module _ (l : LayoutM) (order : List ℕ) where
   by-rule (sooner (HandedRefused.too_many s)) = PermuteRefused.too_many s
   by-rule (sooner (HandedRefused.not-accepted h k f)) = PermuteRefused.not-accepted h k f
   by-rule (later w (sooner (only f))) = PermuteRefused.wrong-length w.0 w.1 f
-  by-rule (later w (later e (first i h g (only f)))) = PermuteRefused.bad-entry w.0 e i h g f
+  by-rule (later w (later e (first i h g o))) = bad i _ o h g
+    where
+      bad : (i : ℕ) (vs : List ℕ) → {n : ℕ} → Only 5 (get_or order i 0 ∷ rank l ∷ []) (GoodEntry (rank l) order i) n vs → i < length order → ((j : ℕ) → j < i → GoodEntry (rank l) order j) → PermuteRefused l order n vs
+      bad i vs (only f) h g = PermuteRefused.bad-entry w.0 e i h g f
 
   of-rule : {n : ℕ} {vs : List ℕ} → PermuteRefused l order n vs → Refused n vs
   of-rule (PermuteRefused.too_many s) = sooner (HandedRefused.too_many s)
