@@ -5,7 +5,7 @@ ghost use Rattle.specification.specs.Record.{bigEndian, twos, numberFrom};
 ghost use Rattle.big_endian.specs.Twos.{signed_of};
 
 // A place counted in bytes.
-#[derive(Drop)]
+#[derive(Clone, Copy)]
 pub struct BytePlace(pub usize);
 
 // The 8 bytes of x at the front of out.

@@ -1,7 +1,7 @@
 // The commands by name, and what words each takes.
 use check::same;
 
-#[derive(Drop)]
+#[derive(Clone, Copy)]
 pub enum Command {
     New,
     Bounds,
@@ -24,7 +24,7 @@ pub enum Command {
 }
 
 // What a word is: a number, a list of numbers or pairs, bytes, or a number up to a limit of the program.
-#[derive(Drop)]
+#[derive(Clone, Copy)]
 pub enum Form {
     Unsigned,
     Signed,
@@ -36,7 +36,7 @@ pub enum Form {
 }
 
 // How many words follow the command, and what they are. The forms past the count say nothing.
-#[derive(Drop)]
+#[derive(Clone, Copy)]
 pub struct Shape {
     pub count: usize,
     pub first: Form,

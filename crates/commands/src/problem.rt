@@ -2,7 +2,7 @@
 use crate::command::{Command, Form};
 
 // With the number of the word; of an entry in a list also its number, and 0 where the word is one entry.
-#[derive(Drop)]
+#[derive(Clone, Copy)]
 pub enum Problem {
     Nothing,
     LongLine,

@@ -11,7 +11,7 @@ use view::bounds::empty_layout;
 use view::layout::{Answer, Refusal};
 
 // As many strides as the count says; none beside a refusal.
-#[derive(Drop)]
+#[derive(Clone, Copy)]
 pub struct Dense {
     pub strides: [i64; 16],
     pub count: usize,

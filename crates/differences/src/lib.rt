@@ -5,7 +5,7 @@ ghost use Rattle.odometer.specs.Odometer.{SumsFit};
 ghost use Rattle.differences.specs.Differences.{Stands, Stepped};
 
 // Where a step leads: the two sums there, and whether the difference before was the last.
-#[derive(Drop)]
+#[derive(Clone, Copy)]
 pub struct Sums {
     pub up: u64,
     pub down: u64,

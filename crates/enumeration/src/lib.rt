@@ -14,7 +14,7 @@ ghost use Rattle.enumeration.specs.Parts.{Part};
 ghost use Rattle.enumeration.specs.Enumeration.{Block, AnswersBlocks};
 
 // Step 6's answer: no two positions have one sum, some two have, or the scratch is short and so many words are needed.
-#[derive(Drop)]
+#[derive(Clone, Copy)]
 pub enum Enumerated {
     Distinct,
     Repeated,

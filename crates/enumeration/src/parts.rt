@@ -10,14 +10,14 @@ ghost use Rattle.enumeration.specs.Parts.{SplitFor, AtMiddle, Filled, MeetsTable
 use crate::table;
 
 // How many axes the first part has, and how many difference vectors.
-#[derive(Drop)]
+#[derive(Clone, Copy)]
 pub struct Split {
     pub place: usize,
     pub vectors: u64,
 }
 
 // What a part leaves in the table: whether a distance is 0, and what no other is above.
-#[derive(Drop)]
+#[derive(Clone, Copy)]
 pub struct Distances {
     pub zero: bool,
     pub most: u64,

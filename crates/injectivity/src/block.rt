@@ -4,7 +4,7 @@ ghost use Rattle.injectivity.specs.Axes.{axesFrom};
 ghost use Rattle.injectivity.specs.Block.{WithinWords, BlockFound};
 
 // How many of the sorted axes are in the block, the product of their extents, and the sum of their absolute spans.
-#[derive(Drop)]
+#[derive(Clone, Copy)]
 pub struct InterleavedBlock {
     pub len: usize,
     pub total: u64,
@@ -12,7 +12,7 @@ pub struct InterleavedBlock {
 }
 
 // No block, where every axis is separated, or the block.
-#[derive(Drop)]
+#[derive(Clone, Copy)]
 pub enum Interleaved {
     NoBlock,
     Block(InterleavedBlock),

@@ -13,7 +13,7 @@ use view::count::{Count, checked_element_count};
 use view::layout::Refusal;
 
 // Settled by steps 1 and 2, or left to the block.
-#[derive(Drop)]
+#[derive(Clone, Copy)]
 pub enum Inputs {
     Settled(Judgement),
     Valid,

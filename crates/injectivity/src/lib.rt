@@ -17,7 +17,7 @@ use judge::judge_block;
 use view::layout::Refusal;
 
 // The verdict with the number of difference vectors looked at, or the refusal.
-#[derive(Drop)]
+#[derive(Clone, Copy)]
 pub enum Judgement {
     Distinct(u64),
     Repeated(u64),

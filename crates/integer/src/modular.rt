@@ -3,7 +3,7 @@ ghost use Rattle.std.specs.Prelude.{◌≡◌, ◌+◌, ◌*◌, ◌%◌, ◌<�
 ghost use Rattle.integer.specs.Congruence.{Congruent, IsGcdInverse};
 
 // A greatest common divisor of two numbers, and an inverse of the first modulo the second, up to that divisor.
-#[derive(Drop)]
+#[derive(Clone, Copy)]
 pub struct GcdInverse {
     pub gcd: u64,
     pub inverse: u64,

@@ -4,7 +4,7 @@ ghost use Rattle.integer.specs.Multiple.{◌·◌};
 ghost use Rattle.integer.specs.Range.{checkedOf};
 
 // An integer that an i64 holds, or none.
-#[derive(Drop)]
+#[derive(Clone, Copy)]
 pub enum Checked {
     Fits(i64),
     Over,

@@ -9,14 +9,14 @@ use view::layout::{Layout, Viewed};
 use view::numbers::diagonal_by_numbers;
 
 // The whole list was run, or it is ill-formed from a place on.
-#[derive(Drop)]
+#[derive(Clone, Copy)]
 pub enum Ended {
     All,
     IllFormed(usize),
 }
 
 // The layout after the calls, and where the list ended.
-#[derive(Drop)]
+#[derive(Clone, Copy)]
 pub struct Ran {
     pub layout: Layout,
     pub ended: Ended,

@@ -11,7 +11,7 @@ use big_endian::{BytePlace, from_twos, u64_at};
 use view::layout::{Answer, Layout, ReadingOffset, Refusal};
 
 // The layout and the byte of its verdict that front bytes tell, or refusal 11.
-#[derive(Drop)]
+#[derive(Clone, Copy)]
 pub struct Front {
     pub layout: Layout,
     pub verdict: u8,

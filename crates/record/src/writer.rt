@@ -13,14 +13,14 @@ use injectivity::{Judgement, is_injective_layout};
 use view::layout::{Answer, Layout, Refusal};
 
 // The place behind the record, or the refusal.
-#[derive(Drop)]
+#[derive(Clone, Copy)]
 pub enum Wrote {
     Upto(BytePlace),
     Refused(Refusal),
 }
 
 // The byte of a verdict, or the refusal.
-#[derive(Drop)]
+#[derive(Clone, Copy)]
 pub enum VerdictByte {
     Is(u8),
     Refused(Refusal),

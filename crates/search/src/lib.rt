@@ -16,7 +16,7 @@ mod set_up;
 const LARGEST_BOX: u64 = 8388609;
 
 // Step 5's answer: half is past the budget, or some vector is completed, or none is, with the number of vectors looked at.
-#[derive(Drop)]
+#[derive(Clone, Copy)]
 pub enum Searched {
     PastBudget,
     Repeated(u64),
@@ -24,7 +24,7 @@ pub enum Searched {
 }
 
 // Half, where it is within the budget.
-#[derive(Drop)]
+#[derive(Clone, Copy)]
 enum Half {
     Within(u64),
     Past,

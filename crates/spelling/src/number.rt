@@ -6,7 +6,7 @@ ghost use Rattle.spelling.specs.Number.{notDigit, unsignedOf, signed_of};
 use integer::signed::{Checked, checked_negative, checked_positive};
 
 // A number that a u64 holds, or none.
-#[derive(Drop)]
+#[derive(Clone, Copy)]
 pub enum Unsigned {
     Is(u64),
     Not,

@@ -3,7 +3,7 @@ ghost use Rattle.std.specs.Prelude.{◌≡◌, ℕ, ◌*◌, ◌≤◌};
 ghost use Rattle.view.specs.Bounded.{boundedBy};
 
 // A number that is at most a limit, or none.
-#[derive(Drop)]
+#[derive(Clone, Copy)]
 pub enum Bounded {
     Is(u64),
     Over,

@@ -14,7 +14,7 @@ use crate::layout::{Answer, ReadingOffset, Refusal};
 use integer::signed::magnitude;
 
 // The lowest and the highest offset of a layout that is not empty, where all its offsets are accepted.
-#[derive(Drop)]
+#[derive(Clone, Copy)]
 pub enum Reach {
     Empty,
     Between(ReadingOffset, ReadingOffset),
@@ -22,7 +22,7 @@ pub enum Reach {
 }
 
 // Two sums, each at most a limit of its own, or none.
-#[derive(Drop)]
+#[derive(Clone, Copy)]
 pub enum Spans {
     Of(u64, u64),
     Over,

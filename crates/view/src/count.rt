@@ -7,7 +7,7 @@ use crate::bounds::empty_layout;
 use crate::layout::Refusal;
 
 // How many positions there are, or why that is not said: more than 16 extents, or more positions than 64 bits hold.
-#[derive(Drop)]
+#[derive(Clone, Copy)]
 pub enum Count {
     Of(u64),
     Refused(Refusal),

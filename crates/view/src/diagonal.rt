@@ -15,11 +15,11 @@ use crate::layout::{Answer, Layout, RankAfter, ReadingOffset, Refusal, Viewed};
 use integer::signed::{Checked, checked_add};
 
 // Two axes that are to be one.
-#[derive(Drop)]
+#[derive(Clone, Copy)]
 pub struct AxisPair(pub usize, pub usize);
 
 // The root of each axis, which is the lowest axis of its class, and the first refusal of a pair.
-#[derive(Drop)]
+#[derive(Clone, Copy)]
 pub(crate) struct Ties {
     pub roots: [usize; 16],
     pub rank: usize,

@@ -3,11 +3,11 @@ ghost use Rattle.std.specs.Prelude.{◌≡◌};
 ghost use Rattle.view.specs.Answers.{number_of};
 
 // An offset counted in readings.
-#[derive(Drop)]
+#[derive(Clone, Copy)]
 pub struct ReadingOffset(pub i64);
 
 // Array places past the rank are no part of a layout and may hold anything. Whoever makes one may set any rank.
-#[derive(Drop)]
+#[derive(Clone, Copy)]
 pub struct Layout {
     pub len: u64,
     pub offset: ReadingOffset,
@@ -17,7 +17,7 @@ pub struct Layout {
 }
 
 // One row of 01's table each, with the values that are returned.
-#[derive(Drop)]
+#[derive(Clone, Copy)]
 pub enum Refusal {
     TooManyAxes,
     LengthsDiffer,
@@ -32,21 +32,21 @@ pub enum Refusal {
     NotARecord,
 }
 
-#[derive(Drop)]
+#[derive(Clone, Copy)]
 pub enum Answer {
     Done,
     Refused(Refusal),
 }
 
 // What a view of a layout in two lent lists answers: the rank after it, or the refusal.
-#[derive(Drop)]
+#[derive(Clone, Copy)]
 pub enum RankAfter {
     Is(usize),
     Refused(Refusal),
 }
 
 // The layout after a call, and what the call answered.
-#[derive(Drop)]
+#[derive(Clone, Copy)]
 pub struct Viewed {
     pub layout: Layout,
     pub answer: Answer,

@@ -9,7 +9,7 @@ use crate::layout::{Answer, Layout, ReadingOffset, Refusal};
 use integer::signed::{Checked, checked_add, checked_mul};
 
 // The offset, or why there is none.
-#[derive(Drop)]
+#[derive(Clone, Copy)]
 pub enum Indexed {
     At(ReadingOffset),
     Refused(Refusal),
