@@ -11,7 +11,7 @@ ghost use Rattle.walk.specs.Walk.{widthsOf, middle_of, Ready, Small, Room, Turns
 
 // The two axes set apart, of strides a and b and extents x + 1 and y + 1, with what is worked out once:
 // g divides both strides, part is a / g, inverse is that of part modulo b / g, and window is g x.
-#[derive(Drop)]
+#[derive(Clone, Copy)]
 pub struct TwoAxes {
     pub a: u64,
     pub x: u64,
@@ -24,21 +24,21 @@ pub struct TwoAxes {
 }
 
 // A sum of differences: of those above 0, and of those below without their sign.
-#[derive(Drop)]
+#[derive(Clone, Copy)]
 struct Sums {
     pub up: u64,
     pub down: u64,
 }
 
 // The residues of a sum that go along with the walk: z modulo b, q modulo g.
-#[derive(Drop)]
+#[derive(Clone, Copy)]
 struct Residues {
     pub z: u64,
     pub q: u64,
 }
 
 // A place to go on from, beside the digits there: how many vectors were looked at, and the residues of the sum.
-#[derive(Drop)]
+#[derive(Clone, Copy)]
 pub struct Place {
     pub count: u64,
     pub z: u64,
@@ -46,14 +46,14 @@ pub struct Place {
 }
 
 // What a walk comes to: a vector that is completed, with how many were looked at, or the place where it stops.
-#[derive(Drop)]
+#[derive(Clone, Copy)]
 pub enum Walked {
     Completed(u64),
     Stopped(Place),
 }
 
 // What a whole walk comes to, with how many vectors were looked at: the last of them is completed, or none is.
-#[derive(Drop)]
+#[derive(Clone, Copy)]
 pub enum Found {
     At(u64),
     Nowhere(u64),

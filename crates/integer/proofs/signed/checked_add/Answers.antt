@@ -14,8 +14,7 @@ use Rattle.integer.proofs.PartLaws.{ltZ-false, ltZ-true, negPart-below, parts_ad
 use Rattle.integer.proofs.Polynomial.{◌⊕◌, ◌⊖◌, int, prove-fits}
 use Rattle.integer.specs.Range.{checkedOf, mostSigned}
 use Rattle.integer.specs.declared.signed.Checked.TheVariants.{Fits, Over}
-use Rattle.integer.proofs.signed.checked_add.Statement.{statement}
-use Rattle.integer.proofs.signed.checked_add.Tie as tie
+use Rattle.integer.proofs.signed.checked_add.Goals as goal
 
 abbrev least : ℤ
 least = negsuc mostSigned
@@ -75,38 +74,34 @@ module _ (a b : ℤ) (fa : SFits w64 a) (fb : SFits w64 b) where
   read-sum : SFits w64 (a +ℤ b) → Fits (readBack (readBack a +ℤ readBack b)) ≡ checkedOf (a +ℤ b)
   read-sum f = rw (to_z-of_z w64 a fa, to_z-of_z w64 b fb, to_z-of_z w64 (a +ℤ b) f) (sym (checked-within (a +ℤ b) f))
 
-sub-if2 : tie.Need-overflow-sub-if2
-sub-if2 c = least-left-read _ _ c.before.ranges.a c.before.ranges.b c.if1.true
+pub overflow_sub-b : goal.overflow_sub-b
+overflow_sub-b c = least-left-read _ _ c.ranges.a c.ranges.b c.if-b-lt0.true
 
-sub-if3 : tie.Need-overflow-sub-if3
-sub-if3 c = most-left-read _ _ c.before.ranges.a c.before.ranges.b c.if1.false
+pub overflow_sub-b-else-b-lt0 : goal.overflow_sub-b-else-b-lt0
+overflow_sub-b-else-b-lt0 c = most-left-read _ _ c.ranges.a c.ranges.b c.if-b-lt0.false
 
-add-t8 : tie.Need-overflow-add-t8
-add-t8 c =
-    let s = c.before.before in
-    read_fits _ _ s.ranges.a s.ranges.b (sum-from-least _ _ s.ranges.a s.ranges.b c.before.if1.true c.if2.false)
+pub overflow_add-result : goal.overflow_add-result
+overflow_add-result c =
+    let s = c.before in
+    read_fits _ _ s.ranges.a s.ranges.b (sum-from-least _ _ s.ranges.a s.ranges.b c.if-b-lt0.true c.if-a-b.false)
 
-add-t12 : tie.Need-overflow-add-t12
-add-t12 c =
-    let s = c.before.before in
-    read_fits _ _ s.ranges.a s.ranges.b (sum-to-most _ _ s.ranges.a s.ranges.b c.before.if1.false c.if3.false)
+pub overflow_add-result-else-b-a : goal.overflow_add-result-else-b-a
+overflow_add-result-else-b-a c =
+    let s = c.before in
+    read_fits _ _ s.ranges.a s.ranges.b (sum-to-most _ _ s.ranges.a s.ranges.b c.if-b-lt0.false c.if-b-a.false)
 
-returns : tie.Need-returns
-returns c = let s = c.before.before in sum_below _ _ s.ranges.a s.ranges.b c.before.if1.true c.if2.true
+pub returns-then-a-b : goal.returns-then-a-b
+returns-then-a-b c = let s = c.before in sum_below _ _ s.ranges.a s.ranges.b c.if-b-lt0.true c.if-a-b.true
 
-returns-2 : tie.Need-returns-2
-returns-2 c =
-    let s = c.before.before in
-    read-sum _ _ s.ranges.a s.ranges.b (sum-from-least _ _ s.ranges.a s.ranges.b c.before.if1.true c.if2.false)
+pub returns-else-a-b : goal.returns-else-a-b
+returns-else-a-b c =
+    let s = c.before in
+    read-sum _ _ s.ranges.a s.ranges.b (sum-from-least _ _ s.ranges.a s.ranges.b c.if-b-lt0.true c.if-a-b.false)
 
-returns-3 : tie.Need-returns-3
-returns-3 c = let s = c.before.before in sum-above _ _ s.ranges.a s.ranges.b c.before.if1.false c.if3.true
+pub returns-then-b-a : goal.returns-then-b-a
+returns-then-b-a c = let s = c.before in sum-above _ _ s.ranges.a s.ranges.b c.if-b-lt0.false c.if-b-a.true
 
-returns-4 : tie.Need-returns-4
-returns-4 c =
-    let s = c.before.before in
-    read-sum _ _ s.ranges.a s.ranges.b (sum-to-most _ _ s.ranges.a s.ranges.b c.before.if1.false c.if3.false)
-
-pub checked-add-spec : {M : Type 1} → statement M
-checked-add-spec =
-    tie.close (tie.spec sub-if2 add-t8 sub-if3 add-t12 returns returns-2 returns-3 returns-4)
+pub returns-else-b-a : goal.returns-else-b-a
+returns-else-b-a c =
+    let s = c.before in
+    read-sum _ _ s.ranges.a s.ranges.b (sum-to-most _ _ s.ranges.a s.ranges.b c.if-b-lt0.false c.if-b-a.false)
