@@ -1,4 +1,4 @@
-// Links libstrided.a, from STRIDED_LIBRARY_DIR or from where `rt staticlib strided` writes it.
+// Links libstrided.a, from STRIDED_LIBRARY_DIR or from where `rt lib` in crates/strided writes it.
 use std::env;
 use std::path::PathBuf;
 
@@ -6,7 +6,7 @@ fn main() {
     println!("cargo:rerun-if-env-changed=STRIDED_LIBRARY_DIR");
     let folder = env::var_os("STRIDED_LIBRARY_DIR").map(PathBuf::from).unwrap_or_else(|| {
         let here = PathBuf::from(env::var_os("CARGO_MANIFEST_DIR").unwrap_or_default());
-        here.join("../../target/staticlib")
+        here.join("../../crates/strided/out")
     });
     println!("cargo:rerun-if-changed={}", folder.join("libstrided.a").display());
     println!("cargo:rustc-link-search=native={}", folder.display());
