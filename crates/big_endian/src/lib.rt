@@ -1,5 +1,6 @@
 // Numbers as bytes, big-endian, and two's complement.
 #![tactic(auto)]
+
 ghost use Rattle.std.specs.Prelude.{◌≡◌, ◌++◌, ◌≤◌, ◌<◌, ◌+◌, ◌^◌, length, take, drop};
 ghost use Rattle.specification.specs.Record.{bigEndian, twos, numberFrom};
 ghost use Rattle.big_endian.specs.Twos.{signed_of};
