@@ -1,0 +1,13 @@
+-- What was passed is digits, so the answer is that of the bytes still left.
+use Prim.Native.Nat.{◌≤◌, ◌-◌}
+use lib.ListN.{length, drop}
+use mathlib.Core.Path.{◌≡◌}
+use Rattle.specification.specs.Tests.{some}
+use Rattle.spelling.specs.Number.{notDigit}
+use Rattle.spelling.proofs.number.some_not_digit.Given as goal
+
+abbrev pub invariant-loop-i : goal.invariant-loop-i
+invariant-loop-i l = (l.i ≤ length l.text) × (some notDigit l.text ≡ some notDigit (drop l.i l.text))
+
+abbrev pub decreases-loop-i : goal.decreases-loop-i
+decreases-loop-i l = length l.text - l.i
