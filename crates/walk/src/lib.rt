@@ -1,6 +1,7 @@
 // Step 5's walk over the difference vectors of a block's other axes: at each, whether some difference of the two axes
 // set apart completes it to sum 0. Two residues of the sum go along, so that most vectors cost two additions and a comparison.
 #![tactic(auto)]
+
 ghost use Rattle.std.specs.Prelude.{◌≡◌, ◌+◌, ◌*◌, ◌%◌, ◌^◌, ◌<◌, ◌≤◌, length};
 ghost use Rattle.integer.specs.Congruence.{Congruent};
 ghost use Rattle.specification.specs.Axis.{index_at};
