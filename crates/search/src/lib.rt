@@ -1,6 +1,7 @@
 // Steps 4 and 5 of the verdict on a block of axes: two axes by a greatest common divisor, three or more by the difference
 // search over all but the two longest.
 #![tactic(auto)]
+
 ghost use Rattle.std.specs.Prelude.{◌≡◌, [], ◌∷◌, ◌+◌, ◌<◌, length};
 ghost use Rattle.integer.specs.Gcd.{gcd};
 ghost use Rattle.specification.specs.Search.{twoDistinct};

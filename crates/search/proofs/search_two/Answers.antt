@@ -1,0 +1,35 @@
+-- `search_two` meets its contract: past the budget, or the two collide, or what the walk comes to.
+use mathlib.Core.Path.{sym, ◌∙◌}
+use Rattle.search.proofs.Answered.{blocked-positive, blocked-small, room_of, past-budget, half-right, two-collide, walk-found, walk-ended}
+use Rattle.search.proofs.search_two.Goals as goal
+
+pub half_within-requires : goal.half_within-requires
+half_within-requires c = let p = c.requires in (blocked-positive _ _ _ p, blocked-small _ _ _ p)
+
+pub returns-in_default : goal.returns-in_default
+returns-in_default c =
+    let p = c.requires in
+    past-budget _ _ _ _ p.one-length (blocked-positive _ _ _ p) c.in_default.ensures
+
+pub returns-then-not-apart_by_quotients : goal.returns-then-not-apart_by_quotients
+returns-then-not-apart_by_quotients c =
+    let p = c.requires in
+    two-collide _ _ _ _ p.one-length (blocked-positive _ _ _ p) _ c.in-Within.ensures (sym c.apart_by_quotients.ensures ∙ c.if-not-apart_by_quotients.true)
+
+pub walk_others-end-requires : goal.walk_others-end-requires
+walk_others-end-requires c =
+    let p = c.requires in
+    let t = c.couple-two.ensures in
+    (t.0, room_of _ _ _ _ _ _ _ p t.1, half-right _ _ p.one-length (blocked-positive _ _ _ p) _ c.in-Within.ensures, p.rank)
+
+pub returns-in-At : goal.returns-in-At
+returns-in-At c =
+    let p = c.requires in
+    let m = sym c.apart_by_quotients.ensures ∙ c.if-not-apart_by_quotients.false in
+    walk-found _ _ _ _ p.one-length (blocked-positive _ _ _ p) _ c.in-Within.ensures c.couple-two.result c.couple-two.ensures.1 c.walk_others-end.result c.walk_others-end.ensures m _ c.in-At.is
+
+pub returns-in-Nowhere : goal.returns-in-Nowhere
+returns-in-Nowhere c =
+    let p = c.requires in
+    let m = sym c.apart_by_quotients.ensures ∙ c.if-not-apart_by_quotients.false in
+    walk-ended _ _ _ _ p.one-length (blocked-positive _ _ _ p) _ c.in-Within.ensures c.couple-two.result c.couple-two.ensures.1 c.walk_others-end.result c.walk_others-end.ensures m _ c.in-Nowhere.is
