@@ -1,6 +1,7 @@
 // The differences of two index vectors one after another, in two lent slices: what is above 0 and what is below it, each with its sum.
 // Both sums fit a word where the sums of all index vectors do, and their gap is the distance of the difference.
 #![tactic(auto)]
+
 ghost use Rattle.odometer.specs.Odometer.{SumsFit};
 ghost use Rattle.differences.specs.Differences.{Stands, Stepped};
 
