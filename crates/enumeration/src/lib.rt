@@ -1,6 +1,7 @@
 // Step 6 of the verdict: whether two positions of a block have one sum. Only existence is asked, so the positions are not walked one by one:
 // the axes are split into two parts, and two positions have one sum exactly if a distance of the one part is a distance of the other, or 0.
 #![tactic(auto)]
+
 mod parts;
 mod table;
 
