@@ -1,5 +1,6 @@
 // injectivity.rs: whether no two positions of a layout share an offset, said of its extents and strides.
 #![tactic(auto)]
+
 mod axes;
 mod block;
 mod inputs;
