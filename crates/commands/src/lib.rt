@@ -1,5 +1,6 @@
 // The text program: a line of words in, a line of text out.
 #![tactic(auto)]
+
 mod arguments;
 mod change;
 mod command;

@@ -1,5 +1,6 @@
 // The dense half of view.rs: strides that are running products of the extents.
 #![tactic(auto)]
+
 ghost use Rattle.std.specs.Prelude.{◌≡◌};
 ghost use Rattle.specification.specs.Outcome.{refused};
 ghost use Rattle.specification.specs.Beside.{nextStep, colMajor, rowMajor};

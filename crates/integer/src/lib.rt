@@ -1,5 +1,6 @@
 // Integers in words of 64 bits: the smaller of two, the greatest common divisor, arithmetic modulo a word, signed arithmetic that refuses on overflow.
 #![tactic(auto)]
+
 ghost use Rattle.std.specs.Prelude.{◌≡◌, ◌%◌, ◌≤◌, ◌<◌, min};
 ghost use Rattle.integer.specs.Gcd.{gcd};
 

@@ -1,6 +1,7 @@
 // The static library: every call of the crates below it, with numbers, slices of numbers and `&mut` numbers alone.
 // A layout crosses as two flat buffers: `numbers` holds length, rank and 16 extents, `steps` holds offset and 16 strides.
 #![tactic(auto)]
+
 mod beside;
 mod records;
 mod verdicts;

@@ -1,5 +1,6 @@
 // The layout half of view.rs: layouts of strided readings, check-in, views and indexed offsets.
 #![tactic(auto)]
+
 pub mod accepted;
 mod axes;
 pub mod bounded;
