@@ -1,4 +1,5 @@
 -- Two's complement by size, of a number below 0 and of one that is not; and read back from the machine's bits.
+use Rattle.std.specs.Prelude.{if◌then◌else◌}
 use mathlib.Core.Bool.{Bool, true, false}
 use mathlib.Core.Path.{◌≡◌, refl}
 use Prim.Native.Nat.{ℕ, suc, ◌-◌, ◌<◌, ◌^◌}
@@ -9,7 +10,6 @@ use mir.Syntax.{w64}
 use mir.Val.{sel, to_z}
 use Rattle.integer.specs.Parts.{negPart}
 use Rattle.specification.specs.Record.{twos}
-use Rattle.specification.specs.Tests.{if◌then◌else◌}
 use Rattle.big_endian.specs.Twos.{signed_of}
 
 pub twos-negative : (z : ℤ) → 0 < nat_abs z → nat_abs z ≡ negPart z → twos z ≡ 18446744073709551615 - (nat_abs z - 1)

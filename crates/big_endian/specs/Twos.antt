@@ -1,6 +1,5 @@
 -- Two's complement read back.
-use Rattle.std.specs.Prelude.{ℕ, suc, ◌-◌, ◌^◌, ltb, ℤ, pos, negsuc}
-use Rattle.specification.specs.Tests.{if◌then◌else◌}
+use Rattle.std.specs.Prelude.{ℕ, suc, ◌-◌, ◌^◌, ltb, ℤ, pos, negsuc, if◌then◌else◌}
 
 -- the number whose two's complement is n; `signedFrom` of 01's record says this of 8 bytes
 abbrev pub signed_of : ℕ → ℤ

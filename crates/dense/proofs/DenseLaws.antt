@@ -1,4 +1,5 @@
 -- Running products, one step after another, forward and backward.
+use Rattle.std.specs.Prelude.{if◌then◌else◌}
 use mathlib.Core.Path.{◌≡◌, refl, sym, ap, ◌∙◌}
 use mathlib.Core.Bool.{Bool, true, false, ◌&&◌, and-false}
 use mathlib.Core.List.{List, [], ◌∷◌, ◌++◌, reverse, append-nil, append_assoc, reverse-cons, reverse-append, reverse-reverse}
@@ -12,7 +13,6 @@ use lib.ListN.{length, take, drop, get_or, set, drop_of_length-le}
 use lib.Seq.{take_all, drop-cons, drop-set-lt, get_or-set_same, lt-length-set, take-suc, take-suc-set}
 use borrow.Author.Tests.{le-leb, lt-leb, leb-true, le-ltb, lt-ltb}
 use Rattle.integer.specs.Range.{mostSigned}
-use Rattle.specification.specs.Tests.{if◌then◌else◌}
 use Rattle.specification.specs.Outcome.{Outcome, done, refused, refuseIf, ◌>>◌, ◌>>=◌}
 use Rattle.specification.specs.Beside.{nextStep, running, zeroAmong, colMajor, rowMajor}
 use Rattle.specification.proofs.OutcomeLaws.{clash, done_inj}
@@ -41,7 +41,7 @@ unfolding nextStep
 step-most empty step extent next e = by (leb (step * extent) mostSigned) refl (leb extent mostSigned) empty e
   where
     by : (s : Bool) → leb (step * extent) mostSigned ≡ s → (t u : Bool)
-        → (if s && t then done (step * extent) else if u then done mostSigned else refused 3 []) ≡ done next → next ≤ mostSigned
+        → (if s && t then done (step * extent) else (if u then done mostSigned else refused 3 [])) ≡ done next → next ≤ mostSigned
     by true p true u q = let n : step * extent ≡ next = done_inj q in omega (arith, leb-true (step * extent) mostSigned p)
     by true p false true q = let n : mostSigned ≡ next = done_inj q in omega arith
     by true p false false q = absurd (clash (sym q))

@@ -1,4 +1,5 @@
 -- The answers of `enumerate` are those that the verdict defines for step 6.
+use Rattle.std.specs.Prelude.{if◌then◌else◌}
 use mathlib.Core.Bool.{Bool, true, false}
 use mathlib.Core.List.{List, [], ◌∷◌, ◌++◌}
 use mathlib.Core.Path.{◌≡◌, refl, sym, ap, ap₂, subst, subst⁻¹, ◌∙◌}
@@ -6,7 +7,7 @@ use Prim.Native.Nat.{ℕ, ◌+◌, ◌/◌, ◌<◌, ◌≤◌}
 use lib.ListN.{length, take, drop}
 use lib.Seq.{drop_at, length_front, length-take-le}
 use borrow.Author.Tests.{le-leb, lt-leb, lt-ltb, le-ltb}
-use Rattle.specification.specs.Tests.{if◌then◌else◌, is_yes}
+use Rattle.specification.specs.Tests.{is_yes}
 use Rattle.specification.specs.Axis.{product}
 use Rattle.specification.specs.Outcome.{Outcome, done, refused}
 use Rattle.specification.specs.Search.{ActiveAxis, total, spanSum, wordsFor, SameSum}

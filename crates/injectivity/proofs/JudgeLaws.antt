@@ -1,4 +1,5 @@
 -- Steps 4 to 6 on axes in arrays: what is handed to each, and what its answer says.
+use Rattle.std.specs.Prelude.{if◌then◌else◌}
 use mathlib.Core.Path.{◌≡◌, refl, sym, ap, subst, subst₂, ◌∙◌}
 use mathlib.Core.Bool.{Bool}
 use mathlib.Core.List.{List, [], ◌∷◌, ◌++◌}
@@ -8,7 +9,7 @@ use lib.ListN.{length, take, get_or}
 use lib.Seq.{length-take-le}
 use Rattle.lists.specs.Table.{table}
 use Rattle.lists.proofs.TableLaws.{length-table, table-getD}
-use Rattle.specification.specs.Tests.{if◌then◌else◌, sortBy}
+use Rattle.specification.specs.Tests.{sortBy}
 use Rattle.specification.specs.Search.{ActiveAxis, lengths, total, spanSum, twoDistinct, wordsFor}
 use Rattle.specification.specs.Outcome.{done}
 use Rattle.specification.specs.Verdict.{Verdict, Distinct, Repeated, Plan, answered, enumerated, lower, byTwo, by_size, carryOut}

@@ -1,4 +1,5 @@
 -- The active axes of a layout that steps 1 and 2 leave to the block: their total, their span, and what holds of each.
+use Rattle.std.specs.Prelude.{if◌then◌else◌}
 use mathlib.Core.Path.{◌≡◌, refl, ap, subst}
 use mathlib.Core.Bool.{Bool, true, false, not, ◌&&◌, ◌||◌}
 use mathlib.Core.Logic.{◌≢◌}
@@ -15,7 +16,7 @@ use Rattle.integer.specs.Parts.{posPart, negPart}
 use Rattle.integer.specs.Range.{mostSigned}
 use Rattle.integer.proofs.MultipleLaws.{posPart-·, negPart-·, eqZ-no}
 use Rattle.integer.proofs.PartLaws.{natAbs-parts}
-use Rattle.specification.specs.Tests.{if◌then◌else◌, some}
+use Rattle.specification.specs.Tests.{some}
 use Rattle.specification.specs.Axis.{Axis, product, positions, span, upward, downward}
 use Rattle.specification.specs.Search.{ActiveAxis, total, spanSum}
 use Rattle.specification.specs.Verdict.{activeFrom}

@@ -1,4 +1,5 @@
 -- `after` is the order of positions: from the vector at position k to the one at k + 1; and what it does from place j on.
+use Rattle.std.specs.Prelude.{if◌then◌else◌}
 use mathlib.Core.Bool.{Bool}
 use mathlib.Core.List.{List, [], ◌∷◌, ◌++◌, append-nil}
 use mathlib.Core.Path.{◌≡◌, refl, sym, ap, ap₂, ◌∙◌}
@@ -11,7 +12,6 @@ use borrow.Author.Tests.{lt-ltb, le-ltb}
 use lib.Arith.{digits_div, digits_mod}
 use lib.ListN.{length, get_or, set, take, drop, drop_of_length-le}
 use lib.Seq.{drop-cons, set_split, take-suc-set, drop-set-lt, take_all, append_snoc}
-use Rattle.specification.specs.Tests.{if◌then◌else◌}
 use Rattle.specification.specs.Axis.{index_at}
 use Rattle.specification.proofs.Positions.{IndexVector, empty, ◌and◌}
 use Rattle.specification.proofs.Digits.{PositiveExtents, none, more}

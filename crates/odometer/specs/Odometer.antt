@@ -1,6 +1,5 @@
 -- Index vectors in the order of their positions, axis 0 fastest, each with its sum of index × stride.
-use Rattle.std.specs.Prelude.{List, [], ◌∷◌, ◌≡◌, ℕ, ◌+◌, ◌*◌, ◌^◌, ◌<◌, ltb, length}
-use Rattle.specification.specs.Tests.{if◌then◌else◌}
+use Rattle.std.specs.Prelude.{List, [], ◌∷◌, ◌≡◌, ℕ, ◌+◌, ◌*◌, ◌^◌, ◌<◌, ltb, length, if◌then◌else◌}
 use Rattle.specification.specs.Search.{ActiveAxis}
 use Rattle.specification.proofs.Positions.{IndexVector}
 use Rattle.specification.proofs.Digits.{PositiveExtents}

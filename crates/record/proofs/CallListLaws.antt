@@ -1,4 +1,5 @@
 -- Laws of a call list in numbers: the calls from one call on, where it is ill-formed, and a list past 16 entries is refused by its length.
+use Rattle.std.specs.Prelude.{if◌then◌else◌}
 use mathlib.Core.Path.{◌≡◌, refl, sym, ap, ◌∙◌}
 use mathlib.Core.Bool.{Bool, true, false, ◌||◌}
 use mathlib.Core.List.{List, [], ◌∷◌}
@@ -8,7 +9,6 @@ use lib.Dec.{ltb}
 use lib.ListN.{length, take, drop, get_or, length-drop, length-take, drop_of_length-le}
 use lib.Seq.{drop-cons, drop-drop, take_all}
 use borrow.Author.Tests.{lt-ltb, ltb-true, ltb-false, le-leb, eq-eqb, ne_eqb}
-use Rattle.specification.specs.Tests.{if◌then◌else◌}
 use Rattle.specification.specs.Outcome.{refused, refuseIf, ◌>>◌}
 use Rattle.specification.specs.Layout.{LayoutM, tooLong, handed}
 use Rattle.specification.specs.Views.{broadcast, unlessRefused}

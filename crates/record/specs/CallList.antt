@@ -1,6 +1,5 @@
 -- A call list in numbers: for each call its kind (1 permute, 2 diagonal_view, 3 broadcast), how many numbers follow, and these.
-use Rattle.std.specs.Prelude.{Bool, ◌&&◌, List, [], ◌∷◌, ℕ, zero, suc, ◌+◌, eqb, leb, length, take, drop, get_or}
-use Rattle.specification.specs.Tests.{if◌then◌else◌}
+use Rattle.std.specs.Prelude.{Bool, ◌&&◌, List, [], ◌∷◌, ℕ, zero, suc, ◌+◌, eqb, leb, length, take, drop, get_or, if◌then◌else◌}
 use Rattle.specification.specs.Views.{pairsOf}
 use Rattle.specification.specs.Calls.{Call, permuting, diagonal, broadcasting}
 use Rattle.record.specs.declared.calls.Ended.{Ended}
@@ -8,7 +7,7 @@ use Rattle.record.specs.declared.calls.Ended.TheVariants.{All, IllFormed}
 
 -- the call of a kind with its numbers; the numbers of diagonal_view are its pairs, one after another
 abbrev pub call_of : ℕ → List ℕ → Call
-call_of kind numbers = if eqb kind 1 then permuting numbers else if eqb kind 2 then diagonal (pairsOf numbers) else broadcasting numbers
+call_of kind numbers = if eqb kind 1 then permuting numbers else (if eqb kind 2 then diagonal (pairsOf numbers) else broadcasting numbers)
 
 -- a known kind, with as many numbers as it says there are
 abbrev pub wellFormed : ℕ → ℕ → List ℕ → Bool

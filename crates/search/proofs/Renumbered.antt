@@ -1,4 +1,5 @@
 -- The search asks for extents and strides only: not for the numbers of the axes, and not for which of the two set apart comes first.
+use Rattle.std.specs.Prelude.{if◌then◌else◌}
 use mathlib.Core.Path.{◌≡◌, refl, ap, ap₂, ◌∙◌, subst, subst⁻¹}
 use mathlib.Core.Bool.{Bool}
 use mathlib.Core.Option.{Option, some, none}
@@ -6,7 +7,7 @@ use mathlib.Core.List.{List, [], ◌∷◌}
 use Prim.Native.Nat.{ℕ, ◌+◌, ◌*◌, ◌-◌, ◌/◌}
 use lib.Dec.{leb}
 use lib.IntN.{ℤ, pos, ◌+ℤ◌, ◌-ℤ◌, ◌*ℤ◌, +ℤ_comm}
-use Rattle.specification.specs.Tests.{if◌then◌else◌, is_yes}
+use Rattle.specification.specs.Tests.{is_yes}
 use Rattle.specification.specs.Axis.{product, index_at}
 use Rattle.specification.specs.Search.{ActiveAxis, lengths, widths, half, fromDigits, differenceSum, differenceAt, twoDistinct, Completes, first_of}
 use Rattle.specification.specs.Decided.{completes?}

@@ -1,6 +1,6 @@
 -- Step 5 on a block: what it is given, and what its answer stands for.
-use Rattle.std.specs.Prelude.{◌≡◌, List, [], ◌∷◌, ◌++◌, ℕ, ◌^◌, ◌<◌, ◌≤◌, leb, length, get_or}
-use Rattle.specification.specs.Tests.{if◌then◌else◌, sortBy}
+use Rattle.std.specs.Prelude.{◌≡◌, List, [], ◌∷◌, ◌++◌, ℕ, ◌^◌, ◌<◌, ◌≤◌, leb, length, get_or, if◌then◌else◌}
+use Rattle.specification.specs.Tests.{sortBy}
 use Rattle.specification.specs.Search.{ActiveAxis, lengths, spanSum, half}
 use Rattle.specification.specs.Verdict.{Plan, answered, Distinct as isDistinct, Repeated as isRepeated, lower, longer, searched, byMany, pastSearch}
 use Rattle.odometer.specs.Odometer.{strides}

@@ -1,4 +1,5 @@
 -- Check-in and the views yield only accepted layouts.
+use Rattle.std.specs.Prelude.{if◌then◌else◌}
 use mathlib.Core.Path.{◌≡◌, refl, sym, ap, subst, ◌∙◌}
 use mathlib.Core.Bool.{Bool, true, false, not, ◌||◌}
 use mathlib.Core.List.{List, [], ◌∷◌, map}
@@ -10,7 +11,7 @@ use lib.ListN.{length, length-map}
 use borrow.Author.Tests.{ltb-false, eqb-true, ne_eqb}
 use Rattle.integer.specs.Parts.{posPart, negPart}
 use Rattle.integer.proofs.MultipleLaws.{posPart-·, negPart-·}
-use Rattle.specification.specs.Tests.{if◌then◌else◌, some, up_from}
+use Rattle.specification.specs.Tests.{some, up_from}
 use Rattle.specification.specs.Axis.{Axis, axesOf, is_empty, span, upward, downward}
 use Rattle.specification.specs.Outcome.{Check, done, refused, pass}
 use Rattle.specification.specs.Layout.{LayoutM, rank, Accepted, lowest, highest, tooLong, handed}

@@ -1,4 +1,5 @@
 -- The list of active axes: which axes stand in it, and that sorting keeps the entries of a list.
+use Rattle.std.specs.Prelude.{if◌then◌else◌}
 use mathlib.Core.Path.{◌≡◌, sym, ap, ◌∙◌}
 use mathlib.Core.Bool.{Bool, true, false, not}
 use mathlib.Core.List.{List, [], ◌∷◌}
@@ -8,7 +9,7 @@ use native.Mathlib.Omega.{arith}
 use lib.Dec.{T, ltb, ltb→lt, nltb→le}
 use lib.IntN.{nat_abs}
 use lib.ListN.{length}
-use Rattle.specification.specs.Tests.{if◌then◌else◌, sortBy}
+use Rattle.specification.specs.Tests.{sortBy}
 use Rattle.specification.specs.Axis.{Axis}
 use Rattle.specification.specs.Views.{axisAt}
 use Rattle.specification.specs.Search.{ActiveAxis}

@@ -1,4 +1,5 @@
 -- The numbers of active axes all differ, so each of the three orders leaves no tie: by absolute stride, by extent for the two set apart, by axis for the others.
+use Rattle.std.specs.Prelude.{if◌then◌else◌}
 use mathlib.Core.Path.{◌≡◌, refl, sym, subst}
 use mathlib.Core.Bool.{Bool, true, false, ◌&&◌, ◌||◌, true≢false, false≢true}
 use mathlib.Core.Logic.{◌≢◌, ◌⊎◌, inl, inr}
@@ -9,7 +10,7 @@ use lib.Dec.{ltb}
 use lib.IntN.{nat_abs}
 use lib.ListN.{drop}
 use borrow.Author.Tests.{ltb-true, ltb-false, eqb-true, eqb-false}
-use Rattle.specification.specs.Tests.{if◌then◌else◌, sortBy}
+use Rattle.specification.specs.Tests.{sortBy}
 use Rattle.specification.specs.Axis.{Axis}
 use Rattle.specification.specs.Search.{ActiveAxis}
 use Rattle.specification.specs.Verdict.{activeFrom, smaller, block_of, longer, lower, othersOf}

@@ -1,4 +1,5 @@
 -- Where the block ends: the last axis of it, and each behind it, held against the absolute spans before.
+use Rattle.std.specs.Prelude.{if◌then◌else◌}
 use mathlib.Core.Path.{◌≡◌, refl, sym, ap}
 use mathlib.Core.Bool.{Bool, true, false}
 use mathlib.Core.List.{List, [], ◌∷◌, ◌++◌}
@@ -7,7 +8,6 @@ use native.Mathlib.Omega.{arith}
 use lib.Dec.{leb}
 use lib.ListN.{length, length-append}
 use borrow.Author.Tests.{leb-true, leb-false}
-use Rattle.specification.specs.Tests.{if◌then◌else◌}
 use Rattle.specification.specs.Search.{ActiveAxis, spanSum}
 use Rattle.specification.specs.Verdict.{activeFrom, upToLast, block_of}
 use Rattle.specification.specs.BlockClaims.{inOrder, Smaller, BlockClaims}

@@ -1,5 +1,6 @@
 -- The block decides: two index vectors of one sum are there on the block exactly if they are on all active axes, and on these exactly if on all axes.
 -- Each axis behind the block is separated from those before it, and order and axes of extent 1 do not matter.
+use Rattle.std.specs.Prelude.{if◌then◌else◌}
 use mathlib.Core.Path.{◌≡◌, refl, sym, ap, subst, ◌∙◌}
 use mathlib.Core.Bool.{Bool, true, false, not, ◌&&◌, ◌||◌}
 use mathlib.Core.List.{List, [], ◌∷◌, ◌++◌, append-nil}
@@ -9,7 +10,7 @@ use lib.Dec.{T, leb, ltb, eqb, nleb→lt, ltb→lt, nltb→le, eqb-suc-zero}
 use lib.IntN.{ℤ, pos, negsuc, nat_abs}
 use borrow.Author.Tests.{eqb-true, eqb-false}
 use Rattle.integer.specs.Multiple.{eqZ}
-use Rattle.specification.specs.Tests.{if◌then◌else◌, some, sortBy}
+use Rattle.specification.specs.Tests.{some, sortBy}
 use Rattle.specification.specs.Axis.{Axis}
 use Rattle.specification.specs.Search.{ActiveAxis, lengths, reach, spanSum}
 use Rattle.specification.specs.Verdict.{activeFrom, upToLast, smaller, block_of, still}

@@ -1,4 +1,5 @@
 -- Check-in and the call of the normal form pass and refuse exactly as 01 says.
+use Rattle.std.specs.Prelude.{if◌then◌else◌}
 use mathlib.Core.Bool.{Bool, true, false, not, ◌||◌}
 use mathlib.Core.List.{List, []}
 use mathlib.Core.Logic.{◌⊎◌, inl, inr, ◌↔◌}
@@ -14,7 +15,7 @@ use mir.Syntax.{w64}
 use mir.Val.{SFits}
 use borrow.Author.Tests.{ltb-false, le-ltb}
 use Rattle.integer.specs.Range.{fits, mostSigned}
-use Rattle.specification.specs.Tests.{if◌then◌else◌, some}
+use Rattle.specification.specs.Tests.{some}
 use Rattle.specification.specs.Axis.{is_empty, span}
 use Rattle.specification.specs.Outcome.{Check, done, refused, pass, refuseIf, ◌>>◌}
 use Rattle.specification.specs.Layout.{LayoutM, rank, lowest, highest, Accepted, tooLong, handed}

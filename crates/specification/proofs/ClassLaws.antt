@@ -1,4 +1,5 @@
 -- Entries of an ascending list by their places: the class of an axis, the place of the axis that a class stands at, the least extent of a class; and the pairs that flat numbers hold.
+use Rattle.std.specs.Prelude.{if◌then◌else◌}
 use mathlib.Core.Bool.{Bool, true, false, not}
 use mathlib.Core.List.{List, [], ◌∷◌, map}
 use mathlib.Core.Logic.{◌↔◌}
@@ -9,7 +10,7 @@ use native.Mathlib.Omega.{arith}
 use lib.Dec.{T, ltb}
 use lib.ListN.{length, get_or}
 use borrow.Author.Tests.{ltb-true, lt-ltb, le-ltb, not-true}
-use Rattle.specification.specs.Tests.{if◌then◌else◌, is_yes, some, those, up_from}
+use Rattle.specification.specs.Tests.{is_yes, some, those, up_from}
 use Rattle.specification.specs.Axis.{Axis}
 use Rattle.specification.specs.Tied.{Tied}
 use Rattle.specification.specs.TiedDecided.{tied?}

@@ -1,5 +1,6 @@
 -- Dense strides: each step is the product of the extents before it while products and extents fit (`Stepped`), and a shape that is not empty
 -- is refused where one does not (`Stopped`). So position k stands at offset k, and the last product, which is the largest, is the number of positions.
+use Rattle.std.specs.Prelude.{if◌then◌else◌}
 use mathlib.Core.Path.{◌≡◌, refl, sym, ap, ◌∙◌}
 use mathlib.Core.Bool.{Bool, true, false, ◌&&◌, ◌||◌}
 use mathlib.Core.List.{List, [], ◌∷◌, reverse, reverse_aux}
@@ -15,7 +16,7 @@ use lib.IntN.{ℤ, pos, nat_abs}
 use lib.ListN.{length, take, get_or, length-reverse}
 use Rattle.integer.specs.Multiple.{◌·◌}
 use Rattle.integer.specs.Range.{mostSigned}
-use Rattle.specification.specs.Tests.{if◌then◌else◌, some}
+use Rattle.specification.specs.Tests.{some}
 use Rattle.specification.specs.Axis.{axesOf, product, index_at, offsetSum, sum_at}
 use Rattle.specification.specs.Outcome.{Outcome, Check, done, refused, refuseIf, ◌>>◌, ◌>>=◌}
 use Rattle.specification.specs.Layout.{tooLong}
@@ -66,7 +67,7 @@ ran empty step (n ∷ rest) =
   where
     go : (s t e : Bool) → empty ≡ e → (s ≡ true → step * n ≤ mostSigned) → (s ≡ false → mostSigned < step * n) → (t ≡ true → n ≤ mostSigned) → (t ≡ false → mostSigned < n)
         → Ran empty (step * n) rest (running empty (step * n) rest) → Ran empty mostSigned rest (running empty mostSigned rest)
-        → Ran empty step (n ∷ rest) ((if s && t then done (step * n) else if e then done mostSigned else refused 3 []) >>= λ next. running empty next rest >>= λ strides. done (pos step ∷ strides))
+        → Ran empty step (n ∷ rest) ((if s && t then done (step * n) else (if e then done mostSigned else refused 3 [])) >>= λ next. running empty next rest >>= λ strides. done (pos step ∷ strides))
     go true true e q p np u nu r m = behind-fitting empty step n rest (p refl) (u refl) _ r
     go true false true q p np u nu r m = behind-held empty step n rest q (inr (nu refl)) _ m
     go true false false q p np u nu r m = stopped q (here (inr (nu refl)))

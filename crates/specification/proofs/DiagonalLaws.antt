@@ -1,4 +1,5 @@
 -- What diagonal_view does to the offset of an index vector whose tied axes have one index.
+use Rattle.std.specs.Prelude.{if◌then◌else◌}
 use mathlib.Core.Path.{◌≡◌, refl, sym, ap, subst, ◌∙◌}
 use mathlib.Core.Bool.{Bool, true, false, not, ◌&&◌, ◌||◌}
 use mathlib.Core.Option.{Option, none, some as found}
@@ -14,7 +15,7 @@ use Rattle.integer.specs.Multiple.{◌·◌}
 use Rattle.integer.specs.Parts.{posPart, negPart}
 use Rattle.integer.proofs.MultipleLaws.{posPart-·, negPart-·}
 use Rattle.integer.proofs.PartLaws.{parts_add, parts-ext}
-use Rattle.specification.specs.Tests.{if◌then◌else◌, is_yes, some, those, up_from}
+use Rattle.specification.specs.Tests.{is_yes, some, those, up_from}
 use Rattle.specification.specs.Axis.{offsetSum}
 use Rattle.specification.specs.Outcome.{Check, pass, ◌>>◌}
 use Rattle.specification.specs.Layout.{LayoutM, rank, handed}

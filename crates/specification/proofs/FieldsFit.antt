@@ -1,4 +1,5 @@
 -- The normal form of an accepted layout of at most 2^64 - 1 positions fits the fields of a record, whatever the ranges of the layout.
+use Rattle.std.specs.Prelude.{if◌then◌else◌}
 use mathlib.Core.Path.{◌≡◌, refl, sym, ap, subst, ◌∙◌}
 use mathlib.Core.Bool.{Bool, true, false, ◌||◌}
 use mathlib.Core.List.{List}
@@ -14,7 +15,7 @@ use Rattle.integer.specs.Parts.{posPart, negPart}
 use Rattle.integer.specs.Range.{mostSigned, mostUnsigned}
 use Rattle.integer.proofs.MultipleLaws.{posPart-·, negPart-·}
 use Rattle.integer.proofs.PartLaws.{parts_add, parts-minus, parts-fit}
-use Rattle.specification.specs.Tests.{if◌then◌else◌, some}
+use Rattle.specification.specs.Tests.{some}
 use Rattle.specification.specs.Axis.{Axis, positions, product, is_empty, upward, downward}
 use Rattle.specification.specs.Layout.{LayoutM, Accepted, AllRanges}
 use Rattle.specification.specs.Views.{withAxes}

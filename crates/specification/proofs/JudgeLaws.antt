@@ -1,4 +1,5 @@
 -- An accepted layout of at most 2^64 - 1 positions is judged, or refused 9 for want of words: never 3 and never 8.
+use Rattle.std.specs.Prelude.{if◌then◌else◌}
 use mathlib.Core.Path.{◌≡◌, refl, sym, ap, subst, ◌∙◌}
 use mathlib.Core.Bool.{Bool, true, false}
 use mathlib.Core.List.{[], ◌∷◌}
@@ -6,7 +7,7 @@ use Prim.Native.Nat.{ℕ, ◌<◌, ◌≤◌}
 use native.Mathlib.Omega.{arith}
 use lib.Dec.{ltb}
 use borrow.Author.Tests.{ltb-true, ltb-false}
-use Rattle.specification.specs.Tests.{if◌then◌else◌, is_yes}
+use Rattle.specification.specs.Tests.{is_yes}
 use Rattle.specification.specs.Outcome.{Outcome, done, refused, ◌>>=◌}
 use Rattle.specification.specs.Layout.{LayoutM, Accepted}
 use Rattle.specification.specs.Normal.{overfull}

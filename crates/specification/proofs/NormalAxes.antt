@@ -1,5 +1,6 @@
 -- The normal form of axes reads like the axes: as many positions, and the same sum at each (`ReadsAlike`). Where no extent is 0 it is normal:
 -- no extent is 1, and no axis continues the one before it. Both by induction from the right, on what `normalAxes` does with one more axis in front.
+use Rattle.std.specs.Prelude.{if◌then◌else◌}
 use mathlib.Core.Path.{◌≡◌, refl, sym, ap, ◌∙◌}
 use mathlib.Core.Logic.{◌≢◌}
 use mathlib.Core.List.{List, [], ◌∷◌}
@@ -12,7 +13,7 @@ use lib.Dec.{T, T_not, eqb, eqb→eq, eqb_refl}
 use lib.IntN.{ℤ, ◌+ℤ◌, +ℤ_idl, +ℤ_assoc}
 use Rattle.integer.specs.Multiple.{◌·◌}
 use Rattle.integer.proofs.MultipleLaws.{eqZ-no, eqZ-yes, ·-add, ·-mul, ·-zero}
-use Rattle.specification.specs.Tests.{if◌then◌else◌, those}
+use Rattle.specification.specs.Tests.{those}
 use Rattle.specification.specs.Axis.{Axis, extents, positions, product, index_at, offsetSum, sum_at}
 use Rattle.specification.specs.Normal.{continues, both, mergeInto, merge, normalAxes}
 use Rattle.specification.proofs.Digits.{PositiveExtents, product-positive}

@@ -1,4 +1,5 @@
 -- A layout of one position: every extent is 1, so there is no block and nothing is out of range.
+use Rattle.std.specs.Prelude.{if◌then◌else◌}
 use mathlib.Core.Path.{◌≡◌, refl, ap, ◌∙◌}
 use mathlib.Core.Bool.{Bool, false, not, ◌&&◌}
 use mathlib.Core.List.{List, [], ◌∷◌}
@@ -11,7 +12,7 @@ use Rattle.integer.specs.Multiple.{eqZ}
 use Rattle.integer.specs.Parts.{posPart, negPart}
 use Rattle.integer.specs.Range.{fits, mostSigned}
 use Rattle.integer.proofs.MultipleLaws.{posPart-·, negPart-·, ·-zero}
-use Rattle.specification.specs.Tests.{if◌then◌else◌, some, sortBy}
+use Rattle.specification.specs.Tests.{some, sortBy}
 use Rattle.specification.specs.Axis.{Axis, positions, product, is_empty, active, span, upward, downward}
 use Rattle.specification.specs.CheckIn.{tooWide}
 use Rattle.specification.specs.Search.{ActiveAxis}

@@ -1,4 +1,5 @@
 -- Index order: a number counts the nonzero strides of smaller absolute value, and counting respects inclusion.
+use Rattle.std.specs.Prelude.{if◌then◌else◌}
 use mathlib.Core.Path.{◌≡◌, refl, sym, ◌∙◌}
 use mathlib.Core.Bool.{Bool, true, false, not, ◌&&◌}
 use mathlib.Core.List.{List, [], ◌∷◌, map}
@@ -12,7 +13,7 @@ use lib.IntN.{ℤ, pos, nat_abs}
 use lib.ListN.{length, get_or, length-map}
 use Rattle.integer.specs.Multiple.{eqZ}
 use Rattle.integer.proofs.MultipleLaws.{eqZ-yes, eqZ-no}
-use Rattle.specification.specs.Tests.{if◌then◌else◌, those}
+use Rattle.specification.specs.Tests.{those}
 use Rattle.specification.specs.Outcome.{Check, done, refused, refuseIf, ◌>>◌}
 use Rattle.specification.specs.Layout.{tooLong}
 use Rattle.specification.specs.Beside.{orderAmong, indexOrder, orderAfter}

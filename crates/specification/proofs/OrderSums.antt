@@ -1,4 +1,5 @@
 -- An order of all axes without repetition has the sum of all: each entry takes its number out of what is left.
+use Rattle.std.specs.Prelude.{if◌then◌else◌}
 use mathlib.Core.Path.{◌≡◌, refl, sym, ap, ap₂, subst, ◌∙◌}
 use mathlib.Core.Bool.{Bool, true, false, ◌||◌}
 use mathlib.Core.List.{List, [], ◌∷◌, ◌++◌, append-nil, append_assoc}
@@ -8,7 +9,7 @@ use native.Mathlib.Omega.{arith}
 use lib.Dec.{T, eqb, leb}
 use lib.ListN.{length}
 use borrow.Author.Tests.{leb-false, eq-eqb, ne_eqb}
-use Rattle.specification.specs.Tests.{if◌then◌else◌, some, up_from}
+use Rattle.specification.specs.Tests.{some, up_from}
 use Rattle.specification.specs.Outcome.{pass}
 use Rattle.specification.specs.Views.{orderFault}
 use Rattle.specification.proofs.OutcomeLaws.{passed}

@@ -1,5 +1,6 @@
 -- Every way that a plan comes about, with what holds there: steps 1 and 2 (`PlanCase`), the block (`BlockCase`), three axes or more (`SearchCase`).
 -- What is claimed of the verdict is then proved case by case.
+use Rattle.std.specs.Prelude.{if◌then◌else◌}
 use mathlib.Core.Path.{◌≡◌, refl, sym, ap, subst, ◌∙◌}
 use mathlib.Core.Bool.{Bool, true, false, false≢true}
 use mathlib.Core.List.{List, [], ◌∷◌}
@@ -8,7 +9,7 @@ use native.Mathlib.Omega.{arith}
 use lib.Dec.{eqb, ltb}
 use lib.ListN.{length}
 use borrow.Author.Tests.{ltb-true, ltb-false, leb-true, leb-false, eqb-true, le-ltb}
-use Rattle.specification.specs.Tests.{if◌then◌else◌, is_yes, some, sortBy}
+use Rattle.specification.specs.Tests.{is_yes, some, sortBy}
 use Rattle.specification.specs.Axis.{Axis, positions, is_empty}
 use Rattle.specification.specs.Outcome.{Outcome, done, refused, refuseIf, ◌>>◌}
 use Rattle.specification.specs.Normal.{overfull}
@@ -34,7 +35,7 @@ many-case block h = go (sortBy longer block) refl (perm-length (sort-perm longer
   where
     pick : {a b : ActiveAxis} {more : List ActiveAxis} → sortBy longer block ≡ a ∷ b ∷ more → (t u : Bool)
         → (t ≡ true → half (othersOf block) ≤ 4194304) → (t ≡ false → 4194304 < half (othersOf block)) → (u ≡ true → total block ≤ 16777216) → (u ≡ false → 16777216 < total block)
-        → SearchCase block (if t then searched a b (othersOf block) else if u then enumerated block else answered Undecided 0)
+        → SearchCase block (if t then searched a b (othersOf block) else (if u then enumerated block else answered Undecided 0))
     pick e true u p n q m = searching (p refl) e
     pick e false true p n q m = enumerating (n refl) (q refl)
     pick e false false p n q m = past-both (n refl) (m refl)

@@ -1,4 +1,5 @@
 -- The views and the normal form keep a layout in the ranges of the machine types: the claims on ranges.
+use Rattle.std.specs.Prelude.{if◌then◌else◌}
 use mathlib.Core.Bool.{Bool, true, false, not}
 use mathlib.Core.List.{List, [], ◌∷◌, map}
 use mathlib.Core.Path.{◌≡◌, refl}
@@ -15,7 +16,7 @@ use mir.Syntax.{w64}
 use mir.Val.{SFits}
 use Rattle.integer.specs.Range.{fits, mostSigned, mostUnsigned}
 use Rattle.integer.proofs.PartLaws.{leZ-true, parts-fit}
-use Rattle.specification.specs.Tests.{if◌then◌else◌, those}
+use Rattle.specification.specs.Tests.{those}
 use Rattle.specification.specs.Axis.{Axis, positions, product, is_empty}
 use Rattle.specification.specs.Layout.{LayoutM, rank, AxisRanges, AllRanges, Ranges, handed}
 use Rattle.specification.specs.Views.{withAxes, axisAt, permute, pairFault, kept, class_of, leastExtent, strideSum, members, fused, diagonalAxes, sumFaults, diagonalView, spread, broadcast}

@@ -1,4 +1,5 @@
 -- What is accepted, what a call goes on with past 1 and 3, and what check-in lets pass: the claims on reach.
+use Rattle.std.specs.Prelude.{if◌then◌else◌}
 use mathlib.Core.Bool.{Bool, true, false, not, ◌||◌}
 use mathlib.Core.List.{List, [], ◌∷◌}
 use mathlib.Core.Logic.{◌⊎◌, inl, inr, ◌↔◌}
@@ -12,7 +13,7 @@ use lib.Signed.{le_z, lt_z}
 use borrow.Author.Tests.{ltb-false, le-ltb, not-false}
 use Rattle.integer.specs.Range.{fits, mostSigned}
 use Rattle.integer.proofs.PartLaws.{le-ltZ, lt-leZ}
-use Rattle.specification.specs.Tests.{if◌then◌else◌, some}
+use Rattle.specification.specs.Tests.{some}
 use Rattle.specification.specs.Axis.{Axis, positions, is_empty, span, upward, downward}
 use Rattle.specification.specs.Outcome.{pass, refused, refuseIf}
 use Rattle.specification.specs.Layout.{LayoutM, rank, Accepted, lowest, highest, inReach, tooLong, handed}

@@ -1,4 +1,5 @@
 -- The lowest and the highest offset are offsets of positions, none lies outside, and the tests on them say what is accepted.
+use Rattle.std.specs.Prelude.{if◌then◌else◌}
 use mathlib.Core.Path.{◌≡◌, refl, sym, ap, subst, ◌∙◌}
 use mathlib.Core.Bool.{Bool, true, false, not, ◌&&◌, ◌||◌}
 use mathlib.Core.List.{List, [], ◌∷◌}
@@ -14,7 +15,7 @@ use Rattle.integer.specs.Parts.{posPart, negPart}
 use Rattle.integer.proofs.MultipleLaws.{posPart-·, negPart-·}
 use Rattle.integer.proofs.PartLaws.{parts_add, parts-minus, parts-ext, leZ-true, leZ-false, le-leZ, ltZ-true, ltZ-false, lt-ltZ, le_parts, parts-le, lt-parts, parts-lt}
 use Rattle.integer.specs.Range.{fits, mostSigned}
-use Rattle.specification.specs.Tests.{if◌then◌else◌, some}
+use Rattle.specification.specs.Tests.{some}
 use Rattle.specification.specs.Axis.{Axis, extents, offsetSum, sum_at, is_empty, span, upward, downward}
 use Rattle.specification.specs.Outcome.{pass, refuseIf}
 use Rattle.specification.specs.Layout.{LayoutM, rank, Accepted, lowest, highest, inReach}

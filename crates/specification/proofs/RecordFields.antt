@@ -1,4 +1,5 @@
 -- The fields of a record, byte by byte: how long each is, that what was written is read, and that what was read is written again.
+use Rattle.std.specs.Prelude.{if◌then◌else◌}
 use mathlib.Core.Path.{◌≡◌, refl, sym, ap, ap₂, ◌∙◌}
 use mathlib.Core.Bool.{Bool, true, false}
 use mathlib.Core.List.{List, [], ◌∷◌, ◌++◌, append_assoc}
@@ -13,7 +14,6 @@ use lib.Seq.{get_or-append-add, drop-cons, take-add, drop-drop}
 use borrow.Author.Tests.{lt-ltb, le-ltb}
 use mir.Syntax.{w64}
 use mir.Val.{SFits}
-use Rattle.specification.specs.Tests.{if◌then◌else◌}
 use Rattle.specification.specs.Axis.{Axis}
 use Rattle.specification.specs.Layout.{LayoutM, rank, AllRanges}
 use Rattle.specification.specs.Verdict.{Verdict}

@@ -1,4 +1,5 @@
 -- Steps 5 and 6 tell the truth of a block; each way that the search ends, with its count.
+use Rattle.std.specs.Prelude.{if◌then◌else◌}
 use mathlib.Core.Path.{◌≡◌, refl, sym, ap, subst, ◌∙◌}
 use mathlib.Core.Bool.{Bool, true, false}
 use mathlib.Core.Option.{Option, none, some}
@@ -10,7 +11,7 @@ use lib.Dec.{T}
 use lib.IntN.{ℤ, pos, nat_abs, ◌-ℤ◌, ◌*ℤ◌}
 use Rattle.integer.specs.Parts.{posPart, negPart}
 use Rattle.integer.proofs.PartLaws.{parts_add, posPart-scale, negPart-scale}
-use Rattle.specification.specs.Tests.{if◌then◌else◌, is_yes}
+use Rattle.specification.specs.Tests.{is_yes}
 use Rattle.specification.specs.Axis.{product, index_at}
 use Rattle.specification.specs.Search.{ActiveAxis, lengths, reach, spanSum, total, twoDistinct, widths, half, fromDigits, differenceAt, differenceSum, Completes, CompletesAt, first_of, SameSum}
 use Rattle.specification.specs.Decided.{completes?}

@@ -1,4 +1,5 @@
 -- Sums over a list of numbers, and over a range of them.
+use Rattle.std.specs.Prelude.{if◌then◌else◌}
 use mathlib.Core.Path.{◌≡◌, refl, sym, ap, ap₂, subst, ◌∙◌}
 use mathlib.Core.Bool.{Bool, true, false}
 use mathlib.Core.List.{List, [], ◌∷◌}
@@ -6,7 +7,7 @@ use Prim.Native.Nat.{ℕ, zero, suc, ◌+◌, ◌*◌, ◌<◌, ◌≤◌}
 use native.Mathlib.Decide.{ℕ_discrete}
 use native.Mathlib.Omega.{arith}
 use lib.Dec.{T}
-use Rattle.specification.specs.Tests.{if◌then◌else◌, those, up_from}
+use Rattle.specification.specs.Tests.{those, up_from}
 
 -- the sum of f over the entries
 unfoldable pub sum_of : (ℕ → ℕ) → List ℕ → ℕ

@@ -1,4 +1,5 @@
 -- Laws of the tests on lists: how many entries pass, and that the order of a list does not matter to them.
+use Rattle.std.specs.Prelude.{if◌then◌else◌}
 use mathlib.Core.Path.{◌≡◌, refl, sym, subst, ◌∙◌}
 use mathlib.Core.Bool.{Bool, true, false, ◌||◌}
 use mathlib.Core.List.{List, [], ◌∷◌, reverse, reverse_aux}
@@ -6,7 +7,7 @@ use Prim.Native.Nat.{ℕ, zero, suc, ◌<◌, ◌≤◌}
 use native.Mathlib.Omega.{arith}
 use lib.Dec.{T}
 use lib.ListN.{length, get_or}
-use Rattle.specification.specs.Tests.{if◌then◌else◌, some, those}
+use Rattle.specification.specs.Tests.{some, those}
 
 -- a test that holds and does not hold
 pub true-not-false : {t : Bool} → t ≡ true → t ≡ false → ⊥

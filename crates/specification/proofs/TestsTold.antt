@@ -1,4 +1,5 @@
 -- Each test holds exactly if what it tests is so: of one axis, then of some axis, then of step 2's causes together.
+use Rattle.std.specs.Prelude.{if◌then◌else◌}
 use mathlib.Core.Bool.{Bool, true, false, not, ◌&&◌, ◌||◌}
 use mathlib.Core.List.{List, [], ◌∷◌}
 use mathlib.Core.Logic.{◌⊎◌, inl, inr, ◌↔◌}
@@ -17,7 +18,7 @@ use Rattle.integer.specs.Range.{fits, mostSigned, mostUnsigned}
 use Rattle.integer.proofs.CheckedLaws.{fits-of-sfits, sfits-of-fits}
 use Rattle.integer.proofs.MultipleLaws.{eqZ-yes, eqZ-no}
 use Rattle.integer.proofs.PartLaws.{posPart-below, negPart-below, parts-fit, posPart-neg, negPart-neg}
-use Rattle.specification.specs.Tests.{if◌then◌else◌, some}
+use Rattle.specification.specs.Tests.{some}
 use Rattle.specification.specs.Axis.{Axis, positions, is_empty, active, span, upward, downward}
 use Rattle.specification.specs.CheckIn.{tooWide}
 use Rattle.specification.specs.Views.{axisAt}

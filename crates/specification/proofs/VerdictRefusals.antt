@@ -1,4 +1,5 @@
 -- The verdict is refused 8, 3 or 9 and nothing else, each exactly where 01 has it.
+use Rattle.std.specs.Prelude.{if◌then◌else◌}
 use mathlib.Core.Path.{◌≡◌, refl, ap, subst₂, ◌∙◌}
 use mathlib.Core.Bool.{Bool, true, false}
 use mathlib.Core.List.{List, [], ◌∷◌}
@@ -7,7 +8,7 @@ use native.Mathlib.Omega.{arith}
 use lib.Dec.{ltb}
 use borrow.Author.Tests.{ltb-true, lt-ltb}
 use Rattle.integer.specs.Range.{mostUnsigned}
-use Rattle.specification.specs.Tests.{if◌then◌else◌, is_yes, some}
+use Rattle.specification.specs.Tests.{is_yes, some}
 use Rattle.specification.specs.Axis.{Axis, positions, is_empty}
 use Rattle.specification.specs.Outcome.{Outcome, done, refused, ◌>>=◌}
 use Rattle.specification.specs.Normal.{overfull}

@@ -1,11 +1,12 @@
 -- Each answer of the verdict is true of the positions; where both budgets are passed it is Undecided.
+use Rattle.std.specs.Prelude.{if◌then◌else◌}
 use mathlib.Core.Path.{◌≡◌, refl, sym, ap, subst, ◌∙◌}
 use mathlib.Core.Bool.{true, false}
 use mathlib.Core.List.{List, [], ◌∷◌}
 use Prim.Native.Nat.{ℕ, ◌<◌}
 use native.Mathlib.Omega.{arith}
 use lib.ListN.{drop}
-use Rattle.specification.specs.Tests.{if◌then◌else◌, is_yes, sortBy}
+use Rattle.specification.specs.Tests.{is_yes, sortBy}
 use Rattle.specification.specs.Axis.{Axis, positions, Shared, is_empty}
 use Rattle.specification.specs.Outcome.{done}
 use Rattle.specification.specs.Search.{ActiveAxis, spanSum, total, half, SameSum}

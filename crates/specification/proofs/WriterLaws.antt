@@ -1,4 +1,5 @@
 -- The normal form of an accepted layout is accepted; and an accepted layout is not out of range for the verdict, so it has a plan unless it has too many positions.
+use Rattle.std.specs.Prelude.{if◌then◌else◌}
 use mathlib.Core.Path.{◌≡◌, refl, sym, ap, subst, ◌∙◌}
 use mathlib.Core.Bool.{Bool, true, false, not, ◌&&◌}
 use mathlib.Core.List.{List, [], ◌∷◌}
@@ -14,7 +15,7 @@ use Rattle.integer.specs.Parts.{posPart, negPart}
 use Rattle.integer.proofs.MultipleLaws.{posPart-·, negPart-·, eqZ-yes}
 use Rattle.integer.proofs.PartLaws.{posPart-neg, negPart-neg}
 use Rattle.integer.specs.Range.{fits, mostSigned, mostUnsigned}
-use Rattle.specification.specs.Tests.{if◌then◌else◌, some, those}
+use Rattle.specification.specs.Tests.{some, those}
 use Rattle.specification.specs.Axis.{Axis, positions, is_empty, active, span, upward, downward}
 use Rattle.specification.specs.Outcome.{Outcome, done, refused, pass, refuseIf, ◌>>◌}
 use Rattle.specification.specs.Layout.{LayoutM, rank, Accepted, handed}
@@ -165,7 +166,7 @@ plan-done l a o = go (is_empty l.axes) (eqb (positions l.axes) 1) (some still l.
     fromBlock = refuseIf (outOfRange l.axes) 3 [] >> done (byBlock (block_of l.axes))
 
     go : (t u v : Bool) → is_empty l.axes ≡ t → some still l.axes ≡ v
-        → (p : Plan) × ((if t then done (answered Distinct 0) else (refuseIf (overfull l.axes) 8 [] >> (if u then done (answered Distinct 0) else if v then done (answered Repeated 0) else fromBlock))) ≡ done p)
+        → (p : Plan) × ((if t then done (answered Distinct 0) else (refuseIf (overfull l.axes) 8 [] >> (if u then done (answered Distinct 0) else (if v then done (answered Repeated 0) else fromBlock)))) ≡ done p)
     go true u v e s = (answered Distinct 0, refl)
     go false true v e s = (answered Distinct 0, refuse-no 8 [] _ o)
     go false false true e s = (answered Repeated 0, refuse-no 8 [] _ o)

@@ -1,8 +1,8 @@
 -- Beside it: dense strides, index order, indexed offset.
-use Rattle.std.specs.Prelude.{Bool, not, ◌&&◌, ◌||◌, List, [], ◌∷◌, map, reverse, ℕ, suc, ◌+◌, ◌*◌, eqb, ltb, leb, ℤ, pos, nat_abs, ◌+ℤ◌, length}
+use Rattle.std.specs.Prelude.{Bool, not, ◌&&◌, ◌||◌, List, [], ◌∷◌, map, reverse, ℕ, suc, ◌+◌, ◌*◌, eqb, ltb, leb, ℤ, pos, nat_abs, ◌+ℤ◌, length, if◌then◌else◌}
 use Rattle.integer.specs.Multiple.{◌·◌, eqZ}
 use Rattle.integer.specs.Range.{fits, mostSigned}
-use Rattle.specification.specs.Tests.{if◌then◌else◌, some, those}
+use Rattle.specification.specs.Tests.{some, those}
 use Rattle.specification.specs.Axis.{Axis}
 use Rattle.specification.specs.Outcome.{Outcome, done, refused, refuseIf, ◌>>◌, ◌>>=◌}
 use Rattle.specification.specs.Layout.{LayoutM, rank, handed, tooLong}
@@ -13,8 +13,7 @@ use Rattle.specification.specs.Layout.{LayoutM, rank, handed, tooLong}
 unfoldable pub nextStep : Bool → ℕ → ℕ → Outcome ℕ
 nextStep empty step extent =
     if leb (step * extent) mostSigned && leb extent mostSigned then done (step * extent)
-    else if empty then done mostSigned
-    else refused 3 []
+    else (if empty then done mostSigned else refused 3 [])
 
 -- running products: the step at each extent
 unfoldable pub running : Bool → ℕ → List ℕ → Outcome (List ℤ)

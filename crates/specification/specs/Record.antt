@@ -1,10 +1,9 @@
 -- The record of a layout (added): its bytes, the writer, the reader, and stepping over.
-use Rattle.std.specs.Prelude.{Bool, true, false, not, ◌&&◌, ◌||◌, List, [], ◌∷◌, ◌++◌, ◌≡◌, ℕ, zero, suc, ◌+◌, ◌-◌, ◌*◌, ◌/◌, ◌%◌, ◌^◌, eqb, ltb, leb, ℤ, pos, negsuc, length, drop, get_or}
+use Rattle.std.specs.Prelude.{Bool, true, false, not, ◌&&◌, ◌||◌, List, [], ◌∷◌, ◌++◌, ◌≡◌, ℕ, zero, suc, ◌+◌, ◌-◌, ◌*◌, ◌/◌, ◌%◌, ◌^◌, eqb, ltb, leb, ℤ, pos, negsuc, length, drop, get_or, if◌then◌else◌}
 use Rattle.std.specs.Int.Signed.{le_z}
 use Rattle.integer.specs.Multiple.{eqZ}
 use Rattle.integer.specs.Parts.{posPart}
 use Rattle.integer.specs.Range.{mostSigned}
-use Rattle.specification.specs.Tests.{if◌then◌else◌}
 use Rattle.specification.specs.Axis.{Axis, is_empty}
 use Rattle.specification.specs.Outcome.{Outcome, done, refused, refuseIf, ◌>>◌, ◌>>=◌}
 use Rattle.specification.specs.Layout.{LayoutM, rank, lowest, highest}

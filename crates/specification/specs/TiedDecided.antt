@@ -1,10 +1,9 @@
 -- That it can be decided whether two axes are tied. The type of `tied?` says what is decided; the rest need not be read:
 -- each axis gets a name, and a pair renames one class to the other.
-use Rattle.std.specs.Prelude.{Bool, true, false, not, List, [], ◌∷◌, ◌≡◌, refl, ℕ, T, eqb}
+use Rattle.std.specs.Prelude.{Bool, true, false, not, List, [], ◌∷◌, ◌≡◌, refl, ℕ, T, eqb, if◌then◌else◌}
 use Rattle.std.proofs.Common.{inl, inr, sym, ap, subst, ◌∙◌, eqb→eq, T_not}
 use Rattle.std.proofs.Math.Dec.{eqb_refl}
 use Rattle.integer.proofs.Decide.{byTest}
-use Rattle.specification.specs.Tests.{if◌then◌else◌}
 use Rattle.specification.specs.Tied.{Among, Tied, itself, pair, turned, chain}
 
 -- the name of an axis once the pairs are taken in

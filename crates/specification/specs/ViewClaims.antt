@@ -1,7 +1,6 @@
 -- Claims on the views: when each passes, what a refusal says, what the new layout is, and what becomes of the offset of an index vector.
-use Rattle.std.specs.Prelude.{false, List, [], ◌∷◌, map, ◌≢◌, ◌↔◌, ◌≡◌, ℕ, suc, ◌+◌, ◌*◌, ◌/◌, ◌<◌, ◌≤◌, eqb, ℤ, pos, length, get_or}
+use Rattle.std.specs.Prelude.{false, List, [], ◌∷◌, map, ◌≢◌, ◌↔◌, ◌≡◌, ℕ, suc, ◌+◌, ◌*◌, ◌/◌, ◌<◌, ◌≤◌, eqb, ℤ, pos, length, get_or, if◌then◌else◌}
 use Rattle.integer.specs.Range.{mostUnsigned}
-use Rattle.specification.specs.Tests.{if◌then◌else◌}
 use Rattle.specification.specs.Axis.{Axis, extents, offsetSum}
 use Rattle.specification.specs.Outcome.{done, refused, pass}
 use Rattle.specification.specs.Layout.{LayoutM, rank, Ranges, Accepted}

@@ -1,7 +1,7 @@
 -- Views of a view: permute, diagonal_view, broadcast. Each answers with the layout after it, or the refusal and the old layout.
-use Rattle.std.specs.Prelude.{not, ◌||◌, List, [], ◌∷◌, ◌++◌, map, ℕ, suc, max, min, ltb, leb, eqb, ℤ, pos, ◌+ℤ◌, length, get_or}
+use Rattle.std.specs.Prelude.{not, ◌||◌, List, [], ◌∷◌, ◌++◌, map, ℕ, suc, max, min, ltb, leb, eqb, ℤ, pos, ◌+ℤ◌, length, get_or, if◌then◌else◌}
 use Rattle.integer.specs.Range.{fits}
-use Rattle.specification.specs.Tests.{if◌then◌else◌, is_yes, some, those, up_from}
+use Rattle.specification.specs.Tests.{is_yes, some, those, up_from}
 use Rattle.specification.specs.Axis.{Axis}
 use Rattle.specification.specs.Outcome.{Check, done, refused, pass, refuseIf, ◌>>◌}
 use Rattle.specification.specs.Layout.{LayoutM, rank, handed}

@@ -1,6 +1,5 @@
 -- Bytes written as pairs of hexadecimal digits. Assumes nothing.
-use Rattle.std.specs.Prelude.{Bool, ◌&&◌, List, [], ◌∷◌, ◌++◌, ◌≡◌, ℕ, ◌+◌, ◌-◌, ◌*◌, ◌/◌, ◌%◌, min, eqb, leb, length, take, drop}
-use Rattle.specification.specs.Tests.{if◌then◌else◌}
+use Rattle.std.specs.Prelude.{Bool, ◌&&◌, List, [], ◌∷◌, ◌++◌, ◌≡◌, ℕ, ◌+◌, ◌-◌, ◌*◌, ◌/◌, ◌%◌, min, eqb, leb, length, take, drop, if◌then◌else◌}
 
 -- from the first byte to the last
 abbrev pub within : ℕ → ℕ → ℕ → Bool
@@ -10,9 +9,9 @@ within first last byte = leb first byte && leb byte last
 unfoldable pub digitOf : ℕ → ℕ
 digitOf byte =
     if within 48 57 byte then byte - 48
-    else if within 65 70 byte then byte - 65 + 10
-    else if within 97 102 byte then byte - 97 + 10
-    else 16
+    else (if within 65 70 byte then byte - 65 + 10
+    else (if within 97 102 byte then byte - 97 + 10
+    else 16))
 
 abbrev pub notHexadecimal : ℕ → Bool
 notHexadecimal byte = eqb (digitOf byte) 16

@@ -1,9 +1,9 @@
 -- The decimal number that bytes spell. Assumes nothing.
-use Rattle.std.specs.Prelude.{Bool, ◌||◌, List, [], ◌∷◌, ℕ, ◌+◌, ◌-◌, ◌*◌, ◌^◌, eqb, ltb, pos, neg_ℤ, length, get_or, drop}
+use Rattle.std.specs.Prelude.{Bool, ◌||◌, List, [], ◌∷◌, ℕ, ◌+◌, ◌-◌, ◌*◌, ◌^◌, eqb, ltb, pos, neg_ℤ, length, get_or, drop, if◌then◌else◌}
 use Rattle.integer.specs.Range.{checkedOf}
 use Rattle.integer.specs.declared.signed.Checked.{Checked}
 use Rattle.integer.specs.declared.signed.Checked.TheVariants.{Over}
-use Rattle.specification.specs.Tests.{if◌then◌else◌, some}
+use Rattle.specification.specs.Tests.{some}
 use Rattle.spelling.specs.declared.number.Unsigned.{Unsigned}
 use Rattle.spelling.specs.declared.number.Unsigned.TheVariants.{Is, Not}
 
@@ -20,9 +20,9 @@ spelledFrom n (byte ∷ rest) = spelledFrom (n * 10 + (byte - 48)) rest
 unfoldable pub unsignedOf : List ℕ → Unsigned
 unsignedOf text =
     if eqb (length text) 0 then Not
-    else if some notDigit text then Not
-    else if ltb (spelledFrom 0 text) (2 ^ 64) then Is (spelledFrom 0 text)
-    else Not
+    else (if some notDigit text then Not
+    else (if ltb (spelledFrom 0 text) (2 ^ 64) then Is (spelledFrom 0 text)
+    else Not))
 
 -- a magnitude as a negative number, where 64 bits hold it
 abbrev pub negativeOf : Unsigned → Checked
@@ -38,5 +38,5 @@ positiveOf Not = Over
 unfoldable pub signed_of : List ℕ → Checked
 signed_of text =
     if eqb (length text) 0 then Over
-    else if eqb (get_or text 0 0) 45 then negativeOf (unsignedOf (drop 1 text))
-    else positiveOf (unsignedOf text)
+    else (if eqb (get_or text 0 0) 45 then negativeOf (unsignedOf (drop 1 text))
+    else positiveOf (unsignedOf text))

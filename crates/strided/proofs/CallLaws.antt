@@ -1,4 +1,5 @@
 -- From what the code was told to what crosses the boundary, for the calls that answer something other than a layout.
+use Rattle.std.specs.Prelude.{if◌then◌else◌}
 use mathlib.Core.Bool.{Bool, true, false, ◌&&◌}
 use mathlib.Core.List.{List}
 use mathlib.Core.Path.{◌≡◌, refl, sym, subst, ap, ◌∙◌}
@@ -7,7 +8,6 @@ use borrow.Author.Tests.{le-leb, lt-leb}
 use lib.Dec.{leb}
 use lib.IntN.{ℤ}
 use lib.ListN.{length}
-use Rattle.specification.specs.Tests.{if◌then◌else◌}
 use Rattle.specification.specs.Outcome.{Outcome, done, refused}
 use Rattle.specification.specs.Layout.{LayoutM}
 use Rattle.specification.specs.Verdict.{Judged, ScratchAfter, freedBy}

@@ -1,4 +1,5 @@
 -- The rest behind a record is no longer than the bytes, and begins where the code says.
+use Rattle.std.specs.Prelude.{if◌then◌else◌}
 use mathlib.Core.Bool.{Bool, true, false, ◌||◌}
 use mathlib.Core.List.{List, []}
 use mathlib.Core.Path.{◌≡◌, refl, ap, ◌∙◌}
@@ -9,7 +10,6 @@ use lib.ListN.{length, drop, length-drop, drop_of_length-le}
 use borrow.Author.Tests.{ltb-false}
 use Rattle.specification.proofs.ReachLaws.{or-false}
 use Rattle.strided.specs.Calls.{Behind}
-use Rattle.specification.specs.Tests.{if◌then◌else◌}
 use Rattle.specification.specs.Record.{numberFrom, rest_of}
 
 pub rest-fits : (bytes : List ℕ) → length (rest_of bytes) ≤ length bytes

@@ -1,6 +1,5 @@
 -- The outcomes of the calls that answer something other than a layout, and what they leave in lent memory.
-use Rattle.std.specs.Prelude.{Bool, List, ◌∷◌, ◌++◌, ◌≡◌, ℕ, ◌≤◌, leb, ℤ, length, take, drop}
-use Rattle.specification.specs.Tests.{if◌then◌else◌}
+use Rattle.std.specs.Prelude.{Bool, List, ◌∷◌, ◌++◌, ◌≡◌, ℕ, ◌≤◌, leb, ℤ, length, take, drop, if◌then◌else◌}
 use Rattle.specification.specs.Outcome.{Outcome, Check, done, refused}
 use Rattle.specification.specs.Layout.{LayoutM}
 use Rattle.specification.specs.Verdict.{Judged, ScratchAfter, freedBy}

@@ -1,11 +1,11 @@
 -- The claims on reach and count, from those of the layout's offsets.
+use Rattle.std.specs.Prelude.{if◌then◌else◌}
 use mathlib.Core.Bool.{Bool, true, false}
 use mathlib.Core.List.{[]}
 use mathlib.Core.Path.{◌≡◌, refl, sym, ◌∙◌}
 use Prim.Native.Nat.{ℕ}
 use native.Mathlib.Omega.{arith}
 use lib.IntN.{ℤ}
-use Rattle.specification.specs.Tests.{if◌then◌else◌}
 use Rattle.specification.specs.Axis.{is_empty}
 use Rattle.specification.specs.Outcome.{done, refused, refuseIf, ◌>>◌}
 use Rattle.specification.specs.Layout.{LayoutM, lowest, highest, inReach}

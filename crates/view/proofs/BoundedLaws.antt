@@ -1,11 +1,11 @@
 -- What an answer with a limit is, and what it says.
+use Rattle.std.specs.Prelude.{if◌then◌else◌}
 use mathlib.Core.Path.{◌≡◌, refl, sym, ◌∙◌}
 use mathlib.Core.Bool.{Bool, true, false}
 use Prim.Native.Nat.{ℕ, ◌≤◌, ◌<◌}
 use native.Mathlib.Omega.{arith}
 use lib.Dec.{leb}
 use borrow.Author.Tests.{le-leb, lt-leb, leb-true, leb-false}
-use Rattle.specification.specs.Tests.{if◌then◌else◌}
 use Rattle.view.specs.Bounded.{boundedBy}
 use Rattle.view.specs.declared.bounded.Bounded.{Bounded}
 use Rattle.view.specs.declared.bounded.Bounded.TheVariants.{Is, Over}

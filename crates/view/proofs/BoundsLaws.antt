@@ -1,4 +1,5 @@
 -- The reach of a layout by its offset and the two sums of spans, and what it says of check-in's refusal 3.
+use Rattle.std.specs.Prelude.{if◌then◌else◌}
 use mathlib.Core.Path.{◌≡◌, refl, sym, ap, ◌∙◌, subst}
 use mathlib.Core.Bool.{Bool, true, false, not, ◌&&◌, and-false}
 use mathlib.Core.List.{List, [], ◌∷◌}
@@ -13,7 +14,7 @@ use Rattle.integer.specs.Parts.{posPart, negPart}
 use Rattle.integer.specs.Range.{fits, mostSigned}
 use Rattle.integer.proofs.PartLaws.{parts_add, parts-minus, parts-ext, parts-fit, leZ-true, ltZ-true, le-leZ, lt-leZ, lt-ltZ, le-ltZ}
 use Rattle.integer.proofs.CheckedLaws.{fits-of-sfits}
-use Rattle.specification.specs.Tests.{if◌then◌else◌, some}
+use Rattle.specification.specs.Tests.{some}
 use Rattle.specification.specs.Outcome.{Check, done, refused, pass, refuseIf, ◌>>◌}
 use Rattle.specification.specs.Axis.{Axis, is_empty, span, upward, downward}
 use Rattle.specification.specs.Layout.{LayoutM, lowest, highest, inReach}

@@ -1,4 +1,5 @@
 -- A product of extents, factor by factor, and what it says of the number of positions.
+use Rattle.std.specs.Prelude.{if◌then◌else◌}
 use mathlib.Core.Path.{◌≡◌, refl, sym, ap, subst, ◌∙◌}
 use mathlib.Core.Bool.{Bool, true, false, not, ◌&&◌, ◌||◌, and-false}
 use mathlib.Core.List.{List, [], ◌∷◌}
@@ -11,7 +12,7 @@ use lib.ListN.{length, drop, get_or, drop_of_length-le}
 use lib.Seq.{drop-cons}
 use borrow.Author.Tests.{eqb-true, eqb-false, lt-ltb, le-ltb}
 use Rattle.integer.specs.Range.{mostUnsigned}
-use Rattle.specification.specs.Tests.{if◌then◌else◌, some}
+use Rattle.specification.specs.Tests.{some}
 use Rattle.specification.specs.Outcome.{Check, done, refused, refuseIf, ◌>>◌}
 use Rattle.specification.specs.Axis.{Axis, extents, product, positions, is_empty}
 use Rattle.specification.specs.Beside.{zeroAmong}

@@ -1,4 +1,5 @@
 -- The numbers below n that pass a test: one number more, tests that agree, how many there are, a table of them, and a second test.
+use Rattle.std.specs.Prelude.{if◌then◌else◌}
 use mathlib.Core.Path.{◌≡◌, refl, sym, ap, ◌∙◌}
 use mathlib.Core.Bool.{Bool, true, false, ◌||◌}
 use mathlib.Core.List.{List, [], ◌∷◌, ◌++◌, map, append-nil, map-append}
@@ -10,7 +11,7 @@ use lib.ListN.{length, length-append}
 use borrow.Author.Tests.{eqb-true, eqb-false}
 use Rattle.lists.specs.Table.{table}
 use Rattle.lists.proofs.TableLaws.{table-zero, table-suc}
-use Rattle.specification.specs.Tests.{if◌then◌else◌, some, those, up_from}
+use Rattle.specification.specs.Tests.{some, those, up_from}
 use Rattle.view.proofs.OrderLaws.{some-snoc}
 
 -- the numbers below n that pass

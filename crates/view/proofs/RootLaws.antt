@@ -1,4 +1,5 @@
 -- Laws of roots: relabelled one axis after another, and as a mask whose ones below a bit are counted.
+use Rattle.std.specs.Prelude.{if◌then◌else◌}
 use mathlib.Core.Path.{◌≡◌, refl, sym, ap, ◌∙◌}
 use mathlib.Core.Bool.{Bool, true, false}
 use mathlib.Core.List.{List, ◌++◌, map, append-nil}
@@ -12,7 +13,6 @@ use lib.ListN.{length, take, drop, get_or, set, drop_of_length-le}
 use lib.Pow.{pow-add}
 use lib.Seq.{drop-cons, take-suc, take-suc-set, drop-set-lt, append_snoc, take_all}
 use borrow.Author.Tests.{eq-eqb, ne_eqb}
-use Rattle.specification.specs.Tests.{if◌then◌else◌}
 use Rattle.view.specs.Ties.{rootAt, renamed, isRoot, mask_of}
 use Rattle.view.proofs.MaskLaws.{shifted_one}
 use Rattle.view.proofs.RangeLaws.{passing-zero, count, count_yes, count_no}

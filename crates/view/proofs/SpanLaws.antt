@@ -1,4 +1,5 @@
 -- The two sums of spans, each with its limit, and one axis after another.
+use Rattle.std.specs.Prelude.{if◌then◌else◌}
 use mathlib.Core.Path.{◌≡◌, refl, sym, ◌∙◌}
 use mathlib.Core.Bool.{Bool, true, false, ◌&&◌, and-false}
 use mathlib.Core.List.{List, [], ◌∷◌}
@@ -13,7 +14,6 @@ use borrow.Author.Tests.{le-leb, lt-leb, leb-true}
 use Rattle.integer.specs.Parts.{posPart, negPart}
 use Rattle.integer.proofs.MultipleLaws.{posPart-·, negPart-·}
 use Rattle.specification.specs.Axis.{Axis, axesOf, span, upward, downward}
-use Rattle.specification.specs.Tests.{if◌then◌else◌}
 use Rattle.view.specs.Model.{axisOf}
 use Rattle.view.specs.Reach.{spansUpTo}
 use Rattle.view.specs.declared.bounds.Spans.{Spans}

@@ -1,4 +1,5 @@
 -- Laws of the targets of a broadcast: the first fault from an axis on, and the axes stretched so far.
+use Rattle.std.specs.Prelude.{if◌then◌else◌}
 use mathlib.Core.Path.{◌≡◌, refl}
 use mathlib.Core.Bool.{Bool, true, false, ◌||◌}
 use mathlib.Core.List.{List, [], ◌∷◌, ◌++◌}
@@ -10,7 +11,6 @@ use lib.IntN.{pos}
 use lib.ListN.{length, take, drop, get_or, drop_of_length-le}
 use lib.Seq.{drop-cons, take-suc}
 use borrow.Author.Tests.{eqb-true}
-use Rattle.specification.specs.Tests.{if◌then◌else◌}
 use Rattle.specification.specs.Axis.{Axis}
 use Rattle.specification.specs.Outcome.{refused, pass, refuseIf, ◌>>◌}
 use Rattle.specification.specs.Views.{axisAt, targetFault, spread}

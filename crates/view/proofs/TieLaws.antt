@@ -1,4 +1,5 @@
 -- Pairs one after another: what they refuse, what they tie, and the roots after one pair more.
+use Rattle.std.specs.Prelude.{if◌then◌else◌}
 use mathlib.Core.Path.{◌≡◌, refl, sym, ap, subst, ◌∙◌}
 use mathlib.Core.Bool.{Bool, true, false}
 use mathlib.Core.List.{List, [], ◌∷◌, ◌++◌, map}
@@ -9,7 +10,7 @@ use native.Mathlib.Omega.{arith}
 use lib.Dec.{eqb, leb}
 use lib.ListN.{length, get_or}
 use borrow.Author.Tests.{le-leb, lt-leb, eq-eqb, ne_eqb, leb-false, eqb-true, eqb-false}
-use Rattle.specification.specs.Tests.{if◌then◌else◌, up_from}
+use Rattle.specification.specs.Tests.{up_from}
 use Rattle.specification.specs.Outcome.{Check, refused, pass, refuseIf, ◌>>◌}
 use Rattle.specification.specs.Tied.{Among, Tied, itself, pair, turned, chain}
 use Rattle.specification.specs.Views.{pairFault}

@@ -1,6 +1,5 @@
 -- A number with a limit, as the code answers it.
-use Rattle.std.specs.Prelude.{ℕ, leb}
-use Rattle.specification.specs.Tests.{if◌then◌else◌}
+use Rattle.std.specs.Prelude.{ℕ, leb, if◌then◌else◌}
 use Rattle.view.specs.declared.bounded.Bounded.{Bounded}
 use Rattle.view.specs.declared.bounded.Bounded.TheVariants.{Is, Over}
 

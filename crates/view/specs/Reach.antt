@@ -1,7 +1,7 @@
 -- How far the offsets of a layout reach, as the code answers it.
-use Rattle.std.specs.Prelude.{Bool, true, false, not, ◌&&◌, ◌≡◌, List, [], ℕ, ◌-◌, ◌≤◌, ltb, leb, ℤ}
+use Rattle.std.specs.Prelude.{Bool, true, false, not, ◌&&◌, ◌≡◌, List, [], ℕ, ◌-◌, ◌≤◌, ltb, leb, ℤ, if◌then◌else◌}
 use Rattle.integer.specs.Range.{mostSigned}
-use Rattle.specification.specs.Tests.{if◌then◌else◌, some}
+use Rattle.specification.specs.Tests.{some}
 use Rattle.specification.specs.Outcome.{Outcome, done, refused, refuseIf, ◌>>◌}
 use Rattle.specification.specs.Axis.{Axis, axesOf, is_empty, upward, downward}
 use Rattle.specification.specs.Beside.{zeroAmong}

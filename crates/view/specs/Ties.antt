@@ -1,6 +1,5 @@
 -- Classes of tied axes as the code keeps them: for each axis its root, the lowest axis of its class, and a mask of the roots.
-use Rattle.std.specs.Prelude.{Bool, true, false, List, [], ◌≡◌, ℕ, zero, suc, ◌+◌, ◌*◌, ◌^◌, ◌≤◌, ◌<◌, eqb, ltb, ℤ, get_or}
-use Rattle.specification.specs.Tests.{if◌then◌else◌}
+use Rattle.std.specs.Prelude.{Bool, true, false, List, [], ◌≡◌, ℕ, zero, suc, ◌+◌, ◌*◌, ◌^◌, ◌≤◌, ◌<◌, eqb, ltb, ℤ, get_or, if◌then◌else◌}
 use Rattle.specification.specs.Layout.{LayoutM, rank}
 use Rattle.specification.specs.Outcome.{refused, pass}
 use Rattle.specification.specs.Tied.{Tied}

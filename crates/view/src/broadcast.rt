@@ -1,6 +1,5 @@
 // broadcast: a layout stretched to target extents.
-ghost use Rattle.std.specs.Prelude.{◌||◌, ◌≡◌, List, ◌≤◌, eqb, ℤ, pos, length};
-ghost use Rattle.specification.specs.Tests.{if◌then◌else◌};
+ghost use Rattle.std.specs.Prelude.{◌||◌, ◌≡◌, List, ◌≤◌, eqb, ℤ, pos, length, if◌then◌else◌};
 ghost use Rattle.specification.specs.Axis.{axesOf};
 ghost use Rattle.specification.specs.Views.{targetFault, spread, broadcast};
 ghost use Rattle.view.specs.Answers.{outcomeOf};

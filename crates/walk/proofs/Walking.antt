@@ -1,4 +1,5 @@
 -- The walk: from vector to vector with its residues, and the first that is completed.
+use Rattle.std.specs.Prelude.{if◌then◌else◌}
 use mathlib.Core.Path.{◌≡◌, refl, sym, ap, ◌∙◌, subst, subst⁻¹}
 use mathlib.Core.Bool.{Bool, true, false}
 use mathlib.Core.Option.{Option, some, none}
@@ -8,7 +9,7 @@ use native.Mathlib.Omega.{arith}
 use lib.ListN.{length, get_or}
 use Rattle.integer.specs.Congruence.{Congruent}
 use Rattle.integer.proofs.Congruence.{congruent-mul}
-use Rattle.specification.specs.Tests.{if◌then◌else◌, is_yes}
+use Rattle.specification.specs.Tests.{is_yes}
 use Rattle.specification.specs.Axis.{index_at}
 use Rattle.specification.specs.Search.{widths, first_of, differenceSum, fromDigits}
 use Rattle.specification.specs.Decided.{completes?}

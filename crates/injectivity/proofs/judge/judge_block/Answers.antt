@@ -1,11 +1,11 @@
 -- `judge_block`: a crowded block, two axes, or more.
+use Rattle.std.specs.Prelude.{if◌then◌else◌}
 use mathlib.Core.Path.{◌≡◌, refl, sym, ap, ◌∙◌}
 use mathlib.Core.Bool.{Bool}
 use mathlib.Core.List.{List}
 use Prim.Native.Nat.{ℕ, ◌-◌, ◌≤◌}
 use lib.ListN.{length, get_or}
 use Rattle.walk.specs.Walk.{axisWith}
-use Rattle.specification.specs.Tests.{if◌then◌else◌}
 use Rattle.specification.specs.Search.{twoDistinct}
 use Rattle.specification.specs.Verdict.{answered, Distinct, Repeated, byBlock}
 use Rattle.injectivity.specs.Axes.{blockFrom}
