@@ -6,26 +6,63 @@ use mathlib.Core.List.{List, [], ◌∷◌}
 use mathlib.Core.Logic.{◌⊎◌, inl, inr}
 use Prim.Native.Nat.{ℕ, ◌+◌, ◌-◌, ◌≤◌, ◌<◌}
 use native.Mathlib.Omega.{arith}
-use lib.Dec.{T, ltb}
-use lib.IntN.{pos}
+use lib.Dec.{T, eqb, ltb}
+use lib.IntN.{ℤ, pos}
+use lib.ListN.{length}
 use lib.Signed.{le_z, lt_z}
-use borrow.Author.Tests.{lt-ltb, le-ltb}
+use borrow.Author.Tests.{lt-ltb, le-ltb, not-true}
+use mir.Syntax.{w64}
+use mir.Val.{SFits}
+use mir.ValLaws.{to_z-of_z}
 use Rattle.integer.specs.Parts.{posPart, negPart}
 use Rattle.integer.specs.Range.{fits, mostSigned}
+use Rattle.integer.proofs.MachineInteger.{readBack, nonnegative-tested}
 use Rattle.integer.proofs.PartLaws.{parts_add, parts-minus, parts-ext, parts-fit, leZ-true, ltZ-true, le-leZ, lt-leZ, lt-ltZ, le-ltZ}
 use Rattle.integer.proofs.CheckedLaws.{fits-of-sfits}
 use Rattle.specification.specs.Tests.{some}
 use Rattle.specification.specs.Outcome.{Check, done, refused, pass, refuseIf, ◌>>◌}
-use Rattle.specification.specs.Axis.{Axis, is_empty, span, upward, downward}
+use Rattle.specification.specs.Axis.{Axis, axesOf, is_empty, span, upward, downward}
+use Rattle.specification.specs.Beside.{zeroAmong}
 use Rattle.specification.specs.Layout.{LayoutM, lowest, highest, inReach}
 use Rattle.specification.specs.CheckIn.{bounds, tooWide}
 use Rattle.specification.proofs.OutcomeLaws.{clash, passed, done_inj}
 use Rattle.specification.proofs.AcceptedLaws.{not-false}
 use Rattle.specification.proofs.ReachLaws.{Within, and-true, bounds-reach}
+use Rattle.specification.proofs.SomeLaws.{some-axesOf}
 use Rattle.view.specs.Reach.{Ends, none, ends, reachTold, reachOf, tooWideExtent}
 use Rattle.view.specs.declared.layout.ReadingOffset.{ReadingOffset}
 use Rattle.view.specs.declared.bounds.Reach.{Reach}
 use Rattle.view.specs.declared.bounds.Reach.TheVariants.{Empty, Between, Outside}
+
+-- ---- what a test says of the lists and of the offset
+
+module _ (es : List ℕ) (ss : List ℤ) (h : length es ≡ length ss) where
+  pub zero-tested : {t : Bool} → zeroAmong es ≡ t → is_empty (axesOf es ss) ≡ t
+  unfolding is_empty
+  zero-tested e = some-axesOf (λ n. eqb n 0) es ss h ∙ e
+
+  pub wide-tested : {t : Bool} → some tooWideExtent es ≡ t → some tooWide (axesOf es ss) ≡ t
+  wide-tested e = some-axesOf tooWideExtent es ss h ∙ e
+
+-- extents that are not ordinary and have no 0 among them: one is too wide
+pub wide-left : (es : List ℕ) → (not (zeroAmong es) && not (some tooWideExtent es)) ≡ false → zeroAmong es ≡ false → some tooWideExtent es ≡ true
+wide-left es e z = by (zeroAmong es) (some tooWideExtent es) e z
+  where
+    by : (zero wide : Bool) → (not zero && not wide) ≡ false → zero ≡ false → wide ≡ true
+    by false true e z = refl
+    by false false e z = absurd (subst T e tt)
+    by true wide e z = absurd (subst T z tt)
+
+-- ordinary extents: none is 0, none too wide
+pub neither-left : (es : List ℕ) → (not (zeroAmong es) && not (some tooWideExtent es)) ≡ true → (zeroAmong es ≡ false) × (some tooWideExtent es ≡ false)
+neither-left es e =
+    let p = and-true (not (zeroAmong es)) (not (some tooWideExtent es)) e in
+    (not-true (zeroAmong es) p.0, not-true (some tooWideExtent es) p.1)
+
+-- an offset that is not below 0 is its positive part
+pub base-told : {offset : ℤ} {base : ℕ} → SFits w64 offset → lt_z (readBack offset) (pos 0) ≡ false → base ≡ posPart (readBack offset)
+    → (base ≡ posPart offset) × (negPart offset ≡ 0)
+base-told {offset} f above e = (e ∙ ap posPart (to_z-of_z w64 offset f), (nonnegative-tested offset f above).no-negative)
 
 -- ---- a layout that is not empty
 

@@ -4,7 +4,7 @@ use mathlib.Core.Path.{◌≡◌, refl, sym, ap, subst, ◌∙◌}
 use mathlib.Core.Bool.{Bool, true, false, not, ◌&&◌, ◌||◌, and-false}
 use mathlib.Core.List.{List, [], ◌∷◌}
 use Prim.Native.Nat.{ℕ, zero, suc, ◌+◌, ◌*◌, ◌≤◌, ◌<◌}
-use native.Mathlib.Nat.{zero-mul, mul-zero, mul-suc, mul-pos}
+use native.Mathlib.Nat.{zero-mul, mul-zero, mul-suc, mul-pos, mul_assoc}
 use native.Mathlib.Numerals.{add-one}
 use native.Mathlib.Omega.{arith}
 use lib.Dec.{T, eqb, ltb}
@@ -33,6 +33,11 @@ product-drop es i h = rw (add-one, drop-cons es i 0 h)
 pub product-end : (es : List ℕ) (i : ℕ) → length es ≤ i → product (drop i es) ≡ 1
 unfolding product
 product-end es i h = rw (drop_of_length-le es h)
+
+-- a turn: extent i goes from what is left to the product
+pub product-turn : (es : List ℕ) (i count : ℕ) → i < length es → count * product (drop i es) ≡ product es
+    → (count * get_or es i 0) * product (drop (i + 1) es) ≡ product es
+product-turn es i count h e = mul_assoc count (get_or es i 0) (product (drop (i + 1) es)) ∙ ap (λ (n : ℕ). count * n) (sym (product-drop es i h)) ∙ e
 
 product-zero : (es : List ℕ) → zeroAmong es ≡ true → product es ≡ 0
 unfolding product some

@@ -15,7 +15,6 @@ pub mod ChainLaws
 pub mod RangeLaws
 pub mod RootLaws
 pub mod PairLaws
-pub mod PlainCalls
 pub mod TieLaws
 pub mod ClassLaws
 pub mod StrideSumLaws

@@ -1,17 +1,22 @@
 -- The two sums of spans, each with its limit, and one axis after another.
 use Rattle.std.specs.Prelude.{if◌then◌else◌}
-use mathlib.Core.Path.{◌≡◌, refl, sym, ◌∙◌}
+use mathlib.Core.Path.{◌≡◌, refl, sym, ap, ◌∙◌}
 use mathlib.Core.Bool.{Bool, true, false, ◌&&◌, and-false}
 use mathlib.Core.List.{List, [], ◌∷◌}
 use Prim.Native.Nat.{ℕ, ◌+◌, ◌-◌, ◌*◌, ◌≤◌, ◌<◌}
 use native.Mathlib.Numerals.{add-one}
 use native.Mathlib.Omega.{arith}
 use lib.IntN.{ℤ, pos}
+use lib.Signed.{lt_z}
 use lib.ListN.{length, drop, get_or, drop_of_length-le}
 use lib.Seq.{drop-cons}
 use lib.Dec.{leb}
 use borrow.Author.Tests.{le-leb, lt-leb, leb-true}
+use mir.Syntax.{w64}
+use mir.Val.{SFits}
+use mir.ValLaws.{to_z-of_z}
 use Rattle.integer.specs.Parts.{posPart, negPart}
+use Rattle.integer.proofs.MachineInteger.{readBack, negative-tested, nonnegative-tested}
 use Rattle.integer.proofs.MultipleLaws.{posPart-·, negPart-·}
 use Rattle.specification.specs.Axis.{Axis, axesOf, span, upward, downward}
 use Rattle.view.specs.Model.{axisOf}
@@ -85,3 +90,36 @@ upward-end es ss i h = rw (axesOf-end es ss i h)
 pub downward-end : (es : List ℕ) (ss : List ℤ) (i : ℕ) → length es ≤ i → downward (axesOf (drop i es) ss) ≡ 0
 unfolding downward
 downward-end es ss i h = rw (axesOf-end es ss i h)
+
+-- both sums so far: each and the spans still left, from axis i on, make the whole sum
+pub record SpansLeft (es : List ℕ) (ss : List ℤ) (i up down : ℕ) : Type 0 where
+  pub up_left : up + upward (axesOf (drop i es) (drop i ss)) ≡ upward (axesOf es ss)
+  pub down_left : down + downward (axesOf (drop i es) (drop i ss)) ≡ downward (axesOf es ss)
+
+-- a turn, by the sign of the stride: axis i adds to one of the sums alone
+module _ (es : List ℕ) (ss : List ℤ) (i up down last step : ℕ) (left : SpansLeft es ss i up down) (h : i < length es) (k : i < length ss)
+    (is_last : last ≡ get_or es i 0 - 1) (f : SFits w64 (get_or ss i (pos 0))) where
+  pub falling-turn : lt_z (readBack (get_or ss i (pos 0))) (pos 0) ≡ true → step ≡ negPart (readBack (get_or ss i (pos 0)))
+      → SpansLeft es ss (i + 1) up (down + last * step)
+  falling-turn below is-step =
+      let none = negative-tested (get_or ss i (pos 0)) f below in
+      let e = upward-turn es ss i up _ last 0 h k is_last (sym none.no-positive) left.up_left in
+      record {
+        up_left = omega arith;
+        down_left = downward-turn es ss i down _ last step h k is_last (is-step ∙ ap negPart (to_z-of_z w64 _ f)) left.down_left;
+      }
+
+  pub rising-turn : lt_z (readBack (get_or ss i (pos 0))) (pos 0) ≡ false → step ≡ posPart (readBack (get_or ss i (pos 0)))
+      → SpansLeft es ss (i + 1) (up + last * step) down
+  rising-turn above is-step =
+      let none = nonnegative-tested (get_or ss i (pos 0)) f above in
+      let e = downward-turn es ss i down _ last 0 h k is_last (sym none.no-negative) left.down_left in
+      record {
+        up_left = upward-turn es ss i up _ last step h k is_last (is-step ∙ ap posPart (to_z-of_z w64 _ f)) left.up_left;
+        down_left = omega arith;
+      }
+
+-- at the end no span is left
+pub spans-end : (es : List ℕ) (ss : List ℤ) (i up down : ℕ) → SpansLeft es ss i up down → length es ≤ i
+    → (up ≡ upward (axesOf es ss)) × (down ≡ downward (axesOf es ss))
+spans-end es ss i up down left h = (omega (arith, left.up_left, upward-end es (drop i ss) i h), omega (arith, left.down_left, downward-end es (drop i ss) i h))

@@ -1,0 +1,14 @@
+-- What was passed is neither 0 nor too wide, so the answer is that of the extents still left.
+use mathlib.Core.Path.{◌≡◌}
+use Prim.Native.Nat.{◌≤◌, ◌-◌}
+use lib.ListN.{length, drop}
+use Rattle.specification.specs.Tests.{some}
+use Rattle.specification.specs.Beside.{zeroAmong}
+use Rattle.view.specs.Reach.{tooWideExtent}
+use Rattle.view.proofs.bounds.ordinary.Given as goal
+
+abbrev pub invariant-loop-i : goal.invariant-loop-i
+invariant-loop-i l = (l.i ≤ length l.extents) × (zeroAmong l.extents ≡ zeroAmong (drop l.i l.extents)) × (some tooWideExtent l.extents ≡ some tooWideExtent (drop l.i l.extents))
+
+abbrev pub decreases-loop-i : goal.decreases-loop-i
+decreases-loop-i l = length l.extents - l.i

@@ -1,0 +1,33 @@
+-- `broadcast_refusal` tests in the order of the definition.
+use Rattle.std.proofs.Common.{◌≡◌, ◌∙◌, refl, sym, ap}
+use Rattle.specification.specs.Layout.{handed}
+use Rattle.specification.specs.Outcome.{pass}
+use Rattle.view.specs.Answers.{outcomeOf}
+use Rattle.view.specs.Model.{modelFrom}
+use Rattle.view.proofs.ListedLaws.{listed-refused, listed-wrong, listed_next}
+use Rattle.view.proofs.ModelLaws.{length-axesOf}
+use Rattle.view.proofs.broadcast.broadcast_refusal.Goals as goal
+
+pub returns-in-Refused : goal.returns-in-Refused
+returns-in-Refused c =
+    let a = c.args in
+    let model = modelFrom a.len a.offset.0 a.extents.now a.strides.now in
+    let told : outcomeOf c.handed_lists-first.result ≡ handed model a.targets.now = c.handed_lists-first.ensures a.targets.now refl in
+    sym (listed-refused model a.targets.now _ _ (sym told ∙ ap outcomeOf c.in-Refused.is))
+
+pub returns-then-targets-extents : goal.returns-then-targets-extents
+returns-then-targets-extents c =
+    let a = c.args in
+    let model = modelFrom a.len a.offset.0 a.extents.now a.strides.now in
+    let n = length-axesOf a.extents.now a.strides.now c.requires.0 in
+    let passed : handed model a.targets.now ≡ pass = sym (c.handed_lists-first.ensures a.targets.now refl) ∙ ap outcomeOf c.in-Done.is in
+    sym (listed-wrong model a.targets.now _ _ passed (λ e. c.if-targets-extents.true (e ∙ n)) ∙ rw n)
+
+pub returns-else-targets-extents : goal.returns-else-targets-extents
+returns-else-targets-extents c =
+    let a = c.args in
+    let model = modelFrom a.len a.offset.0 a.extents.now a.strides.now in
+    let n = length-axesOf a.extents.now a.strides.now c.requires.0 in
+    let passed : handed model a.targets.now ≡ pass = sym (c.handed_lists-first.ensures a.targets.now refl) ∙ ap outcomeOf c.in-Done.is in
+    c.target_fault.ensures a.strides.now c.requires.0
+    ∙ sym (listed_next model a.targets.now _ _ passed (c.if-targets-extents.false ∙ sym n))
