@@ -1,0 +1,15 @@
+-- `strided_diagonal_view`: no room, too many axes, or the view made in the words of the axes.
+use Rattle.std.proofs.Common.{[], sym, w64, rules}
+use mir.ValLaws.{to_z-of_z}
+use Rattle.specification.specs.Views.{diagonalView, pairsOf}
+use Rattle.strided.proofs.InPlaceLaws.{viewed-too-many, viewed-in-place}
+use Rattle.strided.proofs.views.strided_diagonal_view.Goals as goal
+
+pub returns-then-rank-gt16 : goal.returns-then-rank-gt16
+unfolding diagonalView
+returns-then-rank-gt16 c = viewed-too-many (sym c.if-not-holds_view.ensures) [] _ _ c.if-rank-gt16.true
+
+pub returns : goal.returns
+returns c =
+    let made = c.diagonal_in_place-after in
+    viewed-in-place (λ l. diagonalView l (pairsOf c.args.pairs.now)) (sym c.if-not-holds_view.ensures) c.if-rank-gt16.false (to_z-of_z w64 _ (search rules)) made.auto.extents made.auto.strides made.ensures c.answer_in_place.ensures
