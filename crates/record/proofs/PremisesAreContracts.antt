@@ -18,11 +18,12 @@ use Rattle.specification.specs.Calls.{permuting, diagonal, broadcasting}
 use Rattle.specification.specs.Views.{pairsOf, diagonalView}
 use Rattle.specification.specs.Record.{Writing}
 use Rattle.view.specs.Model.{modelOf, viewedOf, pairsIn}
-use Rattle.view.specs.contracts.layout.Layout.permute as permute
-use Rattle.view.specs.contracts.layout.Layout.broadcast as broadcast
+use Rattle.view.proofs.layout.Layout.permute as permute
+use Rattle.view.proofs.layout.Layout.broadcast as broadcast
+use Rattle.view.proofs.layout.Layout.diagonal_view as by-pairs
 use Rattle.view.specs.contracts.layout.Layout.diagonal_view as diagonal-view
 use Rattle.view.proofs.numbers.diagonal_by_numbers as by-numbers
-use Rattle.record.specs.Chain.{CallMade, permuted, fused-by-numbers, stretched, RunOf}
+use Rattle.record.specs.Chain.{CallMade, permuted, fused, fused-by-numbers, stretched, RunOf}
 use Rattle.record.specs.Writer.{wroteOf}
 use Rattle.record.specs.Reading.{Reading}
 use Rattle.record.proofs.calls.run_calls as run-calls
@@ -39,6 +40,9 @@ permute-made κs a v s ensured = permuted a.1.0.now ensured
 pub broadcast-made : Gives broadcast.Kinds.ps broadcast.Kinds.r broadcast.Reads.Post (λ κs a v s. CallMade a.0 v (broadcasting a.1.0.now))
 broadcast-made κs a v s ensured = stretched a.1.0.now ensured
 
+pub diagonal-view-made : Gives by-pairs.Kinds.ps by-pairs.Kinds.r by-pairs.Reads.Post (λ κs a v s. CallMade a.0 v (diagonal (pairsIn a.1.0.now)))
+diagonal-view-made κs a v s ensured = fused a.1.0.now ensured
+
 pub diagonal-by-numbers-made : Gives by-numbers.Kinds.ps by-numbers.Kinds.r by-numbers.Reads.Post (λ κs a v s. CallMade a.0 v (diagonal (pairsOf a.1.0.now)))
 diagonal-by-numbers-made κs a v s ensured = fused-by-numbers a.1.0.now ensured
 
@@ -53,7 +57,7 @@ pub read-record-reads : Gives read-record.Kinds.ps read-record.Kinds.r read-reco
     (λ κs a v s. Reading a.0.now a.1.0.now (viewedOf v) s.1.0.now)
 read-record-reads κs a v s ensured = ensured
 
--- `diagonal_view` on structs is walked by hand, so its `ensures` is held as it stands, in every world of the logic: the fact that `fused` takes
+-- the `ensures` of `diagonal_view` on structs as it stands, in every world of the logic: the fact that `fused` takes
 pub diagonal-view-ensures : {M : Type 1} {𝓤 : Ura M} (𝓛 : Logic 𝓤) (mem : Memory → SProp 𝓤) (run : Routine → Fun 𝓤)
     (κs : Lfts 1) (a : Args diagonal-view.signature κs) (v : Res diagonal-view.signature κs) (s : AtExit diagonal-view.ended κs)
     → (diagonal-view.clauses 𝓛 mem run κs a).ensures tt v s ≡ (connectives 𝓤).⌜◌⌝ (viewedOf v ≡ diagonalView (modelOf a.0) (pairsIn a.1.0.now))

@@ -1,17 +1,7 @@
--- Every claim of specs/, with its proof: one record that the check has to build.
-use Rattle.specification.specs.TestClaims.{TestClaims}
-use Rattle.specification.specs.ReachClaims.{ReachClaims}
-use Rattle.specification.specs.CheckInClaims.{CheckInClaims, NormalCallClaims}
-use Rattle.specification.specs.ViewClaims.{AnswerClaims, AcceptedClaims, RangeClaims, NewLayoutClaims, ClassClaims, ViewClaims}
-use Rattle.specification.specs.NormalClaims.{NormalClaims}
-use Rattle.specification.specs.BlockClaims.{BlockClaims}
-use Rattle.specification.specs.VerdictClaims.{VerdictClaims, WordsClaims, VerdictCallClaims}
-use Rattle.specification.specs.CountClaims.{CountClaims, DigitClaims}
-use Rattle.specification.specs.RecordClaims.{WriterClaims, ReaderClaims, RoundTrip, SteppingClaims}
-use Rattle.specification.specs.BesideClaims.{DenseClaims, OrderClaims, OffsetClaims}
+-- Every claim with its proof.
+use Rattle.integer.proofs.GcdLaws.{gcd-claims}
+use Rattle.specification.specs.Claims.{Claims}
 use Rattle.specification.specs.Demand3.{Demand3Claim}
-use Rattle.specification.specs.Starred.{Starred}
-use Rattle.specification.specs.Cases.{Cases}
 use Rattle.specification.proofs.TestsTold.{test-claims}
 use Rattle.specification.proofs.ReachClaimed.{reach-claims}
 use Rattle.specification.proofs.CheckInLaws.{check-in-claims, normal-call-claims}
@@ -42,62 +32,34 @@ use Rattle.specification.proofs.Demand3Whole.{demand3-from}
 pub demand3 : Demand3Claim
 demand3 = demand3-from answer-claims
 
-pub record Proved : Type 0 where
-  pub tests : TestClaims
-  pub reach : ReachClaims
-  pub check-in : CheckInClaims
-  pub answers : AnswerClaims
-  pub accepted : AcceptedClaims
-  pub ranges : RangeClaims
-  pub new-layouts : NewLayoutClaims
-  pub classes : ClassClaims
-  pub views : ViewClaims
-  pub normal : NormalClaims
-  pub normal-call : NormalCallClaims
-  pub block : BlockClaims
-  pub verdict : VerdictClaims
-  pub words : WordsClaims
-  pub verdict-call : VerdictCallClaims
-  pub count : CountClaims
-  pub digits : DigitClaims
-  pub writer : WriterClaims
-  pub reader : ReaderClaims
-  pub round-trips : RoundTrip
-  pub stepping : SteppingClaims
-  pub dense : DenseClaims
-  pub order : OrderClaims
-  pub offsets : OffsetClaims
-  pub demand-3 : Demand3Claim
-  pub starred-lines : Starred
-  pub further-cases : Cases
-
-pub proved : Proved
+pub proved : Claims
 proved = record {
+  gcd = gcd-claims;
   tests = test-claims;
   reach = reach-claims;
-  check-in = check-in-claims;
+  check_in = check-in-claims;
   answers = answer-claims;
   accepted = accepted-claims;
   ranges = range-claims;
-  new-layouts = new-layout-claims;
+  new_layouts = new-layout-claims;
   classes = class-claims;
   views = view-claims;
   normal = normal-claims;
-  normal-call = normal-call-claims;
+  normal_call = normal-call-claims;
   block = block-claims;
   verdict = verdict-claims;
   words = words-claims;
-  verdict-call = verdict-call-claims;
+  verdict_call = verdict-call-claims;
   count = count-claims;
   digits = digit-claims;
   writer = writer-claims;
   reader = reader-claims;
-  round-trips = round_trip;
+  round_trips = round_trip;
   stepping = stepping-claims;
   dense = dense-claims;
   order = order-claims;
   offsets = offset-claims;
-  demand-3 = demand3;
-  starred-lines = starred;
-  further-cases = cases;
+  demand_3 = demand3;
+  starred_lines = starred;
+  further_cases = cases;
 }

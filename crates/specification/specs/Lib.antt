@@ -27,3 +27,4 @@ pub mod BesideClaims
 pub mod Demand3
 pub mod Starred
 pub mod Cases
+pub mod Claims

@@ -1,0 +1,35 @@
+-- `is_empty_form`: one axis, and each number is 0.
+use Rattle.std.proofs.Common.{◌≡◌, sym, ◌∙◌, rules, true, get_or, pos}
+use mathlib.Core.Bool.{◌&&◌}
+use lib.Dec.{eqb}
+use borrow.Author.Tests.{eq-eqb, ne_eqb}
+use Rattle.integer.specs.Multiple.{eqZ}
+use Rattle.specification.specs.Record.{isEmptyForm}
+use Rattle.view.specs.declared.layout.Layout.{Layout}
+use Rattle.view.specs.Model.{modelOf}
+use Rattle.view.proofs.ModelLaws.{length-axesIn}
+use Rattle.record.proofs.FormLaws.{empty-form-rank, empty-form-one, zero-tested}
+use Rattle.record.proofs.form.is_empty_form.Goals as goal
+
+one-axis : (l : Layout) → l.rank ≡ 1
+    → isEmptyForm (modelOf l) ≡ (eqZ l.offset.0 (pos 0) && true && eqb (get_or l.extents 0 0) 0 && eqZ (get_or l.strides 0 (pos 0)) (pos 0))
+one-axis l e = rw e (empty-form-one l.len l.offset.0 l.extents l.strides)
+
+pub returns-then-rank-ne1 : goal.returns-then-rank-ne1
+returns-then-rank-ne1 c = let l = c.args.layout in sym (empty-form-rank (modelOf l) (rw (length-axesIn l.extents l.strides l.rank) c.if-rank-ne1.true))
+
+pub returns-then-layout-ne0 : goal.returns-then-layout-ne0
+returns-then-layout-ne0 c =
+    let l = c.args.layout in
+    sym (one-axis l c.if-rank-ne1.false ∙ rw (zero-tested l.offset.0 (search rules), ne_eqb _ 0 c.if-layout-ne0.true))
+
+pub returns-then-layout-ne0-2 : goal.returns-then-layout-ne0-2
+returns-then-layout-ne0-2 c =
+    let l = c.args.layout in
+    sym (one-axis l c.if-rank-ne1.false ∙ rw (zero-tested l.offset.0 (search rules), eq-eqb _ 0 c.if-layout-ne0.false, ne_eqb _ 0 c.if-layout-ne0-2.true))
+
+pub returns : goal.returns
+returns c =
+    let l = c.args.layout in
+    sym (one-axis l c.if-rank-ne1.false
+    ∙ rw (zero-tested l.offset.0 (search rules), eq-eqb _ 0 c.if-layout-ne0.false, eq-eqb _ 0 c.if-layout-ne0-2.false, zero-tested (get_or l.strides 0 (pos 0)) (search rules)))

@@ -1,0 +1,11 @@
+-- `is_overfull`: the count of positions says whether 64 bits hold it.
+use Rattle.std.proofs.Common.{sym}
+use Rattle.view.specs.Model.{modelOf}
+use Rattle.view.proofs.CountLaws.{counted-refused, counted_is}
+use Rattle.record.proofs.form.is_overfull.Goals as goal
+
+pub returns-in-Of : goal.returns-in-Of
+returns-in-Of c = sym (counted_is (modelOf c.args.layout).axes c.layout_count-count.ensures c.in-Of.is).0
+
+pub returns-in-Refused : goal.returns-in-Refused
+returns-in-Refused c = sym (counted-refused (modelOf c.args.layout).axes c.layout_count-count.ensures c.in-Refused.is).0

@@ -1,0 +1,19 @@
+-- `continues`: a product out of range equals no stride; one in range is compared.
+use Rattle.std.proofs.Common.{sym}
+use Rattle.integer.specs.Multiple.{◌·◌}
+use Rattle.integer.proofs.MachineInteger.{equal-tested}
+use Rattle.integer.proofs.CheckedLaws.{checked-mul-is, fits-arm, over-arm}
+use Rattle.record.proofs.MergeLaws.{over-differs}
+use Rattle.record.proofs.normal.continues.Goals as goal
+
+pub returns-in-Over : goal.returns-in-Over
+returns-in-Over c =
+    let a = c.args in
+    sym (over-differs a.next (a.extent · a.stride) c.ranges.next
+    (over-arm (a.extent · a.stride) (checked-mul-is a.extent a.stride c.ranges.stride c.checked_mul-product.ensures) c.in-Over.is))
+
+pub returns-in-Fits : goal.returns-in-Fits
+returns-in-Fits c =
+    let a = c.args in
+    let w = fits-arm (a.extent · a.stride) (checked-mul-is a.extent a.stride c.ranges.stride c.checked_mul-product.ensures) c.in-Fits.is in
+    rw w.value (equal-tested a.next (a.extent · a.stride) c.ranges.next w.in-range)
