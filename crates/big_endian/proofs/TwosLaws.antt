@@ -1,24 +1,19 @@
--- Two's complement by size, of a number below 0 and of one that is not; and read back from the machine's bits.
+-- Two's complement is what the machine's bits hold: written, and read back.
 use Rattle.std.specs.Prelude.{if◌then◌else◌}
 use mathlib.Core.Bool.{Bool, true, false}
 use mathlib.Core.Path.{◌≡◌, refl}
-use Prim.Native.Nat.{ℕ, suc, ◌-◌, ◌<◌, ◌^◌}
-use native.Mathlib.Omega.{arith}
+use Prim.Native.Nat.{ℕ, suc, ◌-◌, ◌^◌}
 use lib.Dec.{ltb}
-use lib.IntN.{ℤ, pos, negsuc, nat_abs}
+use lib.IntN.{ℤ, pos, negsuc}
 use mir.Syntax.{w64}
-use mir.Val.{sel, to_z}
-use Rattle.integer.specs.Parts.{negPart}
+use mir.Val.{sel, to_z, of_z}
 use Rattle.specification.specs.Record.{twos}
 use Rattle.big_endian.specs.Twos.{signed_of}
 
-pub twos-negative : (z : ℤ) → 0 < nat_abs z → nat_abs z ≡ negPart z → twos z ≡ 18446744073709551615 - (nat_abs z - 1)
-twos-negative (pos n) h e = absurd (omega arith)
-twos-negative (negsuc n) h e = omega arith
-
-pub twos-positive : (z : ℤ) → negPart z ≡ 0 → twos z ≡ nat_abs z
-twos-positive (pos n) e = refl
-twos-positive (negsuc n) e = absurd (omega arith)
+-- the machine's bits of a signed number are its two's complement
+pub bits-of-signed : (z : ℤ) → of_z w64 z ≡ twos z
+bits-of-signed (pos n) = refl
+bits-of-signed (negsuc n) = refl
 
 -- 64 bits read as a signed number are the number whose two's complement they hold
 pub signed-of-bits : (n : ℕ) → to_z w64 n ≡ signed_of n

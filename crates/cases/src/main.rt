@@ -1,6 +1,8 @@
 // Reads commands on standard input and answers each on standard output.
 #![tactic(auto)]
 
-fn main() {
-    commands::run();
+use std::io;
+
+fn main(rt: HostRuntime) -> io::Result<()> {
+    commands::run(rt)
 }

@@ -1,175 +1,107 @@
-// The commands that can change the current layout, and which function each command is.
-use crate::command::Command;
-use crate::list::{
-    axis_list, first_words, pair_list, signed_list, signed_or_zero, unsigned_list, unsigned_or_zero,
-};
-use crate::message::{put_answer, put_problem};
-use crate::printing::put_text;
+// The commands that change the current layout. Each leaves it as it was where it is not obeyed.
+ghost use Rattle.std.specs.Prelude.{◌≡◌, ◌≢◌, Err, IfOk, IfErr, length, take, vec_len};
+ghost use Rattle.commands.specs.Refused.{IsToldBy};
+
 use crate::problem::Problem;
-use crate::query::query;
-use crate::text::word;
-use integer::least;
+use crate::spelled::Lent;
+use crate::word::Word;
 use record::read::read_record;
-use spelling::hexadecimal::byte_list;
-use view::layout::{Answer, Layout, ReadingOffset, Viewed};
+use std::alloc::Global;
+use view::layout::{Layout, ReadingOffset, Viewed};
 use view::numbers::diagonal_by_numbers;
 
-// The current layout after a command, and the next free place of the output.
+// LEN OFFSET EXTENTS STRIDES, as a line gives them.
 #[derive(Drop)]
-pub struct Changed {
-    pub layout: Layout,
-    pub at: usize,
+pub struct Given {
+    pub len: u64,
+    pub offset: ReadingOffset,
+    pub extents: Vec<u64>,
+    pub strides: Vec<i64>,
 }
 
-// The layout that a view answers with is the old one where it is refused.
-fn viewed(out: &mut [u8; 65536], at: usize, view: Viewed) -> Changed {
-    let layout = view.layout;
-    let answer = view.answer;
-    let next = put_answer(out, at, answer);
-    Changed {
-        layout: layout,
-        at: next,
+impl Given {
+    // What the four words spell, from the left.
+    pub fn read(alloc: Global, words: [Word<'_>; 4]) -> Result<Given, Problem> {
+        let [len, offset, extents, strides] = words;
+        Ok(Given {
+            len: len.one()?,
+            offset: ReadingOffset(offset.one()?),
+            extents: extents.list(alloc)?,
+            strides: strides.list(alloc)?,
+        })
     }
 }
 
-// A layout made afresh stands beside a refusal too, so there the current one is kept.
-fn made(out: &mut [u8; 65536], at: usize, current: Layout, view: Viewed) -> Changed {
-    let layout = view.layout;
-    let answer = view.answer;
-    let next = put_answer(out, at, answer);
-    match answer {
-        Answer::Done => Changed {
-            layout: layout,
-            at: next,
-        },
-        Answer::Refused(_) => Changed {
-            layout: current,
-            at: next,
-        },
+// The layout that a call answers with, where it is not refused.
+pub fn accepted(view: Viewed) -> Result<Layout, Problem>
+    ensures ok { IfOk result (λ layout. (view.answer ≡ Ok tt) × (layout ≡ view.layout)) }
+    ensures err { IfErr result (IsToldBy view.answer) }
+{
+    match view.answer {
+        Ok(()) => Ok(view.layout),
+        Err(why) => Err(Problem::Refused(why)),
     }
 }
 
-fn new_layout(line: &[u8], out: &mut [u8; 65536], at: usize, current: Layout) -> Changed {
-    let mut extents = [0u64; 64];
-    let mut strides = [0i64; 64];
-    let len = unsigned_or_zero(word(line, 2));
-    let offset = ReadingOffset(signed_or_zero(word(line, 3)));
-    let axes = unsigned_list(word(line, 4), &mut extents);
-    let steps = signed_list(word(line, 5), &mut strides);
-    let view = Layout::new(len, offset, &extents[..axes], &strides[..steps]);
-    made(out, at, current, view)
+// A layout that is checked in.
+pub fn new_layout(given: &Given) -> Result<Layout, Problem> {
+    let extents = given.extents.as_slice();
+    let strides = given.strides.as_slice();
+    accepted(Layout::new(given.len, given.offset, extents, strides))
 }
 
-// A layout of any rank, its first 16 axes in place.
-fn unchecked(
-    len: u64,
-    offset: ReadingOffset,
-    extents: &[u64; 64],
-    strides: &[i64; 64],
-    rank: usize,
-) -> Layout {
-    let mut layout = Layout {
-        len: len,
-        offset: offset,
-        rank: rank,
-        extents: [0; 16],
-        strides: [0; 16],
-    };
-    let held = least(rank, 16);
-    let mut i = 0;
-    while i < held {
-        let extent = extents[i];
-        let stride = strides[i];
-        layout.extents[i] = extent;
-        layout.strides[i] = stride;
-        i += 1;
+// The first 16 entries of a list, and another value behind a shorter one.
+fn sixteen<T: Copy>(list: &[T], other: T) -> [T; 16]
+    ensures { take (length list.now) result ≡ take 16 list.now }
+{
+    let mut places = [other; 16];
+    let held = list.len().min(16);
+    places[..held].copy_from_slice(&list[..held]);
+    places
+}
+
+// A layout of any rank with no check, its first 16 axes in place.
+pub fn set_layout(given: &Given) -> Result<Layout, Problem>
+    ensures unequal { vec_len given.now.extents ≢ vec_len given.now.strides → result ≡ Err Problem.UnequalLists }
+    ensures rank { IfOk result (λ layout. layout.rank ≡ vec_len given.now.extents) }
+    ensures extents { IfOk result (λ layout. take layout.rank layout.extents ≡ take 16 given.now.extents.items) }
+    ensures strides { IfOk result (λ layout. take layout.rank layout.strides ≡ take 16 given.now.strides.items) }
+{
+    let rank = given.extents.len();
+    if rank != given.strides.len() {
+        return Err(Problem::UnequalLists);
     }
-    layout
+    Ok(Layout {
+        len: given.len,
+        offset: given.offset,
+        rank,
+        extents: sixteen(given.extents.as_slice(), 0),
+        strides: sixteen(given.strides.as_slice(), 0),
+    })
 }
 
-fn set_layout(line: &[u8], out: &mut [u8; 65536], at: usize, current: Layout) -> Changed {
-    let mut extents = [0u64; 64];
-    let mut strides = [0i64; 64];
-    let len = unsigned_or_zero(word(line, 2));
-    let offset = ReadingOffset(signed_or_zero(word(line, 3)));
-    let axes = unsigned_list(word(line, 4), &mut extents);
-    let steps = signed_list(word(line, 5), &mut strides);
-    if axes != steps {
-        let next = put_problem(out, at, Problem::UnequalLists, line);
-        return Changed {
-            layout: current,
-            at: next,
-        };
-    }
-    let layout = unchecked(len, offset, &extents, &strides, axes);
-    let next = put_text(out, at, b"ok");
-    Changed {
-        layout: layout,
-        at: next,
-    }
+// The axes in the order of a list.
+pub fn permute(alloc: Global, current: Layout, order: Word<'_>) -> Result<Layout, Problem> {
+    let order = order.list(alloc)?;
+    accepted(current.permute(order.as_slice()))
 }
 
-fn permute(line: &[u8], out: &mut [u8; 65536], at: usize, current: Layout) -> Changed {
-    let mut order = [0usize; 64];
-    let count = axis_list(word(line, 2), &mut order);
-    viewed(out, at, current.permute(&order[..count]))
+// Axes of extent 1 stretched to the extents of a list.
+pub fn broadcast(alloc: Global, current: Layout, targets: Word<'_>) -> Result<Layout, Problem> {
+    let targets = targets.list(alloc)?;
+    accepted(current.broadcast(targets.as_slice()))
 }
 
-fn broadcast(line: &[u8], out: &mut [u8; 65536], at: usize, current: Layout) -> Changed {
-    let mut targets = [0u64; 64];
-    let count = unsigned_list(word(line, 2), &mut targets);
-    viewed(out, at, current.broadcast(&targets[..count]))
+// The axes of each pair tied into one.
+pub fn diagonal(alloc: Global, current: Layout, pairs: Word<'_>) -> Result<Layout, Problem> {
+    let pairs = pairs.list::<[usize; 2]>(alloc)?;
+    accepted(diagonal_by_numbers(current, pairs.as_slice().as_flattened()))
 }
 
-fn diagonal(line: &[u8], out: &mut [u8; 65536], at: usize, current: Layout) -> Changed {
-    let mut pairs = [0usize; 128];
-    let count = pair_list(word(line, 2), &mut pairs);
-    viewed(out, at, diagonal_by_numbers(current, &pairs[..count]))
-}
-
-// The record that the word writes, with the first words of the scratch.
-fn read_word(bytes: &[u8], words: usize, scratch: &mut [u64]) -> Viewed {
-    let end = first_words(words, scratch);
-    read_record(bytes, &mut scratch[..end])
-}
-
-fn read(
-    line: &[u8],
-    out: &mut [u8; 65536],
-    at: usize,
-    current: Layout,
-    scratch: &mut [u64; 65536],
-) -> Changed {
-    let mut bytes = [0u8; 4096];
-    let count = byte_list(word(line, 2), &mut bytes);
-    let words = unsigned_or_zero(word(line, 3)) as usize;
-    let view = read_word(&bytes[..count], words, scratch);
-    made(out, at, current, view)
-}
-
-// The current layout after any command, and its answer.
-pub fn change(
-    command: Command,
-    line: &[u8],
-    out: &mut [u8; 65536],
-    at: usize,
-    current: Layout,
-    scratch: &mut [u64; 65536],
-    room: &mut [u8; 65536],
-) -> Changed {
-    match command {
-        Command::New => new_layout(line, out, at, current),
-        Command::Set => set_layout(line, out, at, current),
-        Command::Permute => permute(line, out, at, current),
-        Command::Diagonal => diagonal(line, out, at, current),
-        Command::Broadcast => broadcast(line, out, at, current),
-        Command::Read => read(line, out, at, current, scratch),
-        _ => {
-            let next = query(command, line, out, at, current, scratch, room);
-            Changed {
-                layout: current,
-                at: next,
-            }
-        }
-    }
+// The layout of a record, read with so many words of scratch.
+pub fn read(alloc: Global, bytes: Word<'_>, words: Word<'_>) -> Result<Layout, Problem> {
+    let bytes = bytes.bytes(alloc)?;
+    let Lent(words) = words.one()?;
+    let mut scratch = vec![in alloc; 0u64; words]?;
+    accepted(read_record(bytes.as_slice(), scratch.as_mut_slice()))
 }

@@ -1,5 +1,7 @@
-// The commands by name, and what words each takes.
-use check::same;
+// The commands: their names, and the words that each takes.
+ghost use Rattle.std.specs.Prelude.{◌≡◌, ◌≢◌, Some, IfSome, IfNone};
+
+use std::fmt;
 
 #[derive(Clone, Copy)]
 pub enum Command {
@@ -20,158 +22,92 @@ pub enum Command {
     Order,
     Column,
     Row,
-    Unknown,
 }
 
-// What a word is: a number, a list of numbers or pairs, bytes, or a number up to a limit of the program.
-#[derive(Clone, Copy)]
-pub enum Form {
-    Unsigned,
-    Signed,
-    Limited,
-    Unsigneds,
-    Signeds,
-    Pairs,
-    Bytes,
-}
+// Each command, for a search by name.
+const COMMANDS: [Command; 17] = [
+    Command::New,
+    Command::Bounds,
+    Command::Set,
+    Command::Show,
+    Command::Permute,
+    Command::Diagonal,
+    Command::Broadcast,
+    Command::Offset,
+    Command::Normal,
+    Command::Verdict,
+    Command::Injective,
+    Command::Record,
+    Command::Read,
+    Command::Rest,
+    Command::Order,
+    Command::Column,
+    Command::Row,
+];
 
-// How many words follow the command, and what they are. The forms past the count say nothing.
-#[derive(Clone, Copy)]
-pub struct Shape {
-    pub count: usize,
-    pub first: Form,
-    pub second: Form,
-    pub third: Form,
-    pub fourth: Form,
-}
+impl Command {
+    ghost use Rattle.commands.specs.Names.{name_of};
 
-// The commands on the current layout, but for views.
-fn layout_command(word: &[u8]) -> Command {
-    if same(word, b"new") {
-        return Command::New;
-    }
-    if same(word, b"bounds") {
-        return Command::Bounds;
-    }
-    if same(word, b"set") {
-        return Command::Set;
-    }
-    if same(word, b"show") {
-        return Command::Show;
-    }
-    if same(word, b"offset") {
-        return Command::Offset;
-    }
-    if same(word, b"normal") {
-        return Command::Normal;
-    }
-    Command::Unknown
-}
-
-// Views and records.
-fn view_command(word: &[u8]) -> Command {
-    if same(word, b"permute") {
-        return Command::Permute;
-    }
-    if same(word, b"diagonal") {
-        return Command::Diagonal;
-    }
-    if same(word, b"broadcast") {
-        return Command::Broadcast;
-    }
-    if same(word, b"record") {
-        return Command::Record;
-    }
-    if same(word, b"read") {
-        return Command::Read;
-    }
-    if same(word, b"rest") {
-        return Command::Rest;
-    }
-    Command::Unknown
-}
-
-// Verdicts, and what stands beside a layout.
-fn other_command(word: &[u8]) -> Command {
-    if same(word, b"verdict") {
-        return Command::Verdict;
-    }
-    if same(word, b"injective") {
-        return Command::Injective;
-    }
-    if same(word, b"order") {
-        return Command::Order;
-    }
-    if same(word, b"column") {
-        return Command::Column;
-    }
-    if same(word, b"row") {
-        return Command::Row;
-    }
-    Command::Unknown
-}
-
-pub fn command_of(word: &[u8]) -> Command {
-    let first = layout_command(word);
-    let Command::Unknown = first else {
-        return first;
-    };
-    let second = view_command(word);
-    let Command::Unknown = second else {
-        return second;
-    };
-    other_command(word)
-}
-
-fn words(count: usize, first: Form, second: Form, third: Form) -> Shape {
-    Shape {
-        count: count,
-        first: first,
-        second: second,
-        third: third,
-        fourth: Form::Signeds,
-    }
-}
-
-fn one_word(form: Form) -> Shape {
-    words(1, form, form, form)
-}
-
-pub fn shape_of(command: Command) -> Shape {
-    match command {
-        Command::New | Command::Bounds | Command::Set => {
-            words(4, Form::Unsigned, Form::Signed, Form::Unsigneds)
+    // The word that a line begins with.
+    pub fn name(self) -> &'static str
+        ensures { result.now ≡ name_of self }
+    {
+        match self {
+            Command::New => "new",
+            Command::Bounds => "bounds",
+            Command::Set => "set",
+            Command::Show => "show",
+            Command::Permute => "permute",
+            Command::Diagonal => "diagonal",
+            Command::Broadcast => "broadcast",
+            Command::Offset => "offset",
+            Command::Normal => "normal",
+            Command::Verdict => "verdict",
+            Command::Injective => "injective",
+            Command::Record => "record",
+            Command::Read => "read",
+            Command::Rest => "rest",
+            Command::Order => "order",
+            Command::Column => "column",
+            Command::Row => "row",
         }
-        Command::Permute | Command::Broadcast | Command::Offset | Command::Column | Command::Row =>
-            one_word(Form::Unsigneds),
-        Command::Diagonal => one_word(Form::Pairs),
-        Command::Verdict => one_word(Form::Limited),
-        Command::Injective => words(3, Form::Unsigneds, Form::Signeds, Form::Limited),
-        Command::Record => words(2, Form::Limited, Form::Limited, Form::Limited),
-        Command::Read => words(2, Form::Bytes, Form::Limited, Form::Limited),
-        Command::Rest => one_word(Form::Bytes),
-        Command::Order => words(2, Form::Signeds, Form::Unsigned, Form::Limited),
-        Command::Show | Command::Normal | Command::Unknown => {
-            words(0, Form::Limited, Form::Limited, Form::Limited)
+    }
+
+    // The command with a name, if there is one.
+    pub fn named(name: &[u8]) -> Option<Command>
+        ensures found { IfSome result (λ command. name_of command ≡ name.now) }
+        ensures missing { IfNone result ((command : Command) → name_of command ≢ name.now) }
+    {
+        COMMANDS
+            .iter()
+            .find(|command| command.name().as_bytes() == name)
+            .copied()
+    }
+
+    // The words that the command takes, as its usage names them.
+    pub fn words(self) -> &'static str {
+        match self {
+            Command::New | Command::Bounds | Command::Set => "LEN OFFSET EXTENTS STRIDES",
+            Command::Permute | Command::Broadcast | Command::Offset => "LIST",
+            Command::Diagonal => "PAIRS",
+            Command::Verdict => "WORDS",
+            Command::Injective => "EXTENTS STRIDES WORDS",
+            Command::Record => "ROOM WORDS",
+            Command::Read => "BYTES WORDS",
+            Command::Rest => "BYTES",
+            Command::Order => "STRIDES OUTLEN",
+            Command::Column | Command::Row => "EXTENTS",
+            Command::Show | Command::Normal => "none",
         }
     }
 }
 
-impl Shape {
-    // The form of the word with this number; the command's own is 1.
-    pub fn form(self, word: usize) -> Form {
-        if word == 2 {
-            let form = self.first;
-            form
-        } else if word == 3 {
-            let form = self.second;
-            form
-        } else if word == 4 {
-            let form = self.third;
-            form
-        } else {
-            let form = self.fourth;
-            form
-        }
+impl fmt::Display for Command {
+    ghost use Rattle.commands.specs.Names.{name_of};
+
+    ghost output = { λ command. Some (name_of command) };
+
+    fn fmt<W: fmt::Write>(&self, f: &mut fmt::Formatter<W>) -> fmt::Result {
+        f.write_str(self.name())
     }
 }

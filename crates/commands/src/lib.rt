@@ -1,15 +1,15 @@
 // The text program: a line of words in, a line of text out.
 #![tactic(auto)]
 
-mod arguments;
 mod change;
 mod command;
 mod list;
-mod message;
-mod printing;
+mod obey;
 mod problem;
 mod query;
+mod reply;
 mod session;
-mod text;
+mod spelled;
+mod word;
 
 pub use session::run;

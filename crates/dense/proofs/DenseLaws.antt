@@ -15,6 +15,7 @@ use borrow.Author.Tests.{le-leb, lt-leb, leb-true, le-ltb, lt-ltb}
 use Rattle.integer.specs.Range.{mostSigned}
 use Rattle.specification.specs.Outcome.{Outcome, done, refused, refuseIf, ◌>>◌, ◌>>=◌}
 use Rattle.specification.specs.Beside.{nextStep, running, zeroAmong, colMajor, rowMajor}
+use Rattle.dense.specs.Dense.{fullStep}
 use Rattle.specification.proofs.OutcomeLaws.{clash, done_inj}
 
 -- ---- a step
@@ -23,16 +24,12 @@ pub step_fits : (empty : Bool) (step extent : ℕ) → step * extent ≤ mostSig
 unfolding nextStep
 step_fits empty step extent h k = rw (le-leb (step * extent) mostSigned h, le-leb extent mostSigned k)
 
--- what is answered where the product or the extent does not fit
-unfoldable pub fullStep : Bool → Outcome ℕ
-fullStep empty = if empty then done mostSigned else refused 3 []
-
 pub step-full-product : (empty : Bool) (step extent : ℕ) → mostSigned < step * extent → nextStep empty step extent ≡ fullStep empty
-unfolding nextStep fullStep
+unfolding nextStep
 step-full-product empty step extent h = rw (lt-leb (step * extent) mostSigned h)
 
 pub step-full-extent : (empty : Bool) (step extent : ℕ) → mostSigned < extent → nextStep empty step extent ≡ fullStep empty
-unfolding nextStep fullStep
+unfolding nextStep
 step-full-extent empty step extent h = rw (lt-leb extent mostSigned h, and-false)
 
 -- a step is at most 2^63 - 1

@@ -1,15 +1,18 @@
 -- Dense strides, as the code answers them.
-use Rattle.std.specs.Prelude.{List, [], ℕ, ℤ, length, take}
+use Rattle.std.specs.Prelude.{Bool, List, [], ℕ, ℤ, length, take, if◌then◌else◌, None, Option, Some}
+use Rattle.integer.specs.Range.{mostSigned}
 use Rattle.specification.specs.Outcome.{Outcome, Check, done, refused, pass}
 use Rattle.view.specs.Answers.{outcomeOf}
-use Rattle.view.specs.declared.bounded.Bounded.{Bounded}
-use Rattle.view.specs.declared.bounded.Bounded.TheVariants.{Is, Over}
 use Rattle.dense.specs.declared.Dense.{Dense}
 
 -- a step, or refusal 3
-abbrev pub step_of : Bounded → Outcome ℕ
-step_of (Is n) = done n
-step_of Over = refused 3 []
+abbrev pub step_of : Option ℕ → Outcome ℕ
+step_of (Some n) = done n
+step_of None = refused 3 []
+
+-- what becomes of a step that does not fit
+abbrev pub fullStep : Bool → Outcome ℕ
+fullStep empty = if empty then done mostSigned else refused 3 []
 
 -- an answer with strides and their number
 pub record DenseM : Type 0 where

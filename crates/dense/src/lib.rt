@@ -5,40 +5,40 @@ ghost use Rattle.std.specs.Prelude.{◌≡◌};
 ghost use Rattle.specification.specs.Outcome.{refused};
 ghost use Rattle.specification.specs.Beside.{nextStep, colMajor, rowMajor};
 ghost use Rattle.view.specs.Answers.{number_of, values_of};
-ghost use Rattle.dense.specs.Dense.{step_of, denseOf, denseAfter};
+ghost use Rattle.dense.specs.Dense.{step_of, fullStep, denseOf, denseAfter};
 
-use view::bounded::{Bounded, bounded_product};
+use view::bounded::bounded_product;
 use view::bounds::empty_layout;
-use view::layout::{Answer, Refusal};
+use view::layout::Refusal;
 
 // As many strides as the count says; none beside a refusal.
 #[derive(Clone, Copy)]
 pub struct Dense {
     pub strides: [i64; 16],
     pub count: usize,
-    pub answer: Answer,
+    pub answer: Result<(), Refusal>,
 }
 
-// The step after an extent, up to 2^63 - 1. In an empty layout a step that does not fit becomes that.
-fn next_step(empty: bool, step: u64, extent: u64) -> Bounded
+// The largest step.
+const MOST_STEP: u64 = i64::MAX as u64;
+
+// What becomes of a step that does not fit: in an empty layout the largest one, else there is none.
+fn full_step(empty: bool) -> Option<u64>
+    ensures { step_of result ≡ fullStep empty }
+{
+    if empty { Some(MOST_STEP) } else { None }
+}
+
+// The step after an extent, where it and the extent are at most the largest step.
+fn next_step(empty: bool, step: u64, extent: u64) -> Option<u64>
     ensures { step_of result ≡ nextStep empty step extent }
 {
-    if extent <= 9223372036854775807 {
-        let product = bounded_product(step, extent, 9223372036854775807);
-        match product {
-            Bounded::Is(next) => Bounded::Is(next),
-            Bounded::Over => {
-                if empty {
-                    Bounded::Is(9223372036854775807)
-                } else {
-                    Bounded::Over
-                }
-            }
-        }
-    } else if empty {
-        Bounded::Is(9223372036854775807)
-    } else {
-        Bounded::Over
+    if MOST_STEP < extent {
+        return full_step(empty);
+    }
+    match bounded_product(step, extent, MOST_STEP) {
+        Some(next) => Some(next),
+        None => full_step(empty),
     }
 }
 
@@ -49,7 +49,7 @@ fn no_strides(why: Refusal) -> Dense
     Dense {
         strides: [0; 16],
         count: 0,
-        answer: Answer::Refused(why),
+        answer: Err(why),
     }
 }
 
@@ -62,20 +62,18 @@ pub fn checked_col_major_strides(extents: &[u64]) -> Dense
     }
     let empty = empty_layout(extents);
     let mut strides = [0i64; 16];
-    let mut step: u64 = 1;
-    let mut i = 0;
-    while i < extents.len() {
+    let mut step = 1;
+    for (i, &extent) in extents.iter().enumerate() {
         strides[i] = step as i64;
-        let Bounded::Is(next) = next_step(empty, step, extents[i]) else {
+        let Some(next) = next_step(empty, step, extent) else {
             return no_strides(Refusal::OutOfRange);
         };
         step = next;
-        i += 1;
     }
     Dense {
-        strides: strides,
-        count: i,
-        answer: Answer::Done,
+        strides,
+        count: extents.len(),
+        answer: Ok(()),
     }
 }
 
@@ -83,24 +81,23 @@ pub fn checked_col_major_strides(extents: &[u64]) -> Dense
 pub fn checked_row_major_strides(extents: &[u64]) -> Dense
     ensures { denseOf result ≡ denseAfter (rowMajor extents.now) }
 {
-    if 16 < extents.len() {
+    let rank = extents.len();
+    if 16 < rank {
         return no_strides(Refusal::TooManyAxes);
     }
     let empty = empty_layout(extents);
     let mut strides = [0i64; 16];
-    let mut step: u64 = 1;
-    let mut i = extents.len();
-    while 0 < i {
-        i -= 1;
+    let mut step = 1;
+    for i in (0..rank).rev() {
         strides[i] = step as i64;
-        let Bounded::Is(next) = next_step(empty, step, extents[i]) else {
+        let Some(next) = next_step(empty, step, extents[i]) else {
             return no_strides(Refusal::OutOfRange);
         };
         step = next;
     }
     Dense {
-        strides: strides,
-        count: extents.len(),
-        answer: Answer::Done,
+        strides,
+        count: rank,
+        answer: Ok(()),
     }
 }

@@ -1,11 +1,11 @@
 -- The loop of `step`: the axes before j went from their last difference to their first, and the sums are those of the vectors as they are now.
-use mathlib.Core.Bool.{true, false}
+use mathlib.Core.Bool.{false}
 use mathlib.Core.List.{List}
 use mathlib.Core.Path.{◌≡◌, refl, sym, ap, ◌∙◌}
 use Prim.Native.Nat.{ℕ, zero, suc, ◌+◌, ◌*◌, ◌-◌, ◌^◌, ◌<◌, ◌≤◌}
 use native.Mathlib.Omega.{arith}
 use lib.ListN.{length, get_or, set, take, length-set}
-use lib.Seq.{take_all, get_or-set_same}
+use lib.Seq.{get_or-set_same}
 use Rattle.specification.proofs.Positions.{IndexVector, empty, ◌and◌}
 use Rattle.odometer.specs.Odometer.{dot, SumsFit}
 use Rattle.odometer.proofs.VectorLaws.{index-length, index_below, index-set, dot-set}
@@ -34,7 +34,6 @@ module _ (v : ℕ) where
 -- axis j is next: what the axes before j went back is one step of axis j, less one
 pub record Stepping (es ss x₀ y₀ x y : List ℕ) (up down j : ℕ) : Type 0 where
   pub stands : Stands es ss x y up down
-  pub le : j ≤ length es
   pub above-length : length x ≡ length es
   pub below_length : length y ≡ length es
   pub counted : number es x₀ y₀ + 1 ≡ number es x y + box (take j es)
@@ -44,7 +43,6 @@ pub stepping-start : (es ss x y : List ℕ) (up down : ℕ) → Stands es ss x y
 unfolding box
 stepping-start es ss x y up down s = record {
   stands = s;
-  le = omega arith;
   above-length = index-length s.above_within;
   below_length = index-length s.below-within;
   counted = refl;
@@ -151,7 +149,6 @@ module _ (es ss x₀ y₀ x y : List ℕ) (up down j : ℕ) (f : SumsFit es ss) 
             let w : 2 * get_or es j 0 - 1 ≡ 2 * (get_or es j 0 - 1) + 1 = omega (arith, above_at) in
             record {
               stands = record { above_within = above-set; below-within = below_set; up_is = omega (arith, back_above); down_is = sym back_below };
-              le = omega arith;
               above-length = length-set x j 0 ∙ t.above-length;
               below_length = length-set y j (get_or es j 0 - 1) ∙ t.below_length;
               counted = omega (
@@ -166,9 +163,3 @@ module _ (es ss x₀ y₀ x y : List ℕ) (up down j : ℕ) (f : SumsFit es ss) 
               );
               start-below = t.start-below;
             }
-
-  pub stepping-end : length es ≤ j → Stepped es x₀ y₀ x y true
-  stepping-end h = record {
-    on = λ e. absurd (let z : ◌≡◌ {A = ℕ} 0 1 = cc in omega arith);
-    last = λ e. omega (arith, t.counted, t.start-below, ap box (take_all j es h));
-  }

@@ -19,22 +19,21 @@ pub fn step(
     strides: &[u64],
     above: &mut [u64],
     below: &mut [u64],
-    up: u64,
-    down: u64,
+    mut up: u64,
+    mut down: u64,
 ) -> Sums
-    requires { SumsFit extents.now strides.now × Stands extents.now strides.now above.old below.old up down }
-    ensures { Stands extents.now strides.now above.new below.new result.up result.down × Stepped extents.now above.old below.old above.new below.new result.ended }
+    requires sums { SumsFit extents.now strides.now }
+    requires stands { Stands extents.now strides.now above.old below.old up down }
+    ensures stands { Stands extents.now strides.now above.new below.new result.up result.down }
+    ensures stepped { Stepped extents.now above.old below.old above.new below.new result.ended }
 {
-    let mut rise = up;
-    let mut fall = down;
-    let mut j: usize = 0;
-    while j < extents.len() {
+    for j in 0..extents.len() {
         let low = below[j];
         if low > 0 {
             below[j] = low - 1;
             return Sums {
-                up: rise,
-                down: fall - strides[j],
+                up,
+                down: down - strides[j],
                 ended: false,
             };
         }
@@ -43,21 +42,20 @@ pub fn step(
         if high < last {
             above[j] = high + 1;
             return Sums {
-                up: rise + strides[j],
-                down: fall,
+                up: up + strides[j],
+                down,
                 ended: false,
             };
         }
         above[j] = 0;
         below[j] = last;
         let back = strides[j] * last;
-        rise -= back;
-        fall += back;
-        j += 1;
+        up -= back;
+        down += back;
     }
     Sums {
-        up: rise,
-        down: fall,
+        up,
+        down,
         ended: true,
     }
 }

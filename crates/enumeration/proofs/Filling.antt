@@ -63,6 +63,9 @@ module _ (es ss a₀ b₀ t₀ : List ℕ) (homes : ℕ) (a b t : List ℕ) (up 
     low = λ q. f.low;
   }
 
+  pub homes-above : 0 < homes
+  homes-above = omega (arith, box-positive f.sums.positive, f.homes-are)
+
   module _ (a' b' : List ℕ) (up' down' : ℕ) (r : Bool) (s : Stepped es a b a' b' r) (w : Stands es ss a' b' up' down') (e : r ≡ false) where
     next : number es a' b' ≡ number es a b + 1
     next = s.on e
@@ -79,20 +82,14 @@ module _ (es ss a₀ b₀ t₀ : List ℕ) (homes : ℕ) (a b t : List ℕ) (up 
       low = λ q. absurd (true-not-false q);
     }
 
-    homes-above : 0 < homes
-    homes-above = omega (arith, box-positive f.sums.positive, f.homes-are)
-
     -- there is a free word
-    pub filling-free : (0 < homes) × Free homes t
-    filling-free = (
-      homes-above,
-      record {
-        place = homes + (number es a b - box es / 2);
-        behind = omega arith;
-        inside = omega (arith, number-below w.above_within w.below-within, next, f.room, f.homes-are, f.middle);
-        is = f.free (homes + (number es a b - box es / 2)) (omega arith);
-      },
-    )
+    pub filling-free : Free homes t
+    filling-free = record {
+      place = homes + (number es a b - box es / 2);
+      behind = omega arith;
+      inside = omega (arith, number-below w.above_within w.below-within, next, f.room, f.homes-are, f.middle);
+      is = f.free (homes + (number es a b - box es / 2)) (omega arith);
+    }
 
     filling-put : (t' : List ℕ) (most' : ℕ) → most ≤ most' → gap up' down' ≤ most' → gap up' down' ≢ 0 → Put homes t t' (gap up' down') → length a' ≡ length a → length b' ≡ length b
         → Filling es ss a₀ b₀ t₀ homes a' b' t' up' down' most'
@@ -120,6 +117,6 @@ module _ (es ss a₀ b₀ t₀ : List ℕ) (homes : ℕ) (a b t : List ℕ) (up 
         kept i (inl q) = subst (Distance es ss) (sym q) (stands-distance es ss a' b' up' down' w behind)
         kept i (inr o) = subst (Distance es ss) (sym o.1) (f.only i o.0)
 
-    pub filling-more : (t' : List ℕ) (n most' : ℕ) → n ≡ gap up' down' → (most ≤ most') × (n ≤ most') → n ≢ 0 → Put homes t t' n → length a' ≡ length a → length b' ≡ length b
+    pub filling-more : (t' : List ℕ) (n most' : ℕ) → n ≡ gap up' down' → most ≤ most' → n ≤ most' → n ≢ 0 → Put homes t t' n → length a' ≡ length a → length b' ≡ length b
         → Filling es ss a₀ b₀ t₀ homes a' b' t' up' down' most'
-    filling-more t' n most' q m z p la lb = filling-put t' most' m.0 (omega (arith, m.1, q)) (λ o. z (q ∙ o)) (subst (Put homes t t') q p) la lb
+    filling-more t' n most' q m l z p la lb = filling-put t' most' m (omega (arith, l, q)) (λ o. z (q ∙ o)) (subst (Put homes t t') q p) la lb

@@ -78,9 +78,6 @@ module _ (es ss a₀ b₀ t : List ℕ) (homes : ℕ) (a b : List ℕ) (up down 
 -- ---- `meet`: a first part in the table, a second looked up in it
 
 module _ (eu su ev sv : List ℕ) (homes : ℕ) (t : List ℕ) (q : Bool) (most : ℕ) (f : Filled eu su homes t q most) where
-  pub filled-yes : q ≡ true → Tells true (Meets eu su ev sv)
-  filled-yes e = tell_yes (first (f.nothing e))
-
   pub filled-tells : q ≡ false → (r : Bool) → Tells r (MeetsTable ev sv homes t) → Tells r (Meets eu su ev sv)
   filled-tells e r g = record { yes = λ y. to (g.yes y); no = λ n m. from m (g.no n) }
     where

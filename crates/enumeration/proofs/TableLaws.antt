@@ -1,36 +1,14 @@
--- The table: words cleared one by one, and a number put into it.
+-- The table: a number put into it, and looked up.
 use mathlib.Core.List.{List}
 use mathlib.Core.Logic.{◌≢◌, ◌⊎◌, inl, inr}
-use mathlib.Core.Path.{◌≡◌, refl, sym, ap, subst, ◌∙◌}
-use Prim.Native.Nat.{ℕ, ◌+◌, ◌*◌, ◌/◌, ◌%◌, ◌^◌, ◌<◌, ◌≤◌}
+use mathlib.Core.Path.{◌≡◌, sym, ap, ◌∙◌}
+use Prim.Native.Nat.{ℕ, ◌+◌, ◌<◌, ◌≤◌}
 use native.Mathlib.Decide.{ℕ_discrete, dec_lt}
 use native.Mathlib.Nat.{mod-lt}
 use native.Mathlib.Omega.{arith}
-use lib.ListN.{length, set, length-set, get_or-eq_default}
-use lib.Seq.{get_or-set_same, get_or-set_other}
-use Rattle.specification.proofs.Digits.{quotient-below}
+use lib.ListN.{length, get_or-eq_default}
 use Rattle.enumeration.specs.Words.{at}
 use Rattle.enumeration.specs.Table.{home_of, Clear, AtMost, Taken, Holds, Free, Put}
-
--- ---- the loop of `clear`: the first i words are 0
-pub record Clearing (l m : List ℕ) (i : ℕ) : Type 0 where
-  pub one-length : length m ≡ length l
-  pub le : i ≤ length m
-  pub zeros : (j : ℕ) → j < i → at m j ≡ 0
-
-pub clearing-start : (l : List ℕ) → Clearing l l 0
-clearing-start l = record { one-length = refl; le = omega arith; zeros = λ j h. absurd (omega arith) }
-
-pub clearing-more : (l m : List ℕ) (i : ℕ) → Clearing l m i → i < length m → Clearing l (set m i 0) (i + 1)
-clearing-more l m i g h = record {
-  one-length = length-set m i 0 ∙ g.one-length;
-  le = omega (arith, length-set m i 0);
-  zeros = λ j k. go j k (ℕ_discrete j i);
-}
-  where
-    go : (j : ℕ) → j < i + 1 → Dec (j ≡ i) → at (set m i 0) j ≡ 0
-    go j k (yes e) = ap (at (set m i 0)) e ∙ get_or-set_same m i 0 0 h
-    go j k (no e) = get_or-set_other m i j 0 0 e ∙ g.zeros j (omega arith)
 
 -- a clear table is 0 at every place, past its end too
 pub clear_at : (l : List ℕ) → Clear l → (i : ℕ) → at l i ≡ 0
@@ -43,13 +21,6 @@ clear_at l z i = go (dec_lt i (length l))
 pub home_below : (homes n : ℕ) → 0 < homes → home_of homes n < homes
 unfolding home_of
 home_below homes n h = mod-lt _ h
-
--- the two products of the home fit a word together
-spread-most : (a b : ℕ) → a < 4294967296 → b < 4294967296 → a * 2654435769 + b * 1597334677 < 2 ^ 64
-spread-most a b h k = omega arith
-
-pub spread-fits : (n : ℕ) → n < 2 ^ 64 → n % 4294967296 * 2654435769 + n / 4294967296 * 1597334677 < 2 ^ 64
-spread-fits n h = spread-most (n % 4294967296) (n / 4294967296) (mod-lt n (omega arith)) (quotient-below n 4294967296 4294967296 (omega arith) h)
 
 -- ---- the loop of `put`: no word from the home up to i is free
 pub record Probing (homes : ℕ) (l : List ℕ) (n i : ℕ) : Type 0 where
@@ -80,31 +51,6 @@ module _ (homes : ℕ) (l : List ℕ) (n i : ℕ) (g : Probing homes l n i) wher
     upto = let o : i ≢ g.free.place = λ e. h (ap (at l) e ∙ g.free.is) in omega (arith, g.upto);
     taken = taken_more homes l n i g.taken h;
   }
-
-  -- the table is still as it was
-  pub probing-free : (l₀ : List ℕ) → l ≡ l₀ → at l i ≡ 0 → Put homes l₀ (set l i n) n
-  probing-free l₀ q z = subst (λ (m : List ℕ). Put homes m (set l i n) n) q (record {
-    place = i;
-    from = g.from;
-    inside = probing-inside;
-    was = inl z;
-    taken = g.taken;
-    one-length = length-set l i n;
-    is = get_or-set_same l i n 0 probing-inside;
-    others = λ k e. get_or-set_other l i k n 0 e;
-  })
-
-  pub probing-met : (l₀ : List ℕ) → l ≡ l₀ → at l i ≡ n → Put homes l₀ l n
-  probing-met l₀ q e = subst (λ (m : List ℕ). Put homes m l n) q (record {
-    place = i;
-    from = g.from;
-    inside = probing-inside;
-    was = inr e;
-    taken = g.taken;
-    one-length = refl;
-    is = e;
-    others = λ k o. refl;
-  })
 
 -- ---- what a number put changes
 
@@ -165,35 +111,3 @@ pub record Looking (homes : ℕ) (l : List ℕ) (n i : ℕ) : Type 0 where
   pub from : home_of homes n ≤ i
   pub taken : Taken homes l n i
   pub missed : (k : ℕ) → home_of homes n ≤ k → k < i → at l k ≢ n
-
--- a number above all words is not there
-pub above-missing : (homes : ℕ) (l : List ℕ) (most n : ℕ) → AtMost most l → most < n → Holds homes l n → ⊥
-above-missing homes l most n g h w = omega (arith, g w.place, w.is)
-
-pub looking-start : (homes : ℕ) (l : List ℕ) (n i : ℕ) → i ≡ home_of homes n → Looking homes l n i
-looking-start homes l n i e = record { from = omega arith; taken = λ k p q. absurd (omega arith); missed = λ k p q. absurd (omega arith) }
-
-module _ (homes : ℕ) (l : List ℕ) (n i : ℕ) (g : Looking homes l n i) where
-  pub looking-found : i < length l → at l i ≡ n → Holds homes l n
-  looking-found h e = record { place = i; from = g.from; inside = h; is = e; taken = g.taken }
-
-  pub looking-more : at l i ≢ 0 → at l i ≢ n → Looking homes l n (i + 1)
-  looking-more z e = record { from = omega (arith, g.from); taken = taken_more homes l n i g.taken z; missed = more }
-    where
-      more : (k : ℕ) → home_of homes n ≤ k → k < i + 1 → at l k ≢ n
-      more k p q = go (ℕ_discrete k i)
-        where
-          go : Dec (k ≡ i) → at l k ≢ n
-          go (yes r) = λ s. e (ap (at l) (sym r) ∙ s)
-          go (no r) = g.missed k p (omega arith)
-
-  pub looking-free : n ≢ 0 → at l i ≡ 0 → Holds homes l n → ⊥
-  looking-free o z h = go (dec_lt h.place i) (ℕ_discrete h.place i)
-    where
-      go : Dec (h.place < i) → Dec (h.place ≡ i) → ⊥
-      go (yes p) d = g.missed h.place h.from p h.is
-      go (no p) (yes q) = o (sym h.is ∙ ap (at l) q ∙ z)
-      go (no p) (no q) = h.taken i g.from (omega arith) z
-
-  pub looking-end : length l ≤ i → Holds homes l n → ⊥
-  looking-end e h = g.missed h.place h.from (omega (arith, h.inside)) h.is

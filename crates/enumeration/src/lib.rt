@@ -33,18 +33,17 @@ fn words_needed(total: u64, span: u64) -> u64
 // Whether two positions have one sum, in lent words whatever they hold: the axes in two parts, whose distances meet. More words
 // only make the first part longer.
 fn has_equal_sums(extents: &[u64], strides: &[u64], words: &mut [u64]) -> bool
-    requires { Part extents.now strides.now × (0 < length words.old) }
+    requires part { Part extents.now strides.now }
+    requires words { 0 < length words.old }
     ensures { Tells result (Clash (positionSum extents.now strides.now) (product extents.now)) }
 {
-    let split = parts::split_axes(extents, words.len());
-    let c = split.place;
-    let vectors = split.vectors;
+    let parts::Split { place, vectors } = parts::split_axes(extents, words.len());
     let room = (2 * vectors - 1) as usize;
     parts::meet(
-        &extents[..c],
-        &strides[..c],
-        &extents[c..],
-        &strides[c..],
+        &extents[..place],
+        &strides[..place],
+        &extents[place..],
+        &strides[place..],
         &mut words[..room],
         vectors,
     )
@@ -67,7 +66,8 @@ pub fn enumerate(
     }
     let words = need as usize;
     if has_equal_sums(extents, strides, &mut scratch[..words]) {
-        return Enumerated::Repeated;
+        Enumerated::Repeated
+    } else {
+        Enumerated::Distinct
     }
-    Enumerated::Distinct
 }

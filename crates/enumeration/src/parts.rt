@@ -2,7 +2,7 @@
 // and those of the second are looked up there.
 ghost use Rattle.std.specs.Prelude.{◌≡◌, ◌+◌, ◌*◌, ◌<◌, ◌≤◌, ◌^◌, length};
 ghost use Rattle.specification.proofs.Digits.{PositiveExtents};
-ghost use Rattle.differences.specs.Differences.{box, gap, Meets};
+ghost use Rattle.differences.specs.Differences.{box, Meets};
 ghost use Rattle.enumeration.specs.Words.{Tells};
 ghost use Rattle.enumeration.specs.Table.{Clear, AtMost};
 ghost use Rattle.enumeration.specs.Parts.{SplitFor, AtMiddle, Filled, MeetsTable, Part};
@@ -23,14 +23,13 @@ pub struct Distances {
     pub most: u64,
 }
 
-// Whether the axes from `start` on have at least `goal` difference vectors.
-fn reaches(extents: &[u64], start: usize, goal: u64) -> bool
-    requires { PositiveExtents extents.now × (goal ≤ 2 ^ 63) }
+// Whether the axes have at least `goal` difference vectors.
+fn reaches(extents: &[u64], goal: u64) -> bool
+    requires extents { PositiveExtents extents.now }
+    requires goal { goal ≤ 2 ^ 63 }
 {
     let mut vectors: u64 = 1;
-    let mut j: usize = start;
-    while j < extents.len() {
-        let extent = extents[j];
+    for &extent in extents {
         if extent >= goal {
             return true;
         }
@@ -39,61 +38,37 @@ fn reaches(extents: &[u64], start: usize, goal: u64) -> bool
             return true;
         }
         vectors *= width;
-        j += 1;
     }
     vectors >= goal
 }
 
 // The longest first part that has room in so many words, and no more difference vectors than the rest. Any other would be as right.
 pub fn split_axes(extents: &[u64], words: usize) -> Split
-    requires { PositiveExtents extents.now × (0 < words) }
+    requires extents { PositiveExtents extents.now }
+    requires words { 0 < words }
     ensures { SplitFor extents.now words result.place result.vectors }
 {
     let most = (words - words / 2) as u64;
     let mut vectors: u64 = 1;
-    let mut j: usize = 0;
-    while j < extents.len() {
-        let middle = extents[j] - 1;
+    for (place, &extent) in extents.iter().enumerate() {
+        let middle = extent - 1;
         if middle >= most {
-            return Split {
-                place: j,
-                vectors: vectors,
-            };
+            return Split { place, vectors };
         }
         let width = middle + middle + 1;
         if width > most / vectors {
-            return Split {
-                place: j,
-                vectors: vectors,
-            };
+            return Split { place, vectors };
         }
         let next = vectors * width;
-        if !reaches(extents, j + 1, next) {
-            return Split {
-                place: j,
-                vectors: vectors,
-            };
+        if !reaches(&extents[place + 1..], next) {
+            return Split { place, vectors };
         }
         vectors = next;
-        j += 1;
     }
     Split {
-        place: j,
-        vectors: vectors,
+        place: extents.len(),
+        vectors,
     }
-}
-
-// How far the two sums of a difference are apart.
-fn distance(up: u64, down: u64) -> u64
-    ensures { result ≡ gap up down }
-{
-    if up < down { down - up } else { up - down }
-}
-
-fn larger(x: u64, y: u64) -> u64
-    ensures { (x ≤ result) × (y ≤ result) }
-{
-    if x < y { y } else { x }
 }
 
 // Puts each distance of the part into the table, which is clear, unless one of them is 0.
@@ -105,7 +80,10 @@ fn fill(
     table: &mut [u64],
     homes: u64,
 ) -> Distances
-    requires { AtMiddle extents.now strides.now above.old below.old × Clear table.old × (homes ≡ box extents.now) × (2 * box extents.now ≤ length table.old + 1) }
+    requires middle { AtMiddle extents.now strides.now above.old below.old }
+    requires clear { Clear table.old }
+    requires homes { homes ≡ box extents.now }
+    requires room { 2 * box extents.now ≤ length table.old + 1 }
     ensures { Filled extents.now strides.now homes table.new result.zero result.most }
 {
     let mut up: u64 = 0;
@@ -114,22 +92,16 @@ fn fill(
     loop {
         let next = differences::step(extents, strides, above, below, up, down);
         if next.ended {
-            return Distances {
-                zero: false,
-                most: most,
-            };
+            return Distances { zero: false, most };
         }
         up = next.up;
         down = next.down;
-        let size = distance(up, down);
+        let size = up.abs_diff(down);
         if size == 0 {
-            return Distances {
-                zero: true,
-                most: most,
-            };
+            return Distances { zero: true, most };
         }
         table::put(table, homes, size);
-        most = larger(most, size);
+        most = most.max(size);
     }
 }
 
@@ -143,7 +115,9 @@ fn meets(
     homes: u64,
     most: u64,
 ) -> bool
-    requires { AtMiddle extents.now strides.now above.old below.old × (0 < homes) × AtMost most table.now }
+    requires middle { AtMiddle extents.now strides.now above.old below.old }
+    requires homes { 0 < homes }
+    requires most { AtMost most table.now }
     ensures { Tells result (MeetsTable extents.now strides.now homes table.now) }
 {
     let mut up: u64 = 0;
@@ -155,11 +129,8 @@ fn meets(
         }
         up = next.up;
         down = next.down;
-        let apart = distance(up, down);
-        if apart == 0 {
-            return true;
-        }
-        if table::holds(table, homes, most, apart) {
+        let apart = up.abs_diff(down);
+        if apart == 0 || table::holds(table, homes, most, apart) {
             return true;
         }
     }
@@ -167,7 +138,9 @@ fn meets(
 
 // Puts the distances of the part, whatever the words hold before.
 fn fill_table(extents: &[u64], strides: &[u64], table: &mut [u64], homes: u64) -> Distances
-    requires { Part extents.now strides.now × (homes ≡ box extents.now) × (2 * box extents.now ≤ length table.old + 1) }
+    requires part { Part extents.now strides.now }
+    requires homes { homes ≡ box extents.now }
+    requires room { 2 * box extents.now ≤ length table.old + 1 }
     ensures { Filled extents.now strides.now homes table.new result.zero result.most }
 {
     let rank = extents.len();
@@ -186,7 +159,9 @@ fn fill_table(extents: &[u64], strides: &[u64], table: &mut [u64], homes: u64) -
 
 // Whether some distance of the part is 0, or one that the table holds, from the start of the walk.
 fn meets_table(extents: &[u64], strides: &[u64], table: &[u64], homes: u64, most: u64) -> bool
-    requires { Part extents.now strides.now × (0 < homes) × AtMost most table.now }
+    requires part { Part extents.now strides.now }
+    requires homes { 0 < homes }
+    requires most { AtMost most table.now }
     ensures { Tells result (MeetsTable extents.now strides.now homes table.now) }
 {
     let rank = extents.len();
@@ -212,13 +187,12 @@ pub fn meet(
     table: &mut [u64],
     vectors: u64,
 ) -> bool
-    requires { Part first_extents.now first_strides.now × Part second_extents.now second_strides.now × (vectors ≡ box first_extents.now) × (2 * box first_extents.now ≤ length table.old + 1) }
+    requires first { Part first_extents.now first_strides.now }
+    requires second { Part second_extents.now second_strides.now }
+    requires vectors { vectors ≡ box first_extents.now }
+    requires room { 2 * box first_extents.now ≤ length table.old + 1 }
     ensures { Tells result (Meets first_extents.now first_strides.now second_extents.now second_strides.now) }
 {
     let first = fill_table(first_extents, first_strides, table, vectors);
-    if first.zero {
-        return true;
-    }
-    let most = first.most;
-    meets_table(second_extents, second_strides, table, vectors, most)
+    first.zero || meets_table(second_extents, second_strides, table, vectors, first.most)
 }

@@ -4,29 +4,31 @@ ghost use Rattle.std.specs.Prelude.{◌≡◌, ◌≢◌, ◌<◌};
 ghost use Rattle.enumeration.specs.Words.{Tells};
 ghost use Rattle.enumeration.specs.Table.{home_of, Clear, AtMost, Holds, Free, Put};
 
+// 2 ^ 32: a word has its low half as the remainder by it, and its high half as the quotient.
+const HALF: u64 = 1 << 32;
+
+// Sets every word free.
 pub fn clear(words: &mut [u64])
     ensures { Clear words.new }
 {
-    let mut i: usize = 0;
-    while i < words.len() {
-        words[i] = 0;
-        i += 1;
-    }
+    words.fill(0);
 }
 
 // The home of n: what two products leave, so that numbers in a pattern do not crowd.
 fn home(homes: u64, n: u64) -> u64
     requires { 0 < homes }
-    ensures { (result ≡ home_of homes n) × (result < homes) }
+    ensures value { result ≡ home_of homes n }
+    ensures below { result < homes }
 {
-    let spread = (n % 4294967296) * 2654435769 + (n / 4294967296) * 1597334677;
-    let again = (spread / 65536 % 4294967296) * 2246822519;
+    let spread = (n % HALF) * 2654435769 + (n / HALF) * 1597334677;
+    let again = (spread / 65536 % HALF) * 2246822519;
     again / 65536 % homes
 }
 
 // Puts n, which is above 0, into the first free word from its home on, unless it is met before.
 pub fn put(table: &mut [u64], homes: u64, n: u64)
-    requires { (0 < homes) × Free homes table.old }
+    requires homes { 0 < homes }
+    requires free { Free homes table.old }
     ensures { Put homes table.old table.new n }
 {
     let mut i = home(homes, n) as usize;
@@ -45,14 +47,15 @@ pub fn put(table: &mut [u64], homes: u64, n: u64)
 
 // Whether n, which is above 0, stands in the table, whose words are at most `most`.
 pub fn holds(table: &[u64], homes: u64, most: u64, n: u64) -> bool
-    requires { (0 < homes) × AtMost most table.now × (n ≢ 0) }
+    requires homes { 0 < homes }
+    requires most { AtMost most table.now }
+    requires above { n ≢ 0 }
     ensures { Tells result (Holds homes table.now n) }
 {
     if n > most {
         return false;
     }
-    let mut i = home(homes, n) as usize;
-    while i < table.len() {
+    for i in home(homes, n) as usize..table.len() {
         let word = table[i];
         if word == 0 {
             return false;
@@ -60,7 +63,6 @@ pub fn holds(table: &[u64], homes: u64, most: u64, n: u64) -> bool
         if word == n {
             return true;
         }
-        i += 1;
     }
     false
 }

@@ -9,20 +9,14 @@ use view::layout::{Layout, ReadingOffset};
 pub fn holds_layout(numbers: usize, steps: usize) -> bool
     ensures { result ≡ holdsLayout numbers steps }
 {
-    if numbers < 18 {
-        return false;
-    }
-    17 <= steps
+    18 <= numbers && 17 <= steps
 }
 
 // Whether there is room for a layout and for the two values of a refusal.
 pub fn holds_view(numbers: usize, steps: usize, values: usize) -> bool
     ensures { result ≡ holdsView numbers steps values }
 {
-    if !holds_layout(numbers, steps) {
-        return false;
-    }
-    2 <= values
+    holds_layout(numbers, steps) && 2 <= values
 }
 
 // The extents that a flat layout holds.
@@ -31,11 +25,7 @@ fn extents_in(numbers: &[u64]) -> [u64; 16]
     ensures { result ≡ take 16 (drop 2 numbers.now) }
 {
     let mut extents = [0u64; 16];
-    let mut i = 0;
-    while i < 16 {
-        extents[i] = numbers[i + 2];
-        i += 1;
-    }
+    extents.copy_from_slice(&numbers[2..18]);
     extents
 }
 
@@ -45,11 +35,7 @@ fn strides_in(steps: &[i64]) -> [i64; 16]
     ensures { result ≡ take 16 (drop 1 steps.now) }
 {
     let mut strides = [0i64; 16];
-    let mut i = 0;
-    while i < 16 {
-        strides[i] = steps[i + 1];
-        i += 1;
-    }
+    strides.copy_from_slice(&steps[1..17]);
     strides
 }
 
@@ -58,14 +44,12 @@ pub fn layout_in(numbers: &[u64], steps: &[i64]) -> Layout
     requires { (18 ≤ length numbers.now) × (17 ≤ length steps.now) }
     ensures { modelOf result ≡ modelOfFlat numbers.now steps.now }
 {
-    let extents = extents_in(numbers);
-    let strides = strides_in(steps);
     Layout {
         len: numbers[0],
         offset: ReadingOffset(steps[0]),
         rank: numbers[1] as usize,
-        extents: extents,
-        strides: strides,
+        extents: extents_in(numbers),
+        strides: strides_in(steps),
     }
 }
 
@@ -76,12 +60,7 @@ fn store_numbers(layout: Layout, numbers: &mut [u64])
 {
     numbers[0] = layout.len;
     numbers[1] = layout.rank as u64;
-    let mut i = 0;
-    while i < 16 {
-        let extent = layout.extents[i];
-        numbers[i + 2] = extent;
-        i += 1;
-    }
+    numbers[2..18].copy_from_slice(&layout.extents);
 }
 
 // Offset and strides into the first 17 words.
@@ -90,12 +69,7 @@ fn store_steps(layout: Layout, steps: &mut [i64])
     ensures { steps.new ≡ steps_of layout ++ drop 17 steps.old }
 {
     steps[0] = layout.offset.0;
-    let mut i = 0;
-    while i < 16 {
-        let stride = layout.strides[i];
-        steps[i + 1] = stride;
-        i += 1;
-    }
+    steps[1..17].copy_from_slice(&layout.strides);
 }
 
 // The layout into two flat buffers.
@@ -121,14 +95,7 @@ pub fn store_lists(
 {
     numbers[0] = len;
     numbers[1] = extents.len() as u64;
-    let first = offset.0;
-    steps[0] = first;
-    let mut i = 0;
-    while i < extents.len() {
-        let extent = extents[i];
-        let stride = strides[i];
-        numbers[i + 2] = extent;
-        steps[i + 1] = stride;
-        i += 1;
-    }
+    steps[0] = offset.0;
+    numbers[2..2 + extents.len()].copy_from_slice(extents);
+    steps[1..1 + strides.len()].copy_from_slice(strides);
 }

@@ -3,7 +3,7 @@ ghost use Rattle.std.specs.Prelude.{◌∷◌, ◌++◌, ◌≡◌, ◌≤◌, l
 ghost use Rattle.view.specs.Answers.{number_of, values_of, outcomeOf};
 ghost use Rattle.flat.specs.Number.{answerNumber};
 
-use view::layout::{Answer, Refusal};
+use view::layout::Refusal;
 
 // One value in the first place.
 fn put_one(values: &mut [u64], first: usize)
@@ -34,11 +34,11 @@ fn put_values(why: Refusal, values: &mut [u64])
         Refusal::BadIndex(axis) => put_one(values, axis),
         Refusal::ShortScratch(words) => put_one(values, words),
         Refusal::ShortOutput(bytes) => put_one(values, bytes),
-        Refusal::TooManyAxes => {}
-        Refusal::LengthsDiffer => {}
-        Refusal::OutOfRange => {}
-        Refusal::TooManyPositions => {}
-        Refusal::NotARecord => {}
+        Refusal::TooManyAxes
+        | Refusal::LengthsDiffer
+        | Refusal::OutOfRange
+        | Refusal::TooManyPositions
+        | Refusal::NotARecord => {}
     }
 }
 
@@ -52,11 +52,11 @@ pub fn refuse(why: Refusal, values: &mut [u64]) -> u8
 }
 
 // The number of an answer that has no values.
-pub fn number_of(answer: Answer) -> u8
+pub fn number_of(answer: Result<(), Refusal>) -> u8
     ensures { result ≡ answerNumber (outcomeOf answer) }
 {
     match answer {
-        Answer::Done => 0,
-        Answer::Refused(why) => why.number(),
+        Ok(()) => 0,
+        Err(why) => why.number(),
     }
 }

@@ -1,55 +1,37 @@
 -- Steps 1 and 2: a test of axes, one after another, and what is out of range.
+use Rattle.std.specs.Prelude.{None}
 use mathlib.Core.Path.{◌≡◌, refl, sym, ap, ◌∙◌}
 use mathlib.Core.Bool.{Bool, true, false, not, ◌&&◌, ◌||◌, true≢false}
 use mathlib.Core.List.{List, [], ◌∷◌}
-use Prim.Native.Nat.{ℕ, ◌+◌, ◌-◌, ◌^◌, ◌≤◌, ◌<◌}
+use Prim.Native.Nat.{ℕ, ◌-◌, ◌^◌, ◌≤◌, ◌<◌}
 use native.Mathlib.Decide.{dec_lt}
 use native.Mathlib.Omega.{arith}
 use lib.Dec.{ltb}
 use lib.IntN.{ℤ, pos, negsuc, neg_ℤ}
-use lib.ListN.{length, drop, get_or}
 use borrow.Author.Tests.{not-false}
+use Rattle.std.specs.List.{list_any, zip}
 use Rattle.integer.specs.Multiple.{eqZ}
 use Rattle.integer.specs.Range.{fits, mostSigned}
 use Rattle.integer.proofs.PartLaws.{parts-fit, lt-leZ, posPart-neg, negPart-neg}
 use Rattle.integer.proofs.CheckedLaws.{fits-of-sfits}
-use Rattle.lists.proofs.TableLaws.{getD-table}
 use Rattle.specification.specs.Tests.{some}
 use Rattle.specification.specs.Axis.{Axis, axesOf, active, span, upward, downward}
 use Rattle.specification.specs.CheckIn.{tooWide}
 use Rattle.specification.specs.Verdict.{outOfRange}
-use Rattle.view.specs.Model.{axisOf}
-use Rattle.view.specs.Reach.{spansUpTo}
-use Rattle.view.specs.declared.bounds.Spans.{Spans}
-use Rattle.view.specs.declared.bounds.Spans.TheVariants.{Of, Over}
-use Rattle.view.proofs.ModelLaws.{axesIn-axesOf, length-axesIn}
+use Rattle.view.specs.Reach.{spansUpTo, sums}
 use Rattle.view.proofs.SpanLaws.{spans-of, spans-over}
-use Rattle.specification.proofs.SomeLaws.{some-found, some-behind, some_end}
 use Rattle.injectivity.specs.Inputs.{unfit}
 
--- ---- a test of the axes of two lists, one after another
+-- ---- a test of the axes of two lists, paired
 
-module _ (es : List ℕ) (ss : List ℤ) (e : length es ≡ length ss) where
-  axis-is : (i : ℕ) → i < length es → get_or (axesOf es ss) i (axisOf es ss 0) ≡ axisOf es ss i
-  axis-is i h = ap (λ (l : List Axis). get_or l i (axisOf es ss 0)) (sym (axesIn-axesOf es ss (length es) refl (sym e))) ∙ getD-table (axisOf es ss) (length es) i (axisOf es ss 0) h
+abbrev pub test_pair : (Axis → Bool) → ℕ × ℤ → Bool
+test_pair test pair = test (record { extent = pair.0; stride = pair.1 })
 
-  length-is : length (axesOf es ss) ≡ length es
-  length-is = ap (λ (l : List Axis). length l) (sym (axesIn-axesOf es ss (length es) refl (sym e))) ∙ length-axesIn es ss (length es)
-
-  module _ (test : Axis → Bool) where
-    -- no axis before i passes the test
-    abbrev pub NoneBefore : ℕ → Type 0
-    NoneBefore i = some test (axesOf es ss) ≡ some test (drop i (axesOf es ss))
-
-    module _ (i : ℕ) (n : NoneBefore i) where
-      pub one_passes : i < length es → test (axisOf es ss i) ≡ true → some test (axesOf es ss) ≡ true
-      one_passes h t = n ∙ some-found test (axisOf es ss 0) (axesOf es ss) i (omega (arith, length-is)) (ap test (axis-is i h) ∙ t)
-
-      pub none_more : i < length es → test (axisOf es ss i) ≡ false → NoneBefore (i + 1)
-      none_more h t = n ∙ some-behind test (axisOf es ss 0) (axesOf es ss) i (omega (arith, length-is)) (ap test (axis-is i h) ∙ t)
-
-      pub none_passes : length es ≤ i → some test (axesOf es ss) ≡ false
-      none_passes h = n ∙ some_end test (axisOf es ss 0) (axesOf es ss) i (omega (arith, length-is))
+pub any-pairs : (test : Axis → Bool) (es : List ℕ) (ss : List ℤ) → list_any (test_pair test) (zip es ss) ≡ some test (axesOf es ss)
+unfolding some axesOf
+any-pairs test [] ss = refl
+any-pairs test (e ∷ es) [] = refl
+any-pairs test (e ∷ es) (s ∷ ss) = rw (any-pairs test es ss)
 
 -- ---- what is out of range
 
@@ -107,10 +89,10 @@ up_fits n h = fits-of-sfits (pos n) (parts-fit (omega arith) (omega arith))
 down_fits : (n : ℕ) → n ≤ 2 ^ 63 → fits (neg_ℤ (pos n)) ≡ true
 down_fits n h = fits-of-sfits (neg_ℤ (pos n)) (parts-fit (omega (arith, posPart-neg (pos n), negPart-neg (pos n))) (omega (arith, posPart-neg (pos n), negPart-neg (pos n))))
 
-pub spans-in : {r : Spans} (axes : List Axis) (up down : ℕ) → some unfit axes ≡ false → r ≡ spansUpTo mostSigned (2 ^ 63) axes → r ≡ Of up down → outOfRange axes ≡ false
+pub spans-in : (axes : List Axis) (up down : ℕ) → some unfit axes ≡ false → sums up down ≡ spansUpTo mostSigned (2 ^ 63) axes → outOfRange axes ≡ false
 unfolding spansOut
-spans-in axes up down u e k =
-    let w = spans-of mostSigned (2 ^ 63) axes up down e k in
+spans-in axes up down u e =
+    let w = spans-of mostSigned (2 ^ 63) axes up down e refl in
     let h : upward axes < 2 ^ 63 = omega (arith, w.2) in
     rw (range-is axes, u, spans_fit axes h w.3, up_fits (upward axes) h, down_fits (downward axes) w.3)
 
@@ -120,9 +102,9 @@ up-passes n h = rw (lt-leZ (pos n) (pos mostSigned) (omega arith))
 down-passes : (n : ℕ) → 2 ^ 63 < n → fits (neg_ℤ (pos n)) ≡ false
 down-passes n h = rw (lt-leZ (negsuc mostSigned) (neg_ℤ (pos n)) (omega (arith, posPart-neg (pos n), negPart-neg (pos n))))
 
-pub spans-out : {r : Spans} (axes : List Axis) → some unfit axes ≡ false → r ≡ spansUpTo mostSigned (2 ^ 63) axes → r ≡ Over → outOfRange axes ≡ true
+pub spans-out : (axes : List Axis) → some unfit axes ≡ false → None ≡ spansUpTo mostSigned (2 ^ 63) axes → outOfRange axes ≡ true
 unfolding spansOut
-spans-out {r} axes u e k = range-is axes ∙ rw u (by (dec_lt (upward axes) (2 ^ 63)))
+spans-out axes u e = range-is axes ∙ rw u (by (dec_lt (upward axes) (2 ^ 63)))
   where
     last : (x y : Bool) → (x || y || true) ≡ true
     last true y = refl
@@ -135,7 +117,7 @@ spans-out {r} axes u e k = range-is axes ∙ rw u (by (dec_lt (upward axes) (2 ^
 
     by : Dec (upward axes < 2 ^ 63) → spansOut axes ≡ true
     by (yes h) =
-        let never : downward axes ≤ 2 ^ 63 → ⊥ = spans-over mostSigned (2 ^ 63) axes e k (omega arith) in
+        let never : downward axes ≤ 2 ^ 63 → ⊥ = spans-over mostSigned (2 ^ 63) axes e refl (omega arith) in
         rw (down-passes (downward axes) (omega arith)) (last (some (λ a. not (fits (span a))) axes) (not (fits (pos (upward axes)))))
     by (no h) = rw (up-passes (upward axes) (omega arith)) (second (some (λ a. not (fits (span a))) axes) (not (fits (neg_ℤ (pos (downward axes))))))
 

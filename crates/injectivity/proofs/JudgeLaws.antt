@@ -10,22 +10,23 @@ use lib.Seq.{length-take-le}
 use Rattle.lists.specs.Table.{table}
 use Rattle.lists.proofs.TableLaws.{length-table, table-getD}
 use Rattle.specification.specs.Tests.{sortBy}
-use Rattle.specification.specs.Search.{ActiveAxis, lengths, total, spanSum, twoDistinct, wordsFor}
+use Rattle.specification.specs.Search.{ActiveAxis, lengths, spanSum, twoDistinct}
 use Rattle.specification.specs.Outcome.{done}
-use Rattle.specification.specs.Verdict.{Verdict, Distinct, Repeated, Plan, answered, enumerated, lower, byTwo, by_size, carryOut}
+use Rattle.specification.specs.Verdict.{Verdict, Distinct, Repeated, Plan, answered, lower, byTwo, by_size, carryOut}
 use Rattle.specification.proofs.AxisOrder.{Perm, nil, skip, swap, trans}
 use Rattle.specification.proofs.Sorting.{Each, perm-length, perm-each, sort-perm}
 use Rattle.specification.proofs.Digits.{PositiveExtents}
-use Rattle.enumeration.specs.Enumeration.{Describes, Block, AsDefined, outcomeOf as outcomeFor}
-use Rattle.enumeration.specs.declared.Enumerated.{Enumerated}
+use Rattle.enumeration.specs.Enumeration.{Describes, Block}
 use Rattle.walk.specs.Walk.{axisWith}
 use Rattle.odometer.specs.Odometer.{strides}
 use Rattle.search.specs.Block.{Side, Sides, Blocked, InAxisOrder}
 use Rattle.search.proofs.ForCallers.{blocked-axes}
 use Rattle.injectivity.specs.Axes.{axisFrom, axesFrom, blockFrom}
 use Rattle.injectivity.specs.Block.{Searchable, Judgeable}
-use Rattle.injectivity.specs.Judgement.{outcomeOf, toldOf, JudgedAs}
+use Rattle.injectivity.specs.Judgement.{judgedOf, JudgedAs}
 use Rattle.injectivity.specs.declared.Judgement.{Judgement}
+use Rattle.view.specs.declared.layout.Refusal.{Refusal}
+use Rattle.std.specs.Prelude.{Result}
 use Rattle.injectivity.proofs.AxesLaws.{front-axes}
 
 -- ---- axes in arrays, as two slices
@@ -141,17 +142,11 @@ module _ (axes es ss : List ℕ) (product span : ℕ) (j : Judgeable axes es ss 
 -- ---- what is judged
 
 -- a plan that is answered leaves the scratch alone
-pub judged-answered : {plan : Plan} {v : Verdict} {count : ℕ} (r : Judgement) (before : List ℕ) → answered v count ≡ plan → outcomeOf r ≡ done (record { answer = v; count = count })
+pub judged-answered : {plan : Plan} {v : Verdict} {count : ℕ} (r : Result Judgement Refusal) (before : List ℕ) → answered v count ≡ plan → judgedOf r ≡ done (record { answer = v; count = count })
     → JudgedAs (carryOut (length before) plan) before before r
 unfolding carryOut
 judged-answered {plan} {v} {count} r before p o = subst (λ (q : Plan). JudgedAs (carryOut (length before) q) before before r) p (record { told = o; scratch = (refl, refl) })
 
-pub judged-plan : {plan other : Plan} (r : Judgement) (before after : List ℕ) → plan ≡ other → JudgedAs (carryOut (length before) plan) before after r
+pub judged-plan : {plan other : Plan} (r : Result Judgement Refusal) (before after : List ℕ) → plan ≡ other → JudgedAs (carryOut (length before) plan) before after r
     → JudgedAs (carryOut (length before) other) before after r
 judged-plan r before after p j = subst (λ (q : Plan). JudgedAs (carryOut (length before) q) before after r) p j
-
--- what the enumeration answers, in the words of the call
-pub judged-enumerated : {block : List ActiveAxis} {before after : List ℕ} {answer known : Enumerated} (r : Judgement) → AsDefined block before after answer → answer ≡ known
-    → outcomeOf r ≡ toldOf (outcomeFor (wordsFor (total block) (spanSum block)) known) → JudgedAs (carryOut (length before) (enumerated block)) before after r
-judged-enumerated {block} r d e o =
-    record { told = o ∙ ap (λ (a : Enumerated). toldOf (outcomeFor (wordsFor (total block) (spanSum block)) a)) (sym e) ∙ ap toldOf d.outcome; scratch = d.scratch }

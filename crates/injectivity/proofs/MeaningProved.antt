@@ -15,6 +15,8 @@ use Rattle.specification.proofs.VerdictLaws.{verdict-claims, verdict-call-claims
 use Rattle.injectivity.specs.Judgement.{Told, toldOf, JudgedAs}
 use Rattle.injectivity.specs.Meaning.{Answers, RefusedWith, NoneDue, Means, JudgementClaims}
 use Rattle.injectivity.specs.declared.Judgement.{Judgement}
+use Rattle.view.specs.declared.layout.Refusal.{Refusal}
+use Rattle.std.specs.Prelude.{Result}
 use Rattle.injectivity.proofs.DueLaws.{Due, judged, due, refuse-three, refuse-eight, refuse-nine, is_one, is-two, is-eight, is-three, is-nine, one-of-five, none-due, is-answered}
 
 -- ---- what is told, and the outcome behind it
@@ -69,7 +71,7 @@ distinct-undecided e = let z : ◌≡◌ {A = ℕ} 0 1 = cc in omega arith
 repeated-undecided : Repeated ≢ Undecided
 repeated-undecided e = let z : ◌≡◌ {A = ℕ} 0 1 = cc in omega arith
 
-module _ (es : List ℕ) (ss : List ℤ) (before after : List ℕ) (r : Judgement) (c : JudgedAs (verdict es ss (length before)) before after r) where
+module _ (es : List ℕ) (ss : List ℤ) (before after : List ℕ) (r : Result Judgement Refusal) (c : JudgedAs (verdict es ss (length before)) before after r) where
   abbrev words : ℕ
   words = length before
 

@@ -1,4 +1,6 @@
 -- What the verdict comes to at each end of steps 1 and 2.
+use Rattle.view.specs.Answers.{outcomeOf}
+use Rattle.std.specs.Prelude.{Err, Ok, Result}
 use mathlib.Core.Path.{◌≡◌, refl, sym, ap, subst, ◌∙◌}
 use mathlib.Core.Bool.{Bool, true, false}
 use mathlib.Core.Logic.{◌≢◌, ◌⊎◌}
@@ -20,16 +22,12 @@ use Rattle.specification.proofs.OutcomeLaws.{bind_done, bind-refused}
 use Rattle.specification.proofs.PlanCases.{ToBlock}
 use Rattle.specification.proofs.VerdictLaws.{verdict-call-claims}
 use Rattle.specification.proofs.VerdictRefusals.{plan-eight, plan-three}
-use Rattle.view.specs.Count.{countTold, elementCount, count_of}
-use Rattle.view.specs.declared.count.Count.{Count}
-use Rattle.view.specs.declared.count.Count.TheVariants.{Of, Refused}
+use Rattle.view.specs.Count.{elementCount, count_of}
 use Rattle.view.specs.declared.layout.Refusal.{Refusal}
 use Rattle.view.proofs.CountLaws.{element-count-of-axes, counted-refused, counted_is}
-use Rattle.injectivity.specs.Judgement.{outcomeOf, toldOf, JudgedAs}
-use Rattle.injectivity.specs.Inputs.{LeftToBlock, Validated}
+use Rattle.injectivity.specs.Judgement.{judgedOf, toldOf, JudgedAs}
+use Rattle.injectivity.specs.Inputs.{LeftToBlock}
 use Rattle.injectivity.specs.declared.Judgement.{Judgement}
-use Rattle.injectivity.specs.declared.inputs.Inputs.{Inputs}
-use Rattle.injectivity.specs.declared.inputs.Inputs.TheVariants.{Settled, Valid}
 use Rattle.view.proofs.ModelLaws.{axesIn-axesOf, length-axesIn, length-axesOf}
 
 -- ---- plans
@@ -92,17 +90,17 @@ module _ (es : List ℕ) (ss : List ℤ) (few : length es ≤ 16) (e : length es
   turned_down p words = sym (ap toldOf (planned words ∙ bind-refused (carryOut words) p))
 
   -- ---- by the number of positions
-  module _ (c : Count) (counted : countTold c ≡ elementCount es) where
-    count-is : countTold c ≡ count_of (axesOf es ss)
+  module _ (c : Result ℕ Refusal) (counted : outcomeOf c ≡ elementCount es) where
+    count-is : outcomeOf c ≡ count_of (axesOf es ss)
     count-is = counted ∙ ap elementCount (sym (extents-are es ss e)) ∙ element-count-of-axes (axesOf es ss) (omega (arith, length-axesOf es ss e))
 
-    pub overfull-told : {why : Refusal} → c ≡ Refused why → (words : ℕ) → refused 8 [] ≡ toldOf (verdict es ss words)
+    pub overfull-told : {why : Refusal} → c ≡ Err why → (words : ℕ) → refused 8 [] ≡ toldOf (verdict es ss words)
     overfull-told q = turned_down (plan-eight (axesOf es ss) (counted-refused (axesOf es ss) count-is q).0)
 
-    total-is : (total : ℕ) → c ≡ Of total → (overfull (axesOf es ss) ≡ false) × (positions (axesOf es ss) ≡ total)
+    total-is : (total : ℕ) → c ≡ Ok total → (overfull (axesOf es ss) ≡ false) × (positions (axesOf es ss) ≡ total)
     total-is total q = counted_is (axesOf es ss) count-is q
 
-    module _ (total : ℕ) (q : c ≡ Of total) where
+    module _ (total : ℕ) (q : c ≡ Ok total) where
       pub few-told : total ≤ 1 → (words : ℕ) → done (record { answer = Distinct; count = 0 }) ≡ toldOf (verdict es ss words)
       few-told h = let w = total-is total q in settled (plan-few (axesOf es ss) w.0 (omega arith))
 
@@ -127,16 +125,8 @@ by-block es ss l words = planned es ss l.few l.one-length words ∙ bind_done (c
 pub left-length : (es : List ℕ) (ss : List ℤ) → LeftToBlock es ss → length (axesOf es ss) ≤ 16
 left-length es ss l = omega (arith, ap (λ (z : List Axis). length z) (axesIn-axesOf es ss (length es) refl (sym l.one-length)), length-axesIn es ss (length es), l.few)
 
--- a refusal or an answer of steps 1 and 2 leaves the scratch alone
-pub judged-settled : (es : List ℕ) (ss : List ℤ) (inputs : Inputs) (r : Judgement) (before : List ℕ) → Validated es ss inputs → inputs ≡ Settled r
-    → JudgedAs (verdict es ss (length before)) before before r
-judged-settled es ss inputs r before v e = record { told = subst (Validated es ss) e v (length before); scratch = (refl, refl) }
-
-pub left-valid : (es : List ℕ) (ss : List ℤ) (inputs : Inputs) → Validated es ss inputs → inputs ≡ Valid → LeftToBlock es ss
-left-valid es ss inputs v e = subst (Validated es ss) e v
-
 pub judged-block : (es : List ℕ) (ss : List ℤ) → LeftToBlock es ss → (block : List ActiveAxis) → block ≡ block_of (axesOf es ss)
-    → (r : Judgement) (before after : List ℕ) → JudgedAs (carryOut (length before) (byBlock block)) before after r → JudgedAs (verdict es ss (length before)) before after r
+    → (r : Result Judgement Refusal) (before after : List ℕ) → JudgedAs (carryOut (length before) (byBlock block)) before after r → JudgedAs (verdict es ss (length before)) before after r
 judged-block es ss l block b r before after j =
     let e : carryOut (length before) (byBlock block) ≡ verdict es ss (length before) =
     ap (λ (a : List ActiveAxis). carryOut (length before) (byBlock a)) b ∙ sym (by-block es ss l (length before)) in
@@ -144,6 +134,6 @@ judged-block es ss l block b r before after j =
 
 -- no block is Distinct, and leaves the scratch alone
 pub judged-none : (es : List ℕ) (ss : List ℤ) → LeftToBlock es ss → [] ≡ block_of (axesOf es ss)
-    → (r : Judgement) (before : List ℕ) → outcomeOf r ≡ done (record { answer = Distinct; count = 0 }) → JudgedAs (verdict es ss (length before)) before before r
+    → (r : Result Judgement Refusal) (before : List ℕ) → judgedOf r ≡ done (record { answer = Distinct; count = 0 }) → JudgedAs (verdict es ss (length before)) before before r
 unfolding byBlock carryOut
 judged-none es ss l b r before o = judged-block es ss l [] b r before before (record { told = o; scratch = (refl, refl) })

@@ -1,5 +1,5 @@
 -- The block of step 3 as the code holds it.
-use Rattle.std.specs.Prelude.{List, [], ◌≡◌, ℕ, ◌^◌, ◌<◌, ◌≤◌, length}
+use Rattle.std.specs.Prelude.{List, [], ◌≡◌, ℕ, ◌^◌, ◌<◌, ◌≤◌, length, Result}
 use Rattle.specification.specs.Tests.{sortBy}
 use Rattle.specification.specs.Search.{ActiveAxis, total, spanSum}
 use Rattle.specification.specs.Verdict.{Plan, upToLast, lower, carryOut}
@@ -8,6 +8,7 @@ use Rattle.search.specs.Block.{Sides, Ascending}
 use Rattle.injectivity.specs.Axes.{axesFrom, blockFrom}
 use Rattle.injectivity.specs.Judgement.{JudgedAs}
 use Rattle.injectivity.specs.declared.Judgement.{Judgement}
+use Rattle.view.specs.declared.layout.Refusal.{Refusal}
 use Rattle.injectivity.specs.declared.block.InterleavedBlock.{InterleavedBlock}
 use Rattle.injectivity.specs.declared.block.Interleaved.{Interleaved}
 use Rattle.injectivity.specs.declared.block.Interleaved.TheVariants.{NoBlock, Block}
@@ -48,5 +49,5 @@ pub record Judgeable (axes extents strides : List ℕ) (product span : ℕ) : Ty
   pub span-is : span ≡ spanSum (blockFrom axes extents strides)
 
 -- the judgement is that of the plan for every block of these extents and strides: the numbers of its axes are no part of the plan
-abbrev pub JudgedByPlan : (List ActiveAxis → Plan) → List ℕ → List ℕ → List ℕ → List ℕ → Judgement → Type 0
+abbrev pub JudgedByPlan : (List ActiveAxis → Plan) → List ℕ → List ℕ → List ℕ → List ℕ → Result Judgement Refusal → Type 0
 JudgedByPlan plan extents strides before after r = (block : List ActiveAxis) → Describes extents strides block → JudgedAs (carryOut (length before) (plan block)) before after r

@@ -5,7 +5,7 @@ use Rattle.integer.specs.Range.{mostSigned}
 use Rattle.specification.specs.Axis.{Axis, axesOf, positions, active}
 use Rattle.specification.specs.Verdict.{verdict}
 use Rattle.specification.proofs.PlanCases.{ToBlock}
-use Rattle.injectivity.specs.Judgement.{outcomeOf, toldOf}
+use Rattle.injectivity.specs.Judgement.{judgedOf, toldOf}
 use Rattle.injectivity.specs.declared.inputs.Inputs.{Inputs}
 use Rattle.injectivity.specs.declared.inputs.Inputs.TheVariants.{Settled, Valid}
 
@@ -22,5 +22,5 @@ pub record LeftToBlock (extents : List ℕ) (strides : List ℤ) : Type 0 where
 
 -- settled as the verdict says with any scratch, or left to the block
 abbrev pub Validated : List ℕ → List ℤ → Inputs → Type 0
-Validated extents strides (Settled answer) = (words : ℕ) → outcomeOf answer ≡ toldOf (verdict extents strides words)
+Validated extents strides (Settled answer) = (words : ℕ) → judgedOf answer ≡ toldOf (verdict extents strides words)
 Validated extents strides Valid = LeftToBlock extents strides

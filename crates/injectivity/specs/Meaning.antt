@@ -1,20 +1,21 @@
 -- What the answers of the call say of the layout, for whoever calls it: each of them exactly where 01 has it.
-use Rattle.std.specs.Prelude.{true, false, List, [], ◌∷◌, ◌≢◌, ◌⊎◌, ◌↔◌, ◌≡◌, ℕ, ◌<◌, ◌≤◌, ℤ, length, drop}
+use Rattle.std.specs.Prelude.{true, false, List, [], ◌∷◌, ◌≢◌, ◌⊎◌, ◌↔◌, ◌≡◌, ℕ, ◌<◌, ◌≤◌, ℤ, length, drop, Result}
 use Rattle.specification.specs.Tests.{some}
 use Rattle.specification.specs.Axis.{axesOf, is_empty, Shared}
 use Rattle.specification.specs.Outcome.{done, refused}
 use Rattle.specification.specs.Normal.{overfull}
 use Rattle.specification.specs.Verdict.{Verdict, Distinct, Repeated, Undecided, still, outOfRange, verdict, wordsNeeded, BothBudgetsPassed}
-use Rattle.injectivity.specs.Judgement.{outcomeOf, JudgedAs}
+use Rattle.injectivity.specs.Judgement.{judgedOf, JudgedAs}
 use Rattle.injectivity.specs.declared.Judgement.{Judgement}
+use Rattle.view.specs.declared.layout.Refusal.{Refusal}
 
 -- the answer is this one, with some count
-abbrev pub Answers : Judgement → Verdict → Type 0
-Answers r v = (count : ℕ) × (outcomeOf r ≡ done (record { answer = v; count = count }))
+abbrev pub Answers : Result Judgement Refusal → Verdict → Type 0
+Answers r v = (count : ℕ) × (judgedOf r ≡ done (record { answer = v; count = count }))
 
 -- the refusal has this number and these values
-abbrev pub RefusedWith : Judgement → ℕ → List ℕ → Type 0
-RefusedWith r number values = outcomeOf r ≡ refused number values
+abbrev pub RefusedWith : Result Judgement Refusal → ℕ → List ℕ → Type 0
+RefusedWith r number values = judgedOf r ≡ refused number values
 
 -- two lists of one length, up to 16
 abbrev pub Fitting : List ℕ → List ℤ → Type 0
@@ -35,7 +36,7 @@ pub record NoneDue (extents : List ℕ) (strides : List ℤ) (words : ℕ) : Typ
   pub enough : wordsNeeded (axesOf extents strides) ≤ words
 
 -- the answer, by the layout
-pub record Means (extents : List ℕ) (strides : List ℤ) (before after : List ℕ) (r : Judgement) : Type 0 where
+pub record Means (extents : List ℕ) (strides : List ℤ) (before after : List ℕ) (r : Result Judgement Refusal) : Type 0 where
   pub distinct : Answers r Distinct
       ↔ NoneDue extents strides (length before) × ¬ (BothBudgetsPassed (axesOf extents strides)) × ¬ (Shared (axesOf extents strides))
   pub repeated : Answers r Repeated
@@ -55,5 +56,5 @@ pub record Means (extents : List ℕ) (strides : List ℤ) (before after : List 
 
 -- so of every call, whatever the lists and the scratch hold
 pub record JudgementClaims : Type 0 where
-  pub means : (extents : List ℕ) (strides : List ℤ) (before after : List ℕ) (r : Judgement)
+  pub means : (extents : List ℕ) (strides : List ℤ) (before after : List ℕ) (r : Result Judgement Refusal)
       → JudgedAs (verdict extents strides (length before)) before after r → Means extents strides before after r

@@ -20,29 +20,27 @@ pub enum Interleaved {
 
 // Of sorted axes, those up to the last whose absolute stride is at most the sum of absolute spans before it.
 pub fn interleaved_block(count: usize, extents: &[u64; 16], strides: &[u64; 16]) -> Interleaved
-    requires { (count ≤ 16) × ((axes : List ℕ) → WithinWords (axesFrom count axes extents.now strides.now)) }
+    requires few { count ≤ 16 }
+    requires within_words { (axes : List ℕ) → WithinWords (axesFrom count axes extents.now strides.now) }
     ensures { (axes : List ℕ) → BlockFound count axes extents.now strides.now result }
 {
     let mut found = Interleaved::NoBlock;
     let mut covered_total: u64 = 1;
     let mut covered_span: u64 = 0;
-    let mut i: usize = 0;
-    while i < count {
+    for i in 0..count {
         let extent = extents[i];
         let stride = strides[i];
         let separated = covered_span < stride;
-        covered_total = covered_total * extent;
+        covered_total *= extent;
         covered_span += (extent - 1) * stride;
         if separated {
-            i += 1;
-        } else {
-            i += 1;
-            found = Interleaved::Block(InterleavedBlock {
-                len: i,
-                total: covered_total,
-                span: covered_span,
-            });
+            continue;
         }
+        found = Interleaved::Block(InterleavedBlock {
+            len: i + 1,
+            total: covered_total,
+            span: covered_span,
+        });
     }
     found
 }

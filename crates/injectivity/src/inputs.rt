@@ -9,13 +9,18 @@ ghost use Rattle.injectivity.specs.Inputs.{Validated, unfit};
 
 use crate::Judgement;
 use view::bounds::{Spans, sum_spans};
-use view::count::{Count, checked_element_count};
+use view::count::checked_element_count;
 use view::layout::Refusal;
+
+// How far the positive spans may reach, and the negative ones: the largest and the least number that an i64 holds.
+const MOST_UP: u64 = i64::MAX as u64;
+
+const MOST_DOWN: u64 = MOST_UP + 1;
 
 // Settled by steps 1 and 2, or left to the block.
 #[derive(Clone, Copy)]
 pub enum Inputs {
-    Settled(Judgement),
+    Settled(Result<Judgement, Refusal>),
     Valid,
 }
 
@@ -23,10 +28,7 @@ pub enum Inputs {
 fn is_still(extent: u64, stride: i64) -> bool
     ensures { result ≡ (ltb 1 extent && eqZ stride (pos 0)) }
 {
-    if extent <= 1 {
-        return false;
-    }
-    stride == 0
+    1 < extent && stride == 0
 }
 
 // Whether some axis is.
@@ -34,27 +36,17 @@ fn some_still(extents: &[u64], strides: &[i64]) -> bool
     requires { length extents.now ≡ length strides.now }
     ensures { result ≡ some still (axesOf extents.now strides.now) }
 {
-    let mut i = 0;
-    while i < extents.len() {
-        if is_still(extents[i], strides[i]) {
-            return true;
-        }
-        i += 1;
-    }
-    false
+    extents
+        .iter()
+        .zip(strides)
+        .any(|(&extent, &stride)| is_still(extent, stride))
 }
 
 // Whether an axis is active, and its extent minus 1 is above 2^63 - 1 or its stride is -2^63.
 fn is_unfit(extent: u64, stride: i64) -> bool
     ensures { result ≡ (ltb 1 extent && (ltb mostSigned (extent - 1) || eqZ stride (negsuc mostSigned))) }
 {
-    if extent <= 1 {
-        return false;
-    }
-    if 9223372036854775808 < extent {
-        return true;
-    }
-    stride == -9223372036854775808
+    1 < extent && (MOST_DOWN < extent || stride == i64::MIN)
 }
 
 // Whether some axis is.
@@ -62,14 +54,10 @@ fn some_unfit(extents: &[u64], strides: &[i64]) -> bool
     requires { length extents.now ≡ length strides.now }
     ensures { result ≡ some unfit (axesOf extents.now strides.now) }
 {
-    let mut i = 0;
-    while i < extents.len() {
-        if is_unfit(extents[i], strides[i]) {
-            return true;
-        }
-        i += 1;
-    }
-    false
+    extents
+        .iter()
+        .zip(strides)
+        .any(|(&extent, &stride)| is_unfit(extent, stride))
 }
 
 // Step 2. No span is out of range where the sums of the positive and of the negative spans are in range.
@@ -80,37 +68,30 @@ fn out_of_range(extents: &[u64], strides: &[i64]) -> bool
     if some_unfit(extents, strides) {
         return true;
     }
-    let spans = sum_spans(extents, strides, 9223372036854775807, 9223372036854775808);
-    match spans {
-        Spans::Over => true,
-        Spans::Of(_, _) => false,
-    }
+    matches!(sum_spans(extents, strides, MOST_UP, MOST_DOWN), None)
 }
 
 // Steps 1 and 2 in their order.
 pub fn validate_injective_layout_inputs(extents: &[u64], strides: &[i64]) -> Inputs
     ensures { Validated extents.now strides.now result }
 {
-    if 16 < extents.len() {
-        return Inputs::Settled(Judgement::Refused(Refusal::TooManyAxes));
-    }
-    if 16 < strides.len() {
-        return Inputs::Settled(Judgement::Refused(Refusal::TooManyAxes));
+    if 16 < extents.len() || 16 < strides.len() {
+        return Inputs::Settled(Err(Refusal::TooManyAxes));
     }
     if extents.len() != strides.len() {
-        return Inputs::Settled(Judgement::Refused(Refusal::LengthsDiffer));
+        return Inputs::Settled(Err(Refusal::LengthsDiffer));
     }
-    let Count::Of(total) = checked_element_count(extents) else {
-        return Inputs::Settled(Judgement::Refused(Refusal::TooManyPositions));
+    let Ok(total) = checked_element_count(extents) else {
+        return Inputs::Settled(Err(Refusal::TooManyPositions));
     };
     if total <= 1 {
-        return Inputs::Settled(Judgement::Distinct(0));
+        return Inputs::Settled(Ok(Judgement::Distinct(0)));
     }
     if some_still(extents, strides) {
-        return Inputs::Settled(Judgement::Repeated(0));
+        return Inputs::Settled(Ok(Judgement::Repeated(0)));
     }
     if out_of_range(extents, strides) {
-        return Inputs::Settled(Judgement::Refused(Refusal::OutOfRange));
+        return Inputs::Settled(Err(Refusal::OutOfRange));
     }
     Inputs::Valid
 }

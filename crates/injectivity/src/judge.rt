@@ -19,7 +19,8 @@ const EXACT_BLOCK_BUDGET: u64 = 16777216;
 
 // Step 5, on the axes in axis order.
 fn block_differences_avoid_zero(axes: &[usize], extents: &[u64], strides: &[u64]) -> Searched
-    requires { Searchable axes.now extents.now strides.now × (1 < length axes.now) }
+    requires searchable { Searchable axes.now extents.now strides.now }
+    requires many { 1 < length axes.now }
     ensures { plan_of result (pastSearch (blockFrom axes.now extents.now strides.now)) ≡ byMany (blockFrom axes.now extents.now strides.now) (sortBy longer (blockFrom axes.now extents.now strides.now)) }
 {
     let count = axes.len();
@@ -44,15 +45,14 @@ fn block_offsets_unique(
     total: u64,
     span: u64,
     scratch: &mut [u64],
-) -> Judgement
+) -> Result<Judgement, Refusal>
     requires { Block extents.now strides.now total span }
     ensures { JudgedByPlan enumerated extents.now strides.now scratch.old scratch.new result }
 {
-    let answer = enumerate(extents, strides, total, span, scratch);
-    match answer {
-        Enumerated::Distinct => Judgement::Distinct(0),
-        Enumerated::Repeated => Judgement::Repeated(0),
-        Enumerated::Short(words) => Judgement::Refused(Refusal::ShortScratch(words as usize)),
+    match enumerate(extents, strides, total, span, scratch) {
+        Enumerated::Distinct => Ok(Judgement::Distinct(0)),
+        Enumerated::Repeated => Ok(Judgement::Repeated(0)),
+        Enumerated::Short(words) => Err(Refusal::ShortScratch(words as usize)),
     }
 }
 
@@ -63,14 +63,14 @@ fn judge_past_search(
     total: u64,
     span: u64,
     scratch: &mut [u64],
-) -> Judgement
+) -> Result<Judgement, Refusal>
     requires { Block extents.now strides.now total span }
     ensures { JudgedByPlan pastSearch extents.now strides.now scratch.old scratch.new result }
 {
     if total <= EXACT_BLOCK_BUDGET {
         block_offsets_unique(extents, strides, total, span, scratch)
     } else {
-        Judgement::Undecided
+        Ok(Judgement::Undecided)
     }
 }
 
@@ -82,14 +82,13 @@ fn judge_many(
     total: u64,
     span: u64,
     scratch: &mut [u64],
-) -> Judgement
+) -> Result<Judgement, Refusal>
     requires { Judgeable axes.now extents.now strides.now total span }
     ensures { JudgedAs (carryOut (length scratch.old) (byMany (blockFrom axes.now extents.now strides.now) (sortBy longer (blockFrom axes.now extents.now strides.now)))) scratch.old scratch.new result }
 {
-    let found = block_differences_avoid_zero(axes, extents, strides);
-    match found {
-        Searched::Repeated(count) => Judgement::Repeated(count),
-        Searched::Distinct(count) => Judgement::Distinct(count),
+    match block_differences_avoid_zero(axes, extents, strides) {
+        Searched::Repeated(count) => Ok(Judgement::Repeated(count)),
+        Searched::Distinct(count) => Ok(Judgement::Distinct(count)),
         Searched::PastBudget => judge_past_search(extents, strides, total, span, scratch),
     }
 }
@@ -103,18 +102,18 @@ pub fn judge_block(
     total: u64,
     span: u64,
     scratch: &mut [u64],
-) -> Judgement
+) -> Result<Judgement, Refusal>
     requires { Judgeable axes.now extents.now strides.now total span }
     ensures { JudgedAs (carryOut (length scratch.old) (byBlock (blockFrom axes.now extents.now strides.now))) scratch.old scratch.new result }
 {
     if span < total - 1 {
-        return Judgement::Repeated(0);
+        return Ok(Judgement::Repeated(0));
     }
     if axes.len() == 2 {
         if two_axis_block_is_injective(extents[0], strides[0], extents[1], strides[1]) {
-            return Judgement::Distinct(0);
+            return Ok(Judgement::Distinct(0));
         }
-        return Judgement::Repeated(0);
+        return Ok(Judgement::Repeated(0));
     }
     judge_many(axes, extents, strides, total, span, scratch)
 }

@@ -6,6 +6,7 @@ mod block;
 mod inputs;
 mod judge;
 
+ghost use Rattle.injectivity.specs.Claims.{Claims};
 ghost use Rattle.std.specs.Prelude.{length};
 ghost use Rattle.specification.specs.Verdict.{verdict};
 ghost use Rattle.injectivity.specs.Inputs.{LeftToBlock};
@@ -17,17 +18,20 @@ use inputs::{Inputs, validate_injective_layout_inputs};
 use judge::judge_block;
 use view::layout::Refusal;
 
-// The verdict with the number of difference vectors looked at, or the refusal.
+// The verdict, with the number of difference vectors looked at.
 #[derive(Clone, Copy)]
 pub enum Judgement {
     Distinct(u64),
     Repeated(u64),
     Undecided,
-    Refused(Refusal),
 }
 
 // Steps 3 to 6 of a layout that steps 1 and 2 leave to them. No block is Distinct: every axis is separated.
-fn judge_active_axes(extents: &[u64], strides: &[i64], scratch: &mut [u64]) -> Judgement
+fn judge_active_axes(
+    extents: &[u64],
+    strides: &[i64],
+    scratch: &mut [u64],
+) -> Result<Judgement, Refusal>
     requires { LeftToBlock extents.now strides.now }
     ensures { JudgedAs (verdict extents.now strides.now (length scratch.old)) scratch.old scratch.new result }
 {
@@ -41,9 +45,9 @@ fn judge_active_axes(extents: &[u64], strides: &[i64], scratch: &mut [u64]) -> J
         &mut sorted_extents,
         &mut sorted_strides,
     );
-    let found = interleaved_block(count, &sorted_extents, &sorted_strides);
-    let Interleaved::Block(block) = found else {
-        return Judgement::Distinct(0);
+    let Interleaved::Block(block) = interleaved_block(count, &sorted_extents, &sorted_strides)
+    else {
+        return Ok(Judgement::Distinct(0));
     };
     let len = block.len;
     judge_block(
@@ -57,12 +61,20 @@ fn judge_active_axes(extents: &[u64], strides: &[i64], scratch: &mut [u64]) -> J
 }
 
 // The verdict. Only step 6 works in the scratch: it refuses fewer words than it needs, and leaves those past them as they were.
-pub fn is_injective_layout(extents: &[u64], strides: &[i64], scratch: &mut [u64]) -> Judgement
+pub fn is_injective_layout(
+    extents: &[u64],
+    strides: &[i64],
+    scratch: &mut [u64],
+) -> Result<Judgement, Refusal>
     ensures { JudgedAs (verdict extents.now strides.now (length scratch.old)) scratch.old scratch.new result }
 {
-    let inputs = validate_injective_layout_inputs(extents, strides);
-    match inputs {
+    match validate_injective_layout_inputs(extents, strides) {
         Inputs::Settled(judgement) => judgement,
         Inputs::Valid => judge_active_axes(extents, strides, scratch),
     }
 }
+
+// Does nothing, and promises what the answers of a verdict say of the layout: the check refuses it unless each claim has its proof.
+pub fn claims_hold()
+    ensures { Claims }
+{}

@@ -1,6 +1,6 @@
 -- Euclid's remainders end in the greatest common divisor; and Euclid's lemma, with no Bézout.
 use mathlib.Core.Path.{◌≡◌, ap, refl}
-use Prim.Native.Nat.{◌%◌, ◌*◌, ◌+◌, ◌-◌, ◌/◌, ◌<◌, ◌∣◌, ◌≤◌, suc, zero, ℕ}
+use Prim.Native.Nat.{◌%◌, ◌*◌, ◌+◌, ◌/◌, ◌<◌, ◌∣◌, ◌≤◌, suc, zero, ℕ}
 use native.Mathlib.Nat.{div-add-mod, div-mul_cancel, dvd-add_iff_right, dvd-mod_iff, dvd-mul_left, dvd-mul_right_of_dvd, dvd_of_mul-dvd-mul_right, dvd_refl, dvd-zero, mod-lt, one-mul, pos_of_dvd_of_pos}
 use native.Mathlib.Omega.{arith}
 use lib.Arith.{le-zero}

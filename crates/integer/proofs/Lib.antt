@@ -2,7 +2,6 @@
 pub mod Decide
 pub mod PartLaws
 pub mod Polynomial
-pub mod RingLaws
 pub mod MultipleLaws
 pub mod MachineInteger
 pub mod CheckedLaws

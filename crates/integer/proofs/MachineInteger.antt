@@ -22,10 +22,6 @@ readBack z = to_z w64 (of_z w64 z)
 pub less-tested : {x y : ℤ} {t : Bool} → SFits w64 x → SFits w64 y → lt_z (readBack x) (readBack y) ≡ t → lt_z x y ≡ t
 less-tested {x} {y} f g e = sym (λ i. lt_z (to_z-of_z w64 x f i) (to_z-of_z w64 y g i)) ∙ e
 
--- A test `x == y` that held: the machine compares the bits, and they tell the integer.
-pub equal-of-bits : {x y : ℤ} → SFits w64 x → SFits w64 y → of_z w64 x ≡ of_z w64 y → x ≡ y
-equal-of-bits {x} {y} f g e = sym (to_z-of_z w64 x f) ∙ ap (to_z w64) e ∙ to_z-of_z w64 y g
-
 -- The value of `x == y` is the test for equal integers.
 pub equal-tested : (x y : ℤ) → SFits w64 x → SFits w64 y → eqb (of_z w64 x) (of_z w64 y) ≡ eqZ x y
 unfolding eqZ

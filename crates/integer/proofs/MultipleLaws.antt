@@ -36,9 +36,6 @@ pub ·-mul : (q n : ℕ) (s : ℤ) → q · (n · s) ≡ (q * n) · s
 pub ·-add : (a b : ℕ) (s : ℤ) → (a + b) · s ≡ a · s +ℤ b · s
 ·-add a b s = prove-eq ((a + b) ⊙ int s) (a ⊙ int s ⊕ b ⊙ int s) (omega arith)
 
-pub ·-dist : (k : ℕ) (x y : ℤ) → k · (x +ℤ y) ≡ k · x +ℤ k · y
-·-dist k x y = prove-eq (k ⊙ (int x ⊕ int y)) (k ⊙ int x ⊕ k ⊙ int y) (omega arith)
-
 -- A multiple, by the sign and the magnitude of the integer.
 pub ·-of-zero : (k : ℕ) (s : ℤ) → nat_abs s ≡ 0 → k · s ≡ pos 0
 unfolding ◌·◌

@@ -1,8 +1,6 @@
 -- The ranges of 64-bit numbers, signed and unsigned (01: `usize` and `isize` are 64 bits).
-use Rattle.std.specs.Prelude.{Bool, ◌&&◌, cond, ℕ, ◌-◌, ◌^◌, ℤ, pos, negsuc}
+use Rattle.std.specs.Prelude.{Bool, ◌&&◌, if◌then◌else◌, ℕ, ◌-◌, ◌^◌, ℤ, pos, negsuc, Option, Some, None}
 use Rattle.std.specs.Int.Signed.{le_z}
-use Rattle.integer.specs.declared.signed.Checked.{Checked}
-use Rattle.integer.specs.declared.signed.Checked.TheVariants.{Fits, Over}
 
 -- 2^63 - 1, the most that 64 bits signed hold.
 abbrev pub mostSigned : ℕ
@@ -16,6 +14,6 @@ mostUnsigned = 2 ^ 64 - 1
 abbrev pub fits : ℤ → Bool
 fits z = le_z (negsuc mostSigned) z && le_z z (pos mostSigned)
 
--- The answer of an operation at 64 bits whose result is z: z itself, or `Over` where z does not fit.
-abbrev pub checkedOf : ℤ → Checked
-checkedOf z = cond (fits z) (Fits z) Over
+-- The answer of an operation at 64 bits whose result is z: z itself, or `None` where z does not fit.
+abbrev pub checkedOf : ℤ → Option ℤ
+checkedOf z = if fits z then Some z else None

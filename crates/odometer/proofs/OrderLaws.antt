@@ -97,12 +97,3 @@ pub digits-within : {es : List ℕ} → PositiveExtents es → (k : ℕ) → Ind
 unfolding index_at
 digits-within none k = empty
 digits-within (more {e} p t) k = ◌and◌ (mod-lt k p) (digits-within t (k / e))
-
-pub after-within : {es x : List ℕ} → IndexVector es x → IndexVector es (after es x)
-unfolding after
-after-within empty = empty
-after-within (◌and◌ {e = e} {i = i} {es = es} {is = x} h b) = go (after-within b) (dec_lt (i + 1) e)
-  where
-    go : IndexVector es (after es x) → Dec (i + 1 < e) → IndexVector (e ∷ es) (after (e ∷ es) (i ∷ x))
-    go next (yes l) = rw (goes-up e i es x l) (◌and◌ l b)
-    go next (no l) = rw (goes-round e i es x (omega arith)) (◌and◌ {e = e} {i = 0} (omega arith) next)

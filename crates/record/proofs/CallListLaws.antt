@@ -105,9 +105,6 @@ pub record Running (calls : List ℕ) (start : LayoutM) (place : ℕ) (current :
   pub goes_on : end_of start (calls_of calls) ≡ end_of current (calls_of (drop place calls))
   pub taken : takenWithin (length calls) calls ≡ place + takenWithin (length (drop place calls)) (drop place calls)
 
-pub running-start : (calls : List ℕ) (start : LayoutM) → Running calls start 0 start
-running-start calls start = record { within = omega arith; goes_on = refl; taken = omega arith }
-
 -- what is left is the two numbers of a call and the rest
 two-left : (calls : List ℕ) (place : ℕ) → place + 2 ≤ length calls → drop place calls ≡ get_or calls place 0 ∷ get_or calls (place + 1) 0 ∷ drop (place + 2) calls
 two-left calls place h =

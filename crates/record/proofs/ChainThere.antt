@@ -1,4 +1,5 @@
 -- From every layout there is a chain of every list of calls: what the definition answers is the answer of some `Viewed`.
+use Rattle.std.specs.Prelude.{Err, Ok, Result}
 use mathlib.Core.Path.{◌≡◌, refl, sym, ap, subst, ◌∙◌}
 use mathlib.Core.List.{List, [], ◌∷◌, map}
 use Prim.Native.Nat.{ℕ}
@@ -11,8 +12,6 @@ use Rattle.specification.specs.Views.{diagonalView}
 use Rattle.specification.specs.Calls.{Call, permuting, diagonal, broadcasting, after_call}
 use Rattle.specification.specs.ViewRules as rules
 use Rattle.specification.proofs.AnswerLaws.{answer-claims}
-use Rattle.view.specs.declared.layout.Answer.{Answer}
-use Rattle.view.specs.declared.layout.Answer.TheVariants.{Done, Refused}
 use Rattle.view.specs.declared.layout.Refusal.{Refusal}
 use Rattle.view.specs.declared.layout.Refusal.TheVariants.{TooManyAxes, OutOfRange, WrongLength, BadAxis, BadExtent}
 use Rattle.view.specs.declared.layout.Layout.{Layout}
@@ -50,7 +49,7 @@ model-again x =
 -- ---- an answer in 01's numbers
 
 -- a refusal of a call is a row of the table
-refusal-of : (l : LayoutM) (c : Call) (number : ℕ) (values : List ℕ) → rules.Refuses l c number values → (why : Refusal) × (outcomeOf (Refused why) ≡ refused number values)
+refusal-of : (l : LayoutM) (c : Call) (number : ℕ) (values : List ℕ) → rules.Refuses l c number values → (why : Refusal) × (outcomeOf {A = Unit {0}} (Err why) ≡ refused number values)
 refusal-of l (permuting order) number values (rules.PermuteRefused.too_many h) = (TooManyAxes, refl)
 refusal-of l (permuting order) number values (rules.PermuteRefused.not-accepted h k a) = (OutOfRange, refl)
 refusal-of l (permuting order) number values (rules.PermuteRefused.wrong-length a h e) = (WrongLength _ _, refl)
@@ -66,12 +65,12 @@ refusal-of l (broadcasting targets) number values (rules.BroadcastRefused.not-ac
 refusal-of l (broadcasting targets) number values (rules.BroadcastRefused.wrong-length a h e) = (WrongLength _ _, refl)
 refusal-of l (broadcasting targets) number values (rules.BroadcastRefused.bad-extent a e i h before bad) = (BadExtent _, refl)
 
-answer-of : (l : LayoutM) (c : Call) → (a : Answer) × (outcomeOf a ≡ (after_call l c).answer)
+answer-of : (l : LayoutM) (c : Call) → (a : Result (Unit {0}) Refusal) × (outcomeOf a ≡ (after_call l c).answer)
 answer-of l c = by (after_call l c).answer refl
   where
-    by : (o : Check) → (after_call l c).answer ≡ o → (a : Answer) × (outcomeOf a ≡ (after_call l c).answer)
-    by (done u) e = (Done, sym e)
-    by (refused number values) e = let r = refusal-of l c number values ((answer-claims.refuses l c number values).0 e) in (Refused r.0, r.1 ∙ sym e)
+    by : (o : Check) → (after_call l c).answer ≡ o → (a : Result (Unit {0}) Refusal) × (outcomeOf a ≡ (after_call l c).answer)
+    by (done u) e = (Ok tt, sym e)
+    by (refused number values) e = let r = refusal-of l c number values ((answer-claims.refuses l c number values).0 e) in (Err r.0, r.1 ∙ sym e)
 
 -- ---- the chain
 

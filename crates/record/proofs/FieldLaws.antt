@@ -30,9 +30,6 @@ two-numbers xs es ss n h e =
 pub length-head : (rank verdict : ℕ) (offset : ℤ) → length (headBytes rank verdict offset) ≡ 13
 length-head rank verdict offset = simp (length-append, length-bigEndian) (omega arith)
 
-pub length-axisField : (extent : ℕ) (stride : ℤ) → length (axisField extent stride) ≡ 16
-length-axisField extent stride = simp (length-append, length-bigEndian) (omega arith)
-
 -- the bytes of axes and one more
 pub axisBytes-snoc : (axes : List Axis) (a : Axis) → axisBytes (axes ++ (a ∷ [])) ≡ axisBytes axes ++ axisField a.extent a.stride
 unfolding axisBytes

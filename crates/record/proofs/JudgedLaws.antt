@@ -1,4 +1,5 @@
 -- What the byte of a verdict tells of the outcome that was judged.
+use Rattle.std.specs.Prelude.{Ok, Err}
 use mathlib.Core.Path.{◌≡◌, refl, sym, ap, ◌∙◌}
 use Prim.Native.Nat.{ℕ}
 use native.Mathlib.Omega.{arith}
@@ -10,9 +11,8 @@ use Rattle.view.specs.Answers.{number_of, values_of}
 use Rattle.view.specs.declared.layout.Refusal.{Refusal}
 use Rattle.injectivity.specs.declared.Judgement.{Judgement}
 use Rattle.injectivity.specs.declared.Judgement.TheVariants as judgement
-use Rattle.record.specs.declared.writer.VerdictByte.TheVariants as byte
-use Rattle.injectivity.specs.Judgement.{Told, toldOf, outcomeOf}
-use Rattle.record.specs.Writer.{bytes_of}
+use Rattle.injectivity.specs.Judgement.{Told, toldOf, judgedOf}
+use Rattle.record.specs.Writer.{byte_of}
 
 -- a verdict was told
 pub record Byte (o : Outcome Judged) (b : ℕ) : Type 0 where
@@ -28,14 +28,10 @@ told-refused : (o : Outcome Judged) {n : ℕ} {vs : _} → refused n vs ≡ told
 told-refused (done j) e = absurd (clash (sym e))
 told-refused (refused m ws) e = cc
 
-pub byte-told : (o : Outcome Judged) (judged : Judgement) {b : ℕ} → outcomeOf judged ≡ toldOf o → bytes_of judged ≡ byte.Is b → Byte o b
-byte-told o (judgement.Distinct count) e q = let w = told-done o _ e in record { j = w.j; is = w.is; byte-is = w.byte-is ∙ cc }
-byte-told o (judgement.Repeated count) e q = let w = told-done o _ e in record { j = w.j; is = w.is; byte-is = w.byte-is ∙ cc }
-byte-told o judgement.Undecided e q = let w = told-done o _ e in record { j = w.j; is = w.is; byte-is = w.byte-is ∙ cc }
-byte-told o (judgement.Refused why) e q = absurd (let z : ◌≡◌ {A = ℕ} 0 1 = cc in omega arith)
+pub byte-told : (o : Outcome Judged) (judged : Judgement) → judgedOf (Ok judged) ≡ toldOf o → Byte o (byte_of judged)
+byte-told o (judgement.Distinct count) e = told-done o _ e
+byte-told o (judgement.Repeated count) e = told-done o _ e
+byte-told o judgement.Undecided e = told-done o _ e
 
-pub refusal-told : (o : Outcome Judged) (judged : Judgement) {why : Refusal} → outcomeOf judged ≡ toldOf o → bytes_of judged ≡ byte.Refused why → o ≡ refused (number_of why) (values_of why)
-refusal-told o (judgement.Distinct count) e q = absurd (let z : ◌≡◌ {A = ℕ} 0 1 = cc in omega arith)
-refusal-told o (judgement.Repeated count) e q = absurd (let z : ◌≡◌ {A = ℕ} 0 1 = cc in omega arith)
-refusal-told o judgement.Undecided e q = absurd (let z : ◌≡◌ {A = ℕ} 0 1 = cc in omega arith)
-refusal-told o (judgement.Refused why') {why} e q = let p : why' ≡ why = cc in rw (← p) (told-refused o e)
+pub refusal-told : (o : Outcome Judged) (why : Refusal) → judgedOf (Err why) ≡ toldOf o → o ≡ refused (number_of why) (values_of why)
+refusal-told o why e = told-refused o e

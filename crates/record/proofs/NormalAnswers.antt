@@ -1,4 +1,5 @@
 -- What the tests of the normal form tell: the number of positions, and what the call answers then.
+use Rattle.std.specs.Prelude.{Err, Ok, Result}
 use mathlib.Core.Path.{◌≡◌, refl, ◌∙◌}
 use mathlib.Core.Bool.{Bool, true, false}
 use mathlib.Core.List.{List, [], ◌∷◌, ◌++◌}
@@ -15,11 +16,9 @@ use Rattle.specification.specs.Axis.{Axis, extents, positions, is_empty}
 use Rattle.specification.specs.Layout.{LayoutM, handed}
 use Rattle.specification.specs.Normal.{normalOf, overfull, normalForm}
 use Rattle.specification.proofs.NormalLaws.{full-pos, positions-pos, empty-none}
-use Rattle.view.specs.Answers.{number_of, values_of}
-use Rattle.view.specs.Count.{countTold, count_of}
+use Rattle.view.specs.Answers.{number_of, values_of, outcomeOf}
+use Rattle.view.specs.Count.{count_of}
 use Rattle.view.specs.Model.{axesIn}
-use Rattle.view.specs.declared.count.Count.{Count}
-use Rattle.view.specs.declared.count.Count.TheVariants.{Of, Refused}
 use Rattle.view.specs.declared.layout.Refusal.{Refusal}
 use Rattle.view.proofs.CountLaws.{counted-refused, counted_is}
 use Rattle.record.specs.Normal.{normalView, counted}
@@ -69,11 +68,11 @@ module _ (l : LayoutM) where
   unfolding normalForm ◌>>◌
   form-passed e = rw e
 
-  module _ {r : Count} (told : countTold r ≡ count_of l.axes) where
-    pub counted-over : {why : Refusal} → r ≡ Refused why → counted l ≡ record { answer = refused (number_of why) (values_of why); layout = l }
+  module _ {r : Result ℕ Refusal} (told : outcomeOf r ≡ count_of l.axes) where
+    pub counted-over : {why : Refusal} → r ≡ Err why → counted l ≡ record { answer = refused (number_of why) (values_of why); layout = l }
     unfolding refuseIf ◌>>◌
     counted-over q = let w = counted-refused l.axes told q in rw (w.0, w.1)
 
-    pub counted-done : {n : ℕ} → r ≡ Of n → counted l ≡ record { answer = pass; layout = normalOf l }
+    pub counted-done : {n : ℕ} → r ≡ Ok n → counted l ≡ record { answer = pass; layout = normalOf l }
     unfolding refuseIf ◌>>◌
     counted-done q = rw (counted_is l.axes told q).0

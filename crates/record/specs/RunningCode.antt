@@ -1,6 +1,8 @@
 -- Demand 3 and the round trip said of running code: what any two chains of calls, or runs of `run_calls`, and any calls of `write_record` and `read_record` come to.
 -- `Layout`, `Ran` and `Wrote` are what the functions hand back; the premises are their contracts, word for word (held to them in proofs/PremisesAreContracts).
-use Rattle.std.specs.Prelude.{List, ◌≡◌, ℕ, ◌≤◌, length, take}
+use Rattle.view.specs.declared.layout.Refusal.{Refusal}
+use Rattle.big_endian.specs.declared.BytePlace.{BytePlace}
+use Rattle.std.specs.Prelude.{List, ◌≡◌, ℕ, ◌≤◌, length, take, Result}
 use Rattle.specification.specs.Outcome.{Outcome, Check, done, pass}
 use Rattle.specification.specs.Layout.{LayoutM, Accepted}
 use Rattle.specification.specs.Normal.{normalOf}
@@ -13,7 +15,6 @@ use Rattle.specification.specs.Demand3.{Run, Demand3}
 use Rattle.view.specs.declared.layout.Layout.{Layout}
 use Rattle.view.specs.Model.{modelOf}
 use Rattle.record.specs.declared.calls.Ran.{Ran}
-use Rattle.record.specs.declared.writer.Wrote.{Wrote}
 use Rattle.record.specs.CallList.{calls_of}
 use Rattle.record.specs.Chain.{Chain, AsDefined, RunOf}
 use Rattle.record.specs.Writer.{wroteOf}
@@ -33,7 +34,7 @@ pub record DemandOfChains (a b : Layout) (cs ds : List Call) (answers answers' :
 abbrev pub RunningDemand3 : Type 0
 RunningDemand3 = (a b end end' : Layout) → Accepted (modelOf a) → Accepted (modelOf b)
     → (cs ds : List Call) (answers answers' : List Check) → Chain a cs answers end → Chain b ds answers' end'
-    → (output scratch output-then scratch-then output' scratch' output-then' scratch-then' : List ℕ) (wrote wrote' : Wrote)
+    → (output scratch output-then scratch-then output' scratch' output-then' scratch-then' : List ℕ) (wrote wrote' : Result BytePlace Refusal)
     → Writing (modelOf end) output scratch (wroteOf wrote) output-then scratch-then
     → Writing (modelOf end') output' scratch' (wroteOf wrote') output-then' scratch-then'
     → DemandOfChains a b cs ds answers answers' end end' output scratch output-then scratch-then output' scratch' output-then' scratch-then' (wroteOf wrote) (wroteOf wrote')
@@ -41,7 +42,7 @@ RunningDemand3 = (a b end end' : Layout) → Accepted (modelOf a) → Accepted (
 -- with `run_calls` in place of the chains: every two call lists in numbers
 abbrev pub RunCallsDemand3 : Type 0
 RunCallsDemand3 = (a b : Layout) → Accepted (modelOf a) → Accepted (modelOf b) → (cs ds : List ℕ) (ran ran' : Ran) → RunOf a cs ran → RunOf b ds ran'
-    → (output scratch output-then scratch-then output' scratch' output-then' scratch-then' : List ℕ) (wrote wrote' : Wrote)
+    → (output scratch output-then scratch-then output' scratch' output-then' scratch-then' : List ℕ) (wrote wrote' : Result BytePlace Refusal)
     → Writing (modelOf ran.layout) output scratch (wroteOf wrote) output-then scratch-then
     → Writing (modelOf ran'.layout) output' scratch' (wroteOf wrote') output-then' scratch-then'
     → Demand3 (modelOf a) (modelOf b) (calls_of cs) (calls_of ds) output scratch output-then scratch-then output' scratch' output-then' scratch-then' (wroteOf wrote) (wroteOf wrote')
@@ -49,7 +50,7 @@ RunCallsDemand3 = (a b : Layout) → Accepted (modelOf a) → Accepted (modelOf 
 -- the round trip, both ways, of any calls of writer and reader; the second is lent words of its own, enough for the verdict
 pub record RunningRoundTrip : Type 0 where
   -- write then read: the output after the writer is read as the normal form, whatever stands behind the record
-  pub write_read : (l : Layout) (output scratch output-then scratch-then : List ℕ) (wrote : Wrote) (n : ℕ) → Accepted (modelOf l)
+  pub write_read : (l : Layout) (output scratch output-then scratch-then : List ℕ) (wrote : Result BytePlace Refusal) (n : ℕ) → Accepted (modelOf l)
       → Writing (modelOf l) output scratch (wroteOf wrote) output-then scratch-then → wroteOf wrote ≡ done n
       → (scratch' scratch-then' : List ℕ) (answer : After) → wordsNeeded (normalOf (modelOf l)).axes ≤ length scratch' → Reading output-then scratch' answer scratch-then'
       → answer ≡ record { answer = pass; layout = withBuffer (normalOf (modelOf l)) }

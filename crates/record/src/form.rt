@@ -9,7 +9,6 @@ ghost use Rattle.record.specs.Reader.{inLongest};
 use crate::normal::{continues, layout_count};
 use view::accepted::layout_reach;
 use view::bounds::Reach;
-use view::count::Count;
 use view::layout::Layout;
 
 // Whether each extent is above 1 and no axis continues the one before it.
@@ -61,8 +60,8 @@ fn is_overfull(layout: Layout) -> bool
 {
     let count = layout_count(layout);
     match count {
-        Count::Of(_) => false,
-        Count::Refused(_) => true,
+        Ok(_) => false,
+        Err(_) => true,
     }
 }
 

@@ -1,16 +1,17 @@
 // The normal form of a layout: axes of extent 1 dropped, neighbours merged.
+ghost use Rattle.view.specs.Answers.{outcomeOf};
 ghost use Rattle.std.specs.Prelude.{true, false, ◌≡◌, ◌≤◌};
 ghost use Rattle.integer.specs.Multiple.{◌·◌, eqZ};
 ghost use Rattle.specification.specs.Axis.{is_empty};
 ghost use Rattle.specification.specs.Normal.{normalOf, overfull};
-ghost use Rattle.view.specs.Count.{countTold, count_of};
+ghost use Rattle.view.specs.Count.{count_of};
 ghost use Rattle.view.specs.Model.{modelOf, viewedOf};
 ghost use Rattle.record.specs.Normal.{continuesLast, counted, normalView};
 
-use integer::signed::{Checked, checked_mul};
+use integer::signed::checked_mul;
 use view::accepted::handed_refusal;
-use view::count::{Count, checked_element_count};
-use view::layout::{Answer, Layout, ReadingOffset, Viewed};
+use view::count::checked_element_count;
+use view::layout::{Layout, ReadingOffset, Refusal, Viewed};
 
 // Whether the next stride is extent × stride. A product that 64 bits do not hold equals no stride.
 pub(crate) fn continues(extent: u64, stride: i64, next: i64) -> bool
@@ -18,8 +19,8 @@ pub(crate) fn continues(extent: u64, stride: i64, next: i64) -> bool
 {
     let product = checked_mul(stride, extent);
     match product {
-        Checked::Over => false,
-        Checked::Fits(step) => next == step,
+        None => false,
+        Some(step) => next == step,
     }
 }
 
@@ -82,9 +83,9 @@ fn empty_form(layout: Layout) -> Layout
 }
 
 // The number of positions, or that 64 bits do not hold it.
-pub(crate) fn layout_count(layout: Layout) -> Count
+pub(crate) fn layout_count(layout: Layout) -> Result<u64, Refusal>
     requires { layout.rank ≤ 16 }
-    ensures { countTold result ≡ count_of (modelOf layout).axes }
+    ensures { outcomeOf result ≡ count_of (modelOf layout).axes }
 {
     let rank = layout.rank;
     let extents = layout.extents;
@@ -98,11 +99,11 @@ fn counted_form(layout: Layout) -> Viewed
 {
     let count = layout_count(layout);
     match count {
-        Count::Refused(why) => Viewed {
+        Err(why) => Viewed {
             layout: layout,
-            answer: Answer::Refused(why),
+            answer: Err(why),
         },
-        Count::Of(positions) => {
+        Ok(positions) => {
             let next = if positions == 0 {
                 empty_form(layout)
             } else {
@@ -110,7 +111,7 @@ fn counted_form(layout: Layout) -> Viewed
             };
             Viewed {
                 layout: next,
-                answer: Answer::Done,
+                answer: Ok(()),
             }
         }
     }
@@ -122,10 +123,10 @@ pub fn normal_form(layout: Layout) -> Viewed
 {
     let answer = handed_refusal(layout, 0);
     match answer {
-        Answer::Refused(why) => Viewed {
+        Err(why) => Viewed {
             layout: layout,
-            answer: Answer::Refused(why),
+            answer: Err(why),
         },
-        Answer::Done => counted_form(layout),
+        Ok(()) => counted_form(layout),
     }
 }

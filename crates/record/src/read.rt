@@ -6,8 +6,8 @@ ghost use Rattle.view.specs.Model.{viewedOf};
 ghost use Rattle.record.specs.Reading.{readAfter, Reading};
 
 use crate::reader::read_front;
-use crate::writer::{VerdictByte, judge_layout, verdict_byte};
-use view::layout::{Answer, Layout, ReadingOffset, Refusal, Viewed};
+use crate::writer::{judge_layout, verdict_byte};
+use view::layout::{Layout, ReadingOffset, Refusal, Viewed};
 
 // A refusal, beside an empty layout.
 fn not_read(why: Refusal) -> Viewed
@@ -21,8 +21,8 @@ fn not_read(why: Refusal) -> Viewed
         strides: [0; 16],
     };
     Viewed {
-        layout: layout,
-        answer: Answer::Refused(why),
+        layout,
+        answer: Err(why),
     }
 }
 
@@ -31,25 +31,16 @@ pub fn read_record(bytes: &[u8], scratch: &mut [u64]) -> Viewed
     ensures { Reading bytes.now scratch.old (viewedOf result) scratch.new }
 {
     let front = read_front(bytes);
-    let answer = front.answer;
+    if let Err(why) = front.answer {
+        return not_read(why);
+    }
     let layout = front.layout;
-    let claimed = front.verdict;
-    match answer {
-        Answer::Refused(why) => not_read(why),
-        Answer::Done => {
-            let byte = verdict_byte(judge_layout(layout, scratch));
-            match byte {
-                VerdictByte::Refused(why) => not_read(why),
-                VerdictByte::Is(verdict) => {
-                    if verdict != claimed {
-                        return not_read(Refusal::NotARecord);
-                    }
-                    Viewed {
-                        layout: layout,
-                        answer: Answer::Done,
-                    }
-                }
-            }
-        }
+    match judge_layout(layout, scratch) {
+        Err(why) => not_read(why),
+        Ok(judged) if verdict_byte(judged) == front.verdict => Viewed {
+            layout,
+            answer: Ok(()),
+        },
+        Ok(_) => not_read(Refusal::NotARecord),
     }
 }

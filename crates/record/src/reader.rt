@@ -8,14 +8,14 @@ ghost use Rattle.record.specs.Reader.{toldBy, frontOf, frontTold, frontAfter};
 use crate::form::{buffer_length, is_normal};
 use crate::step::{length_field, wide};
 use big_endian::{BytePlace, from_twos, u64_at};
-use view::layout::{Answer, Layout, ReadingOffset, Refusal};
+use view::layout::{Layout, ReadingOffset, Refusal};
 
 // The layout and the byte of its verdict that front bytes tell, or refusal 11.
 #[derive(Clone, Copy)]
 pub struct Front {
     pub layout: Layout,
     pub verdict: u8,
-    pub answer: Answer,
+    pub answer: Result<(), Refusal>,
 }
 
 // Whether the front bytes hold every field: length, version, verdict and rank.
@@ -84,7 +84,7 @@ fn no_record() -> Front
     Front {
         layout: layout,
         verdict: 0,
-        answer: Answer::Refused(Refusal::NotARecord),
+        answer: Err(Refusal::NotARecord),
     }
 }
 
@@ -104,6 +104,6 @@ pub fn read_front(bytes: &[u8]) -> Front
     Front {
         layout: layout,
         verdict: bytes[3],
-        answer: Answer::Done,
+        answer: Ok(()),
     }
 }

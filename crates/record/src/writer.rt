@@ -4,42 +4,27 @@ ghost use Rattle.specification.specs.Verdict.{judge};
 ghost use Rattle.specification.specs.Record.{Writing};
 ghost use Rattle.view.specs.Model.{modelOf};
 ghost use Rattle.injectivity.specs.Judgement.{JudgedAs};
-ghost use Rattle.record.specs.Writer.{bytes_of, wroteOf};
+ghost use Rattle.record.specs.Writer.{byte_of, wroteOf};
 
 use crate::fields::put_record;
 use crate::normal::normal_form;
 use big_endian::BytePlace;
 use injectivity::{Judgement, is_injective_layout};
-use view::layout::{Answer, Layout, Refusal};
-
-// The place behind the record, or the refusal.
-#[derive(Clone, Copy)]
-pub enum Wrote {
-    Upto(BytePlace),
-    Refused(Refusal),
-}
-
-// The byte of a verdict, or the refusal.
-#[derive(Clone, Copy)]
-pub enum VerdictByte {
-    Is(u8),
-    Refused(Refusal),
-}
+use view::layout::{Layout, Refusal};
 
 // 1 Distinct, 2 Repeated, 3 Undecided.
-pub(crate) fn verdict_byte(judged: Judgement) -> VerdictByte
-    ensures { result ≡ bytes_of judged }
+pub(crate) fn verdict_byte(judged: Judgement) -> u8
+    ensures { result ≡ byte_of judged }
 {
     match judged {
-        Judgement::Distinct(_) => VerdictByte::Is(1),
-        Judgement::Repeated(_) => VerdictByte::Is(2),
-        Judgement::Undecided => VerdictByte::Is(3),
-        Judgement::Refused(why) => VerdictByte::Refused(why),
+        Judgement::Distinct(_) => 1,
+        Judgement::Repeated(_) => 2,
+        Judgement::Undecided => 3,
     }
 }
 
 // The verdict of a layout's axes.
-pub fn judge_layout(layout: Layout, scratch: &mut [u64]) -> Judgement
+pub fn judge_layout(layout: Layout, scratch: &mut [u64]) -> Result<Judgement, Refusal>
     requires { layout.rank ≤ 16 }
     ensures { JudgedAs (judge (modelOf layout).axes (length scratch.old)) scratch.old scratch.new result }
 {
@@ -50,28 +35,21 @@ pub fn judge_layout(layout: Layout, scratch: &mut [u64]) -> Judgement
 }
 
 // Refusals 1, 3, 8, then 10, then 9; or the record at the front, and the bytes past it as they were.
-pub fn write_record(layout: Layout, out: &mut [u8], scratch: &mut [u64]) -> Wrote
+pub fn write_record(
+    layout: Layout,
+    out: &mut [u8],
+    scratch: &mut [u64],
+) -> Result<BytePlace, Refusal>
     ensures { Writing (modelOf layout) out.old scratch.old (wroteOf result) out.new scratch.new }
 {
     let viewed = normal_form(layout);
-    let answer = viewed.answer;
+    viewed.answer?;
     let form = viewed.layout;
-    match answer {
-        Answer::Refused(why) => Wrote::Refused(why),
-        Answer::Done => {
-            let rank = form.rank;
-            let size = 13 + 16 * rank;
-            if out.len() < size {
-                return Wrote::Refused(Refusal::ShortOutput(size));
-            }
-            let byte = verdict_byte(judge_layout(form, scratch));
-            match byte {
-                VerdictByte::Refused(why) => Wrote::Refused(why),
-                VerdictByte::Is(verdict) => {
-                    put_record(out, form, verdict);
-                    Wrote::Upto(BytePlace(size))
-                }
-            }
-        }
+    let size = 13 + 16 * form.rank;
+    if out.len() < size {
+        return Err(Refusal::ShortOutput(size));
     }
+    let judged = judge_layout(form, scratch)?;
+    put_record(out, form, verdict_byte(judged));
+    Ok(BytePlace(size))
 }

@@ -1,5 +1,5 @@
 -- What `search_two` answers, in its three cases; and what a block's first longest axes make of it.
-use Rattle.std.specs.Prelude.{if◌then◌else◌}
+use Rattle.std.specs.Prelude.{if◌then◌else◌, None, Some}
 use mathlib.Core.Path.{◌≡◌, refl, sym, ap, ap₂, ◌∙◌, subst, subst⁻¹}
 use mathlib.Core.Bool.{Bool, true, false}
 use mathlib.Core.Logic.{◌⊎◌, inl, inr}
@@ -26,7 +26,6 @@ use Rattle.search.specs.Block.{Blocked, plan_of, searchedOr, AnswersBlocks}
 use Rattle.search.specs.SetUp.{Budget, SetFor, Answers}
 use Rattle.search.specs.declared.Searched.{Searched}
 use Rattle.search.specs.declared.Searched.TheVariants.{PastBudget, Repeated, Distinct}
-use Rattle.search.specs.declared.Half.TheVariants.{Within, Past}
 use Rattle.search.proofs.SortedAxes.{Sorted}
 use Rattle.search.proofs.Orders.{ascending-sorted}
 use Rattle.search.proofs.SetApart.{axisAt, extent-at, stride-at, lengths-remove, strides-remove, many_is}
@@ -78,14 +77,14 @@ room_of d₁ s₁ d₂ s₂ es ss t b s = record {
 
 -- ---- the three cases, of two axes a and b that are set apart
 
-pub half-right : (es ss : List ℕ) → length ss ≡ length es → PositiveExtents es → (h : ℕ) → Budget es (Within h) → h ≡ half_of es ss
+pub half-right : (es ss : List ℕ) → length ss ≡ length es → PositiveExtents es → (h : ℕ) → Budget es (Some h) → h ≡ half_of es ss
 half-right es ss e p h u = omega (arith, u.0, half_twice es ss e p)
 
 module _ (a b : ActiveAxis) (es ss : List ℕ) (e : length ss ≡ length es) (p : PositiveExtents es) where
-  pub past-budget : Budget es Past → Answers PastBudget a b (axesWith es ss)
+  pub past-budget : Budget es None → Answers PastBudget a b (axesWith es ss)
   past-budget u past = sym (ap (λ (t : Bool). if t then searched a b (axesWith es ss) else past) (lt-leb (half (axesWith es ss)) 4194304 (omega (arith, u, half_twice es ss e p))))
 
-  module _ (h : ℕ) (u : Budget es (Within h)) where
+  module _ (h : ℕ) (u : Budget es (Some h)) where
     within-budget : (past : Plan) → searchedOr past a b (axesWith es ss) ≡ searched a b (axesWith es ss)
     within-budget past = ap (λ (t : Bool). if t then searched a b (axesWith es ss) else past) (le-leb (half (axesWith es ss)) 4194304 (omega (arith, u.1, half-right es ss e p h u)))
 

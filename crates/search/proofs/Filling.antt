@@ -11,22 +11,16 @@ use Rattle.integer.specs.Congruence.{Congruent}
 use Rattle.integer.proofs.Congruence.{mod-congruent, congruent-of-equal, congruent-mul, congruent-trans}
 use Rattle.specification.proofs.Digits.{PositiveExtents, none, more}
 use Rattle.walk.specs.Walk.{middle_of, Steps}
-use Rattle.search.specs.SetUp.{Scaled, Backs, Below}
 
 -- ---- the places before j have what P asks
 
 pub record Upto (P : ℕ → ℕ → Type 0) (n j : ℕ) (out : List ℕ) : Type 0 where
   pub one-length : length out ≡ n
-  pub le : j ≤ n
   pub done : (k : ℕ) → k < j → P k (get_or out k 0)
-
-pub upto-start : (P : ℕ → ℕ → Type 0) (n : ℕ) (out : List ℕ) → length out ≡ n → Upto P n 0 out
-upto-start P n out e = record { one-length = e; le = omega arith; done = λ k h. absurd (omega arith) }
 
 pub upto-more : (P : ℕ → ℕ → Type 0) (n j v : ℕ) (out : List ℕ) → Upto P n j out → j < n → P j v → Upto P n (j + 1) (set out j v)
 upto-more P n j v out u h p = record {
   one-length = length-set out j v ∙ u.one-length;
-  le = omega arith;
   done = λ k l. go k l (ℕ_discrete k j);
 }
   where
@@ -68,21 +62,6 @@ back_is m l u p twice v h e f c =
     let k = (up_is m l u p h e).1 in
     let d = congruent-of-equal m twice (p + p) f in
     record { p = c.p + d.q + 2 * k.q; q = c.q + d.p + 2 * k.p; eq = omega (arith, c.eq, d.eq, k.eq) }
-
-pub scaled-done : (m c : ℕ) (ss out : List ℕ) (j : ℕ) → Upto (λ k v. (v < m) × Congruent m v (get_or ss k 0 * c)) (length ss) j out → length ss ≤ j → Scaled m c ss out
-scaled-done m c ss out j u h = record { low = λ k l. (u.done k (omega arith)).0; is = λ k l. (u.done k (omega arith)).1 }
-
-pub backs-done : (m : ℕ) (es up out : List ℕ) (j : ℕ) → Upto (λ k v. (v < m) × Congruent m (v + 2 * (get_or es k 0 - 1) * get_or up k 0) 0) (length es) j out → length es ≤ j → Backs m es up out
-backs-done m es up out j u h = record { low = λ k l. (u.done k (omega arith)).0; round = λ k l. (u.done k (omega arith)).1 }
-
-pub scaled-below : (m c : ℕ) (ss out : List ℕ) → length out ≡ length ss → Scaled m c ss out → Below m out
-scaled-below m c ss out e u j h = u.low j (omega arith)
-
-pub steps_of : (m c : ℕ) (es ss up back : List ℕ) → length ss ≡ length es → length up ≡ length es → length back ≡ length es → Scaled m c ss up → Backs m es up back → Steps m c es ss up back
-steps_of m c es ss up back e f g u b = record {
-  turns = record { up-length = f; back-length = g; up-low = λ j h. u.low j (omega arith); back_low = b.low; round = b.round };
-  scaled = λ j h. u.is j (omega arith);
-}
 
 -- the remainder of 1 serves as 1
 pub steps-of-one : (g : ℕ) (es ss up back : List ℕ) → Steps g (1 % g) es ss up back → Steps g 1 es ss up back

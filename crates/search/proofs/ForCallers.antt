@@ -15,13 +15,6 @@ use Rattle.search.proofs.SortedAxes.{perm-numbered}
 use Rattle.search.proofs.Orders.{ascending-sorted, sorted-numbered, lower-sort-is}
 use Rattle.search.proofs.SetApart.{lengths-length}
 
--- the block is those axes in another order
-pub in-axis-order : (block axes : List ActiveAxis) → Perm block axes → Ascending axes → InAxisOrder block (lengths axes) (strides axes)
-in-axis-order block axes p a =
-    let s = ascending-sorted axes a in
-    let e : axes ≡ sortBy lower block = sym (lower-sort-is block axes p (perm-numbered (perm-sym p) (sorted-numbered axes s)) s) in
-    record { ascending = subst Ascending e a; extents-are = ap lengths (sym e); strides-are = ap strides (sym e) }
-
 strides-length : (l : List ActiveAxis) → length (strides l) ≡ length l
 strides-length [] = refl
 strides-length (a ∷ rest) = ap suc (strides-length rest)

@@ -3,12 +3,12 @@ use mathlib.Core.Path.{◌≡◌, refl, subst, subst⁻¹}
 use mathlib.Core.List.{List, [], ◌∷◌, ◌++◌}
 use Prim.Native.Nat.{ℕ, zero, suc, ◌+◌, ◌*◌, ◌-◌, ◌<◌, ◌≤◌}
 use native.Mathlib.Omega.{arith}
-use native.Mathlib.Decide.{ℕ_discrete, dec_lt}
+use native.Mathlib.Decide.{dec_lt}
 use lib.ListN.{length, get_or}
 use lib.Seq.{ext_get_or}
 use Rattle.specification.specs.Search.{ActiveAxis, spanSum}
 use Rattle.walk.specs.Walk.{axisWith, axesWith}
-use Rattle.search.specs.Longest.{FirstLongest, removeAt}
+use Rattle.search.specs.Longest.{removeAt}
 use Rattle.search.specs.Block.{Side, Blocked}
 use Rattle.search.proofs.Filling.{Upto}
 
@@ -17,48 +17,8 @@ use Rattle.search.proofs.Filling.{Upto}
 pub record Longest (es : List ℕ) (p j : ℕ) : Type 0 where
   pub is-in : p < length es
   pub before : p < j
-  pub le : j ≤ length es
   pub most : (k : ℕ) → k < j → get_or es k 0 ≤ get_or es p 0
   pub early : (k : ℕ) → k < p → get_or es k 0 < get_or es p 0
-
-pub longest-start : (es : List ℕ) → 0 < length es → Longest es 0 1
-longest-start es h = record {
-  is-in = h;
-  before = omega arith;
-  le = omega arith;
-  most = λ k l. let e : k ≡ 0 = omega arith in subst⁻¹ (λ (z : ℕ). get_or es z 0 ≤ get_or es 0 0) e (omega arith);
-  early = λ k l. absurd (omega arith);
-}
-
-module _ (es : List ℕ) (p j : ℕ) (b : Longest es p j) where
-  pub longest-new : j < length es → get_or es p 0 < get_or es j 0 → Longest es j (j + 1)
-  longest-new h l = record {
-    is-in = h;
-    before = omega arith;
-    le = omega arith;
-    most = λ k m. go k m (ℕ_discrete k j);
-    early = λ k m. omega (arith, b.most k m);
-  }
-    where
-      go : (k : ℕ) → k < j + 1 → Dec (k ≡ j) → get_or es k 0 ≤ get_or es j 0
-      go k m (yes e) = subst⁻¹ (λ (z : ℕ). get_or es z 0 ≤ get_or es j 0) e (omega arith)
-      go k m (no n) = omega (arith, b.most k (omega arith))
-
-  pub longest-old : j < length es → get_or es j 0 ≤ get_or es p 0 → Longest es p (j + 1)
-  longest-old h l = record {
-    is-in = b.is-in;
-    before = omega (arith, b.before);
-    le = omega arith;
-    most = λ k m. go k m (ℕ_discrete k j);
-    early = b.early;
-  }
-    where
-      go : (k : ℕ) → k < j + 1 → Dec (k ≡ j) → get_or es k 0 ≤ get_or es p 0
-      go k m (yes e) = subst⁻¹ (λ (z : ℕ). get_or es z 0 ≤ get_or es p 0) e l
-      go k m (no n) = b.most k (omega arith)
-
-  pub longest-end : length es ≤ j → FirstLongest es p
-  longest-end h = record { is-in = b.is-in; most = λ k l. b.most k (omega arith); early = b.early }
 
 -- ---- all but one
 

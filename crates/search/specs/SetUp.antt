@@ -1,5 +1,5 @@
 -- What the set-up of the walk makes.
-use Rattle.std.specs.Prelude.{◌≡◌, List, ℕ, ◌+◌, ◌*◌, ◌-◌, ◌<◌, ◌≤◌, length, get_or}
+use Rattle.std.specs.Prelude.{◌≡◌, List, ℕ, ◌+◌, ◌*◌, ◌-◌, ◌<◌, ◌≤◌, length, get_or, None, Option, Some}
 use Rattle.integer.specs.Congruence.{Congruent}
 use Rattle.specification.specs.Axis.{product}
 use Rattle.specification.specs.Search.{ActiveAxis}
@@ -8,13 +8,11 @@ use Rattle.walk.specs.Walk.{first, second, widthsOf}
 use Rattle.walk.specs.declared.TwoAxes.{TwoAxes}
 use Rattle.search.specs.Block.{plan_of, searchedOr}
 use Rattle.search.specs.declared.Searched.{Searched}
-use Rattle.search.specs.declared.Half.{Half}
-use Rattle.search.specs.declared.Half.TheVariants.{Within, Past}
 
 -- the box is 2 half + 1, and half is within the budget or past it
-abbrev pub Budget : List ℕ → Half → Type 0
-Budget es (Within half) = (2 * half + 1 ≡ product (widthsOf es)) × (half ≤ 4194304)
-Budget es Past = 2 * 4194304 + 1 < product (widthsOf es)
+abbrev pub Budget : List ℕ → Option ℕ → Type 0
+Budget es (Some half) = (2 * half + 1 ≡ product (widthsOf es)) × (half ≤ 4194304)
+Budget es None = 2 * 4194304 + 1 < product (widthsOf es)
 
 -- the walk is set up for these two, and solves for the first
 abbrev pub SetFor : ActiveAxis → ActiveAxis → TwoAxes → Type 0

@@ -24,23 +24,14 @@ pub enum Searched {
     Distinct(u64),
 }
 
-// Half, where it is within the budget.
-#[derive(Clone, Copy)]
-enum Half {
-    Within(u64),
-    Past,
-}
-
 // Step 4 with the greatest common divisor g of the strides: whether two axes of extents d1, d2 and strides s1, s2 tell their
 // index pairs apart. A collision is a difference of at least s2/g of the one and of s1/g of the other, and takes both.
 fn apart_by_quotients(d1: u64, s1: u64, d2: u64, s2: u64, g: u64) -> bool
-    requires { (0 < s1) × (g ≡ gcd s1 s2) }
+    requires moves { 0 < s1 }
+    requires divisor { g ≡ gcd s1 s2 }
     ensures { result ≡ twoDistinct (axisWith d1 s1) (axisWith d2 s2) }
 {
-    if d1 <= s2 / g {
-        return true;
-    }
-    d2 <= s1 / g
+    d1 <= s2 / g || d2 <= s1 / g
 }
 
 // Step 4.
@@ -53,22 +44,21 @@ pub fn two_axis_block_is_injective(d1: u64, s1: u64, d2: u64, s2: u64) -> bool
 }
 
 // Whether half is within the budget. It stops at the first product above: the box itself can pass a word.
-fn half_within(extents: &[u64]) -> Half
-    requires { PositiveExtents extents.now × Small extents.now }
+fn half_within(extents: &[u64]) -> Option<u64>
+    requires positive { PositiveExtents extents.now }
+    requires small { Small extents.now }
     ensures { Budget extents.now result }
 {
     let mut boxed: u64 = 1;
-    let mut j: usize = 0;
-    while j < extents.len() {
-        let middle = extents[j] - 1;
+    for &extent in extents {
+        let middle = extent - 1;
         let width = middle + middle + 1;
         if width > LARGEST_BOX / boxed {
-            return Half::Past;
+            return None;
         }
-        boxed = boxed * width;
-        j += 1;
+        boxed *= width;
     }
-    Half::Within(boxed / 2)
+    Some(boxed / 2)
 }
 
 // Step 5 with the two set apart: the budget, the two alone, then the walk over the others.
@@ -76,7 +66,7 @@ fn search_two(d1: u64, s1: u64, d2: u64, s2: u64, extents: &[u64], strides: &[u6
     requires { Blocked (axisWith d2 s2 ∷ axisWith d1 s1 ∷ []) extents.now strides.now }
     ensures { Answers result (axisWith d1 s1) (axisWith d2 s2) (axesWith extents.now strides.now) }
 {
-    let Half::Within(half) = half_within(extents) else {
+    let Some(half) = half_within(extents) else {
         return Searched::PastBudget;
     };
     let g = integer::gcd(s1, s2);
@@ -84,8 +74,7 @@ fn search_two(d1: u64, s1: u64, d2: u64, s2: u64, extents: &[u64], strides: &[u6
         return Searched::Repeated(0);
     }
     let two = set_up::couple(d1, s1, d2, s2, g);
-    let end = set_up::walk_others(two, half, extents, strides);
-    match end {
+    match set_up::walk_others(two, half, extents, strides) {
         walk::Found::At(count) => Searched::Repeated(count),
         walk::Found::Nowhere(count) => Searched::Distinct(count),
     }
@@ -97,13 +86,9 @@ fn longest(extents: &[u64]) -> usize
     ensures { FirstLongest extents.now result }
 {
     let mut best: usize = 0;
-    let mut j: usize = 1;
-    while j < extents.len() {
+    for j in 1..extents.len() {
         if extents[best] < extents[j] {
             best = j;
-            j += 1;
-        } else {
-            j += 1;
         }
     }
     best
@@ -111,18 +96,12 @@ fn longest(extents: &[u64]) -> usize
 
 // All but the number at place p, in order.
 fn without(numbers: &[u64], p: usize, out: &mut [u64])
-    requires { (length numbers.now ≡ length out.old + 1) × (p < length numbers.now) }
+    requires lengths { length numbers.now ≡ length out.old + 1 }
+    requires place { p < length numbers.now }
     ensures { out.new ≡ removeAt p numbers.now }
 {
-    let mut j: usize = 0;
-    while j < out.len() {
-        if j < p {
-            out[j] = numbers[j];
-            j += 1;
-        } else {
-            out[j] = numbers[j + 1];
-            j += 1;
-        }
+    for (j, kept) in out.iter_mut().enumerate() {
+        *kept = if j < p { numbers[j] } else { numbers[j + 1] };
     }
 }
 
@@ -135,7 +114,11 @@ fn search_apart(
     es2: &mut [u64],
     ss2: &mut [u64],
 ) -> Searched
-    requires { Blocked [] extents.now strides.now × (length extents.now ≡ length es1.old + 1) × (length extents.now ≡ length ss1.old + 1) × (length extents.now ≡ length es2.old + 2) × (length extents.now ≡ length ss2.old + 2) }
+    requires block { Blocked [] extents.now strides.now }
+    requires es1_length { length extents.now ≡ length es1.old + 1 }
+    requires ss1_length { length extents.now ≡ length ss1.old + 1 }
+    requires es2_length { length extents.now ≡ length es2.old + 2 }
+    requires ss2_length { length extents.now ≡ length ss2.old + 2 }
     ensures { AnswersBlocks extents.now strides.now result }
 {
     let p = longest(extents);

@@ -1,45 +1,12 @@
--- The value of a digit by range, and the bytes of the pairs by place.
+-- The bytes of the pairs by place.
 use mathlib.Core.List.{List, [], ◌∷◌}
 use mathlib.Core.Path.{◌≡◌, refl, sym, ap, ◌∙◌}
-use Prim.Native.Nat.{ℕ, zero, suc, ◌+◌, ◌-◌, ◌*◌, ◌≤◌, ◌<◌}
+use Prim.Native.Nat.{ℕ, zero, suc, ◌+◌, ◌*◌, ◌<◌}
 use native.Mathlib.Numerals.{add-one}
 use native.Mathlib.Omega.{arith}
-use borrow.Author.Tests.{le-leb, lt-leb}
 use lib.ListN.{length, get_or, take, drop, set}
 use lib.Seq.{take-suc, take-suc-set, drop-cons, drop-set-lt}
-use Rattle.spelling.specs.Hexadecimal.{digitOf, byte_of, bytes_of}
-
-module _ (byte : ℕ) where
-  pub digit-below : byte < 48 → digitOf byte ≡ 16
-  unfolding digitOf
-  digit-below h = rw (lt-leb 48 byte h, lt-leb 65 byte (omega arith), lt-leb 97 byte (omega arith))
-
-  pub digit-decimal : 48 ≤ byte → byte < 58 → digitOf byte ≡ byte - 48
-  unfolding digitOf
-  digit-decimal l h = rw (le-leb 48 byte l, le-leb byte 57 (omega arith))
-
-  pub digit-between : 58 ≤ byte → byte < 65 → digitOf byte ≡ 16
-  unfolding digitOf
-  digit-between l h = rw (le-leb 48 byte (omega arith), lt-leb byte 57 (omega arith), lt-leb 65 byte h, lt-leb 97 byte (omega arith))
-
-  pub digit-upper : 65 ≤ byte → byte < 71 → digitOf byte ≡ byte - 65 + 10
-  unfolding digitOf
-  digit-upper l h = rw (le-leb 48 byte (omega arith), lt-leb byte 57 (omega arith), le-leb 65 byte l, le-leb byte 70 (omega arith))
-
-  pub digit-before-lower : 71 ≤ byte → byte < 97 → digitOf byte ≡ 16
-  unfolding digitOf
-  digit-before-lower l h =
-      rw (le-leb 48 byte (omega arith), lt-leb byte 57 (omega arith), le-leb 65 byte (omega arith), lt-leb byte 70 (omega arith), lt-leb 97 byte h)
-
-  pub digit-lower : 97 ≤ byte → byte < 103 → digitOf byte ≡ byte - 97 + 10
-  unfolding digitOf
-  digit-lower l h =
-      rw (le-leb 48 byte (omega arith), lt-leb byte 57 (omega arith), le-leb 65 byte (omega arith), lt-leb byte 70 (omega arith), le-leb 97 byte l, le-leb byte 102 (omega arith))
-
-  pub digit-above : 103 ≤ byte → digitOf byte ≡ 16
-  unfolding digitOf
-  digit-above l =
-      rw (le-leb 48 byte (omega arith), lt-leb byte 57 (omega arith), le-leb 65 byte (omega arith), lt-leb byte 70 (omega arith), le-leb 97 byte (omega arith), lt-leb byte 102 (omega arith))
+use Rattle.spelling.specs.Hexadecimal.{byte_of, bytes_of}
 
 -- byte i is that of digits 2i and 2i + 1
 pub byte_at : (text : List ℕ) (i : ℕ) → 2 * i + 1 < length text → (i < length (bytes_of text)) × (get_or (bytes_of text) i 0 ≡ byte_of (get_or text (2 * i) 0) (get_or text (2 * i + 1) 0))

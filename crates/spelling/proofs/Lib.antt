@@ -1,2 +1,3 @@
 pub mod HexadecimalLaws
 pub mod NumberLaws
+pub mod SomeLaws

@@ -1,4 +1,5 @@
 -- Digits read one by one: what is spelled so far, with what is left, spells the whole.
+use Rattle.std.specs.Prelude.{None, Option, Some}
 use mathlib.Core.Bool.{true, false}
 use mathlib.Core.List.{List, [], ◌∷◌}
 use mathlib.Core.Path.{◌≡◌}
@@ -11,9 +12,6 @@ use lib.Seq.{drop-cons, take_all}
 use Rattle.specification.specs.Tests.{some}
 use Rattle.specification.proofs.ReachLaws.{or-false}
 use Rattle.spelling.specs.Number.{notDigit, spelledFrom, unsignedOf, signed_of, negativeOf, positiveOf}
-use Rattle.spelling.specs.declared.number.Unsigned.{Unsigned}
-use Rattle.spelling.specs.declared.number.Unsigned.TheVariants.{Is, Not}
-use Rattle.integer.specs.declared.signed.Checked.TheVariants.{Over}
 
 -- a byte that is a digit
 pub digit-bounds : (byte : ℕ) → notDigit byte ≡ false → (48 ≤ byte) × (byte ≤ 57)
@@ -44,33 +42,33 @@ module _ (text : List ℕ) (i : ℕ) where
   spelled-over n h so_far over = omega (arith, spelled-on n h, spelled-least (n * 10 + (get_or text i 0 - 48)) (drop (i + 1) text))
 
 module _ (text : List ℕ) where
-  pub unsigned-empty : length text ≡ 0 → unsignedOf text ≡ Not
+  pub unsigned-empty : length text ≡ 0 → unsignedOf text ≡ None
   unfolding unsignedOf
   unsigned-empty h = rw (eq-eqb _ _ h)
 
-  pub signed-empty : length text ≡ 0 → signed_of text ≡ Over
+  pub signed-empty : length text ≡ 0 → signed_of text ≡ None
   unfolding signed_of
   signed-empty h = rw (eq-eqb _ _ h)
 
   module _ (some_byte : length text ≡ 0 → ⊥) where
-    pub unsigned-other : some notDigit text ≡ true → unsignedOf text ≡ Not
+    pub unsigned-other : some notDigit text ≡ true → unsignedOf text ≡ None
     unfolding unsignedOf
     unsigned-other h = rw (ne_eqb _ _ some_byte, h)
 
-    pub unsigned-over : some notDigit text ≡ false → 2 ^ 64 ≤ spelledFrom 0 text → unsignedOf text ≡ Not
+    pub unsigned-over : some notDigit text ≡ false → 2 ^ 64 ≤ spelledFrom 0 text → unsignedOf text ≡ None
     unfolding unsignedOf
     unsigned-over d h = rw (ne_eqb _ _ some_byte, d, le-ltb _ _ h)
 
-    pub unsigned_is : some notDigit text ≡ false → spelledFrom 0 text < 2 ^ 64 → unsignedOf text ≡ Is (spelledFrom 0 text)
+    pub unsigned_is : some notDigit text ≡ false → spelledFrom 0 text < 2 ^ 64 → unsignedOf text ≡ Some (spelledFrom 0 text)
     unfolding unsignedOf
     unsigned_is d h = rw (ne_eqb _ _ some_byte, d, lt-ltb _ _ h)
 
-    pub signed-negative : (u : Unsigned) → get_or text 0 0 ≡ 45 → unsignedOf (take (length text - 1) (drop 1 text)) ≡ u → signed_of text ≡ negativeOf u
+    pub signed-negative : (u : Option ℕ) → get_or text 0 0 ≡ 45 → unsignedOf (take (length text - 1) (drop 1 text)) ≡ u → signed_of text ≡ negativeOf u
     unfolding signed_of
     signed-negative u sign e =
         let whole : length (drop 1 text) ≤ length text - 1 = omega (arith, length-drop 1 text) in
         rw (ne_eqb _ _ some_byte, eq-eqb _ _ sign, ← e, take_all (length text - 1) (drop 1 text) whole)
 
-    pub signed-positive : (u : Unsigned) → (get_or text 0 0 ≡ 45 → ⊥) → unsignedOf text ≡ u → signed_of text ≡ positiveOf u
+    pub signed-positive : (u : Option ℕ) → (get_or text 0 0 ≡ 45 → ⊥) → unsignedOf text ≡ u → signed_of text ≡ positiveOf u
     unfolding signed_of
     signed-positive u sign e = rw (ne_eqb _ _ some_byte, ne_eqb _ _ sign, ← e)

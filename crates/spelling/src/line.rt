@@ -6,16 +6,10 @@ pub fn gather(line: &mut [u8], filled: usize, part: &[u8]) -> usize
     ensures { Gathered line.old filled part.now line.new result }
 {
     let room = line.len();
-    if room < filled {
+    if room < filled || room - filled < part.len() {
         return room + 1;
     }
-    if room - filled < part.len() {
-        return room + 1;
-    }
-    let mut i = 0;
-    while i < part.len() {
-        line[filled + i] = part[i];
-        i += 1;
-    }
-    filled + part.len()
+    let end = filled + part.len();
+    line[filled..end].copy_from_slice(part);
+    end
 }

@@ -3,85 +3,64 @@ ghost use Rattle.std.specs.Prelude.{◌≡◌, ◌<◌};
 ghost use Rattle.specification.specs.Tests.{some};
 ghost use Rattle.spelling.specs.Number.{notDigit, unsignedOf, signed_of};
 
-use integer::signed::{Checked, checked_negative, checked_positive};
+use integer::signed::{checked_negative, checked_positive};
 
-// A number that a u64 holds, or none.
-#[derive(Clone, Copy)]
-pub enum Unsigned {
-    Is(u64),
-    Not,
-}
-
-fn wide(x: u8) -> u64
-    ensures { (result ≡ x) × (result < 256) }
-{
-    x as u64
-}
+// The sign in front of a negative number.
+const MINUS: u8 = b'-';
 
 fn not_digit(byte: u8) -> bool
     ensures { result ≡ notDigit byte }
 {
-    if byte < 48 { true } else { 57 < byte }
+    byte < b'0' || b'9' < byte
 }
 
 // Whether some byte is no decimal digit.
 fn some_not_digit(text: &[u8]) -> bool
     ensures { result ≡ some notDigit text.now }
 {
-    let mut i = 0;
-    while i < text.len() {
-        if not_digit(text[i]) {
-            return true;
-        }
-        i += 1;
-    }
-    false
+    text.iter().any(|&byte| not_digit(byte))
 }
 
 // The number that the bytes spell, where they are digits, at least one, and a u64 holds it.
-pub fn read_unsigned(text: &[u8]) -> Unsigned
+pub fn read_unsigned(text: &[u8]) -> Option<u64>
     ensures { result ≡ unsignedOf text.now }
 {
-    if text.len() == 0 {
-        return Unsigned::Not;
+    if text.is_empty() {
+        return None;
     }
     if some_not_digit(text) {
-        return Unsigned::Not;
+        return None;
     }
     let mut sum: u64 = 0;
-    let mut i = 0;
-    while i < text.len() {
-        let digit = wide(text[i]) - 48;
-        if 1844674407370955161 < sum {
-            return Unsigned::Not;
+    for &byte in text {
+        let digit = u64::from(byte - b'0');
+        if u64::MAX / 10 < sum {
+            return None;
         }
-        if 18446744073709551615 - digit < sum * 10 {
-            return Unsigned::Not;
+        if u64::MAX - digit < sum * 10 {
+            return None;
         }
         sum = sum * 10 + digit;
-        i += 1;
     }
-    Unsigned::Is(sum)
+    Some(sum)
 }
 
 // The number that a text of digits spells, with `-` in front of a negative one, where an i64 holds it; `Over` for any other text.
-pub fn read_signed(text: &[u8]) -> Checked
+pub fn read_signed(text: &[u8]) -> Option<i64>
     ensures { result ≡ signed_of text.now }
 {
-    if text.len() == 0 {
-        return Checked::Over;
+    if text.is_empty() {
+        return None;
     }
-    if text[0] == b'-' {
-        let size = read_unsigned(&text[1..]);
-        match size {
-            Unsigned::Is(n) => checked_negative(n),
-            Unsigned::Not => Checked::Over,
+    if text[0] == MINUS {
+        match read_unsigned(&text[1..]) {
+            Some(n) => checked_negative(n),
+            None => None,
         }
     } else {
-        let size = read_unsigned(text);
-        match size {
-            Unsigned::Is(n) => checked_positive(n),
-            Unsigned::Not => Checked::Over,
+        match read_unsigned(text) {
+            Some(n) => checked_positive(n),
+            None => None,
         }
     }
 }

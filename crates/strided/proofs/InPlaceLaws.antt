@@ -1,4 +1,6 @@
 -- A view that was made in the two buffers of a layout, in the words of its axes, is what crosses.
+use Rattle.view.specs.declared.layout.Refusal.{Refusal}
+use Rattle.std.specs.Prelude.{Err, Ok, Result}
 use Rattle.std.proofs.Common.{true, List, [], ◌∷◌, ◌≡◌, refl, ap, ◌∙◌, ℕ, ◌+◌, ◌-◌, ◌<◌, ◌≤◌, ℤ, pos, length, get_or, take, drop, set, arith}
 use Rattle.std.proofs.Math.Nat.{add-sub_cancel}
 use Rattle.std.proofs.lemmas.List.{length-take, length-drop, take-take}
@@ -8,8 +10,6 @@ use Rattle.specification.specs.Outcome.{Check, ◌>>◌}
 use Rattle.specification.specs.Views.{After, unlessRefused}
 use Rattle.view.specs.InPlace.{LeftInPlace}
 use Rattle.view.specs.Model.{axesIn, modelFrom}
-use Rattle.view.specs.declared.layout.RankAfter.{RankAfter}
-use Rattle.view.specs.declared.layout.RankAfter.TheVariants.{Is, Refused}
 use Rattle.view.proofs.HandedLaws.{handed-many-axes}
 use Rattle.view.proofs.ModelLaws.{axesOf-take, length-axesIn}
 use Rattle.flat.specs.Flat.{holdsView, modelOfFlat, Stored}
@@ -49,12 +49,12 @@ viewed-too-many {numbers} {steps} held list next new many =
     (record { crossed = record { answer-is = refl; layout_is = (refl, refl) }; values-are = refl })
 
 -- what a view left in the words of the axes, as many as the rank says, and what is answered to it
-pub viewed-in-place : {told : RankAfter} {numbers : List ℕ} {steps : List ℤ} {values es : List ℕ} {ss : List ℤ} {offset : ℤ} {numbers-then values-then : List ℕ} {answer : ℕ}
+pub viewed-in-place : {told : Result ℕ Refusal} {numbers : List ℕ} {steps : List ℤ} {values es : List ℕ} {ss : List ℤ} {offset : ℤ} {numbers-then values-then : List ℕ} {answer : ℕ}
     (view : LayoutM → After) → holdsView (length numbers) (length steps) (length values) ≡ true → get_or numbers 1 0 ≤ 16 → offset ≡ get_or steps 0 (pos 0)
     → let k = (get_or numbers 1 0 + 2) - 2 in let j = (get_or numbers 1 0 + 1) - 1 in let lent = mid_of 2 k numbers in let stepped = mid_of 1 j steps in
     length es ≡ length lent → length ss ≡ length stepped → LeftInPlace (get_or numbers 0 0) offset lent stepped es ss told (view (modelFrom (get_or numbers 0 0) offset lent stepped))
     → Answered told (put_mid 2 k numbers es) values numbers-then values-then answer → Viewing view numbers steps values numbers-then (put_mid 1 j steps ss) values-then answer
-viewed-in-place {told = Is rank} {numbers = numbers} {steps = steps} {values = values} {es = es} {ss = ss} {offset = offset} view held few is wide long left answered =
+viewed-in-place {told = Ok rank} {numbers = numbers} {steps = steps} {values = values} {es = es} {ss = ss} {offset = offset} view held few is wide long left answered =
     let r = view-room (length numbers) (length steps) (length values) held in
     let k = (get_or numbers 1 0 + 2) - 2 in
     let j = (get_or numbers 1 0 + 1) - 1 in
@@ -67,7 +67,7 @@ viewed-in-place {told = Is rank} {numbers = numbers} {steps = steps} {values = v
       };
       values-are = answered.2;
     })
-viewed-in-place {told = Refused why} {numbers = numbers} {steps = steps} {values = values} {offset = offset} view held few is wide long left answered =
+viewed-in-place {told = Err why} {numbers = numbers} {steps = steps} {values = values} {offset = offset} view held few is wide long left answered =
     let r = view-room (length numbers) (length steps) (length values) held in
     rw (held, ← (left.after_is ∙ ap view (model-lent numbers steps offset r.0.0 r.0.1 few is)), answered.1, left.kept_in.0, left.kept_in.1) (record {
       crossed = record { answer-is = answered.0; layout_is = (put_same 2 _ numbers, put_same 1 _ steps) };
@@ -79,7 +79,3 @@ viewed-in-place {told = Refused why} {numbers = numbers} {steps = steps} {values
 pub words-there : (numbers : List ℕ) (steps : List ℤ) (values : List ℕ) → holdsView (length numbers) (length steps) (length values) ≡ true → get_or numbers 1 0 ≤ 16
     → ((get_or numbers 1 0 + 2 ≤ length numbers) × (get_or numbers 1 0 + 1 ≤ length steps)) × (2 ≤ length values)
 words-there numbers steps values held few = let r = view-room (length numbers) (length steps) (length values) held in ((omega arith, omega arith), r.1)
-
-pub words_back : (numbers : List ℕ) (steps : List ℤ) (values : List ℕ) → holdsView (length numbers) (length steps) (length values) ≡ true
-    → (es : List ℕ) → let k = (get_or numbers 1 0 + 2) - 2 in length es ≡ length (mid_of 2 k numbers) → 2 ≤ length (put_mid 2 k numbers es)
-words_back numbers steps values held es wide = let r = view-room (length numbers) (length steps) (length values) held in rw same_len_mid (omega arith)

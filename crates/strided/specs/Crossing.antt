@@ -1,12 +1,11 @@
 -- What crosses the boundary: for an outcome its number, the values returned, and what the lent memory holds afterwards.
 -- A buffer that is too short for its part is one refusal more, 255, without values; in every call it comes before the others.
-use Rattle.std.specs.Prelude.{Bool, true, false, List, [], ◌++◌, ◌≡◌, ℕ, ℤ, length, drop, set}
+use Rattle.view.specs.declared.layout.Refusal.{Refusal}
+use Rattle.std.specs.Prelude.{Bool, true, false, List, [], ◌++◌, ◌≡◌, ℕ, ℤ, length, drop, set, Err, Ok, Result}
 use Rattle.specification.specs.Outcome.{Outcome, Check, done, refused}
 use Rattle.specification.specs.Layout.{LayoutM}
 use Rattle.specification.specs.Views.{After}
 use Rattle.view.specs.Answers.{number_of, values_of}
-use Rattle.view.specs.declared.layout.RankAfter.{RankAfter}
-use Rattle.view.specs.declared.layout.RankAfter.TheVariants.{Is, Refused}
 use Rattle.flat.specs.Flat.{holdsLayout, holdsView, modelOfFlat, Stored}
 use Rattle.flat.specs.Number.{answerNumber}
 
@@ -54,9 +53,9 @@ pub record CrossedWithValues (outcome : Outcome LayoutM) (numbers : List ℕ) (s
   pub values-are : values-then ≡ valuesAfter outcome values
 
 -- what a view that was made in the buffers answers: the rank in its word, or the number and the values of the refusal
-abbrev pub Answered : RankAfter → List ℕ → List ℕ → List ℕ → List ℕ → ℕ → Type 0
-Answered (Is rank) numbers values numbers-then values-then answer = (answer ≡ 0) × (numbers-then ≡ set numbers 1 rank) × (values-then ≡ values)
-Answered (Refused why) numbers values numbers-then values-then answer = (answer ≡ number_of why) × (numbers-then ≡ numbers) × (values-then ≡ values_of why ++ drop (length (values_of why)) values)
+abbrev pub Answered : Result ℕ Refusal → List ℕ → List ℕ → List ℕ → List ℕ → ℕ → Type 0
+Answered (Ok rank) numbers values numbers-then values-then answer = (answer ≡ 0) × (numbers-then ≡ set numbers 1 rank) × (values-then ≡ values)
+Answered (Err why) numbers values numbers-then values-then answer = (answer ≡ number_of why) × (numbers-then ≡ numbers) × (values-then ≡ values_of why ++ drop (length (values_of why)) values)
 
 -- a view of the layout that two buffers hold: what crosses, by the definition of the view
 abbrev pub Viewing : (LayoutM → After) → List ℕ → List ℤ → List ℕ → List ℕ → List ℤ → List ℕ → ℕ → Type 0

@@ -14,8 +14,7 @@ use dense::{Dense, checked_col_major_strides, checked_row_major_strides};
 use flat::buffers::{holds_view, layout_in};
 use flat::refusals::{number_of, refuse};
 use view::bounds::validate_bounds;
-use view::layout::{Answer, ReadingOffset};
-use view::offset::Indexed;
+use view::layout::ReadingOffset;
 
 // Check-in's answer without the layout.
 #[unsafe(no_mangle)]
@@ -48,12 +47,12 @@ pub extern "C" fn strided_indexed_offset(
     let layout = layout_in(numbers, steps);
     let indexed = layout.indexed_offset(index);
     match indexed {
-        Indexed::At(at) => {
+        Ok(at) => {
             let place = at.0;
             *offset = place;
             0
         }
-        Indexed::Refused(why) => refuse(why, values),
+        Err(why) => refuse(why, values),
     }
 }
 
@@ -86,8 +85,8 @@ fn answer_dense(dense: Dense, count: usize, strides: &mut [i64]) -> u8
 {
     let answer = dense.answer;
     match answer {
-        Answer::Refused(why) => why.number(),
-        Answer::Done => {
+        Err(why) => why.number(),
+        Ok(()) => {
             let from = dense.strides;
             store_strides(from, count, strides);
             0

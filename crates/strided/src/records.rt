@@ -7,23 +7,25 @@ ghost use Rattle.strided.specs.Crossing.{ifRoom};
 ghost use Rattle.strided.specs.Calls.{WroteAfter, RecordWritten, layoutRead, RecordRead, Behind};
 
 use crate::views::answer_viewed;
+use big_endian::BytePlace;
 use flat::buffers::{holds_view, layout_in};
 use flat::refusals::refuse;
 use record::read::read_record;
 use record::step::step_over;
-use record::writer::{Wrote, write_record};
+use record::writer::write_record;
+use view::layout::Refusal;
 
 // The bytes written in the first place, or the refusal.
-fn answer_wrote(wrote: Wrote, values: &mut [u64]) -> u8
+fn answer_wrote(wrote: Result<BytePlace, Refusal>, values: &mut [u64]) -> u8
     requires { 2 ≤ length values.old }
     ensures { WroteAfter (wroteOf wrote) values.old values.new result }
 {
     match wrote {
-        Wrote::Upto(place) => {
+        Ok(place) => {
             values[0] = place.0 as u64;
             0
         }
-        Wrote::Refused(why) => refuse(why, values),
+        Err(why) => refuse(why, values),
     }
 }
 

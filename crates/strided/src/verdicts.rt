@@ -1,12 +1,13 @@
 // The verdict.
 ghost use Rattle.std.specs.Prelude.{◌&&◌, ◌∷◌, ◌≡◌, ◌≤◌, leb, length, drop};
 ghost use Rattle.specification.specs.Verdict.{verdict};
-ghost use Rattle.injectivity.specs.Judgement.{outcomeOf};
+ghost use Rattle.injectivity.specs.Judgement.{judgedOf};
 ghost use Rattle.strided.specs.Crossing.{ifRoom};
 ghost use Rattle.strided.specs.Calls.{ToldAfter, Judging};
 
 use flat::refusals::refuse;
 use injectivity::{Judgement, is_injective_layout};
+use view::layout::Refusal;
 
 // A verdict's number and its count.
 fn put_found(found: &mut [u64], verdict: u64, count: u64)
@@ -18,24 +19,24 @@ fn put_found(found: &mut [u64], verdict: u64, count: u64)
 }
 
 // 1 Distinct, 2 Repeated, 3 Undecided, with the count; or the refusal.
-fn answer_judgement(judged: Judgement, found: &mut [u64], values: &mut [u64]) -> u8
+fn answer_judgement(judged: Result<Judgement, Refusal>, found: &mut [u64], values: &mut [u64]) -> u8
     requires { (2 ≤ length found.old) × (2 ≤ length values.old) }
-    ensures { ToldAfter (outcomeOf judged) found.old values.old found.new values.new result }
+    ensures { ToldAfter (judgedOf judged) found.old values.old found.new values.new result }
 {
     match judged {
-        Judgement::Distinct(count) => {
+        Ok(Judgement::Distinct(count)) => {
             put_found(found, 1, count);
             0
         }
-        Judgement::Repeated(count) => {
+        Ok(Judgement::Repeated(count)) => {
             put_found(found, 2, count);
             0
         }
-        Judgement::Undecided => {
+        Ok(Judgement::Undecided) => {
             put_found(found, 3, 0);
             0
         }
-        Judgement::Refused(why) => refuse(why, values),
+        Err(why) => refuse(why, values),
     }
 }
 

@@ -12,7 +12,7 @@ use flat::refusals::refuse;
 use record::normal::normal_form;
 use view::bounds::validate_bounds;
 use view::broadcast::broadcast_in_place;
-use view::layout::{Answer, RankAfter, ReadingOffset, Viewed};
+use view::layout::{ReadingOffset, Refusal, Viewed};
 use view::numbers::diagonal_in_place;
 use view::permute::permute_in_place;
 
@@ -23,8 +23,8 @@ fn store_viewed(viewed: Viewed, numbers: &mut [u64], steps: &mut [i64]) -> u8
 {
     let answer = viewed.answer;
     match answer {
-        Answer::Refused(why) => why.number(),
-        Answer::Done => {
+        Err(why) => why.number(),
+        Ok(()) => {
             let layout = viewed.layout;
             store_layout(layout, numbers, steps);
             0
@@ -44,8 +44,8 @@ pub fn answer_viewed(
 {
     let answer = viewed.answer;
     match answer {
-        Answer::Refused(why) => refuse(why, values),
-        Answer::Done => {
+        Err(why) => refuse(why, values),
+        Ok(()) => {
             let layout = viewed.layout;
             store_layout(layout, numbers, steps);
             0
@@ -54,13 +54,13 @@ pub fn answer_viewed(
 }
 
 // The rank after a view that was made in the buffers; on a refusal its number and its values.
-fn answer_in_place(after: RankAfter, numbers: &mut [u64], values: &mut [u64]) -> u8
+fn answer_in_place(after: Result<usize, Refusal>, numbers: &mut [u64], values: &mut [u64]) -> u8
     requires { (2 ≤ length numbers.old) × (2 ≤ length values.old) }
     ensures { Answered after numbers.old values.old numbers.new values.new result }
 {
     match after {
-        RankAfter::Refused(why) => refuse(why, values),
-        RankAfter::Is(rank) => {
+        Err(why) => refuse(why, values),
+        Ok(rank) => {
             numbers[1] = rank as u64;
             0
         }
@@ -85,8 +85,8 @@ pub extern "C" fn strided_new(
     let from = ReadingOffset(offset);
     let answer = validate_bounds(len, from, extents, strides);
     match answer {
-        Answer::Refused(why) => why.number(),
-        Answer::Done => {
+        Err(why) => why.number(),
+        Ok(()) => {
             store_lists(numbers, steps, len, from, extents, strides);
             0
         }

@@ -1,16 +1,17 @@
 -- The reach of a layout by its offset and the two sums of spans, and what it says of check-in's refusal 3.
 use Rattle.std.specs.Prelude.{if◌then◌else◌}
+use Rattle.std.specs.List.{list_any, list_all}
 use mathlib.Core.Path.{◌≡◌, refl, sym, ap, ◌∙◌, subst}
-use mathlib.Core.Bool.{Bool, true, false, not, ◌&&◌, and-false}
+use mathlib.Core.Bool.{Bool, true, false, not, ◌&&◌, ◌||◌, and-false}
 use mathlib.Core.List.{List, [], ◌∷◌}
 use mathlib.Core.Logic.{◌⊎◌, inl, inr}
 use Prim.Native.Nat.{ℕ, ◌+◌, ◌-◌, ◌≤◌, ◌<◌}
 use native.Mathlib.Omega.{arith}
-use lib.Dec.{T, eqb, ltb}
-use lib.IntN.{ℤ, pos}
+use lib.Dec.{T, eqb, leb, ltb}
+use lib.IntN.{ℤ, nat_abs, pos}
 use lib.ListN.{length}
 use lib.Signed.{le_z, lt_z}
-use borrow.Author.Tests.{lt-ltb, le-ltb, not-true}
+use borrow.Author.Tests.{lt-ltb, le-ltb, leb-true, leb-false, not-true}
 use mir.Syntax.{w64}
 use mir.Val.{SFits}
 use mir.ValLaws.{to_z-of_z}
@@ -60,9 +61,11 @@ neither-left es e =
     (not-true (zeroAmong es) p.0, not-true (some tooWideExtent es) p.1)
 
 -- an offset that is not below 0 is its positive part
-pub base-told : {offset : ℤ} {base : ℕ} → SFits w64 offset → lt_z (readBack offset) (pos 0) ≡ false → base ≡ posPart (readBack offset)
+pub base-told : {offset : ℤ} {base : ℕ} → SFits w64 offset → lt_z (readBack offset) (pos 0) ≡ false → base ≡ nat_abs (readBack offset)
     → (base ≡ posPart offset) × (negPart offset ≡ 0)
-base-told {offset} f above e = (e ∙ ap posPart (to_z-of_z w64 offset f), (nonnegative-tested offset f above).no-negative)
+base-told {offset} f above e =
+    let n = nonnegative-tested offset f above in
+    (e ∙ ap nat_abs (to_z-of_z w64 offset f) ∙ n.size, n.no-negative)
 
 -- ---- a layout that is not empty
 
@@ -124,6 +127,24 @@ wide-extent n h = rw (lt-ltb 1 n (omega arith), lt-ltb mostSigned (n - 1) (omega
 
 pub narrow-extent : (n : ℕ) → n ≤ 9223372036854775808 → tooWideExtent n ≡ false
 narrow-extent n h = rw (le-ltb mostSigned (n - 1) (omega arith)) (and-false (ltb 1 n))
+
+-- ---- the tests of extents as chains ask them
+
+pub any-some : (test : ℕ → Bool) (es : List ℕ) → list_any test es ≡ some test es
+unfolding some
+any-some test [] = refl
+any-some test (n ∷ es) = rw (any-some test es)
+
+pub all-ordinary : (es : List ℕ) → list_all (λ n. not (eqb n 0) && leb n 9223372036854775808) es ≡ (not (zeroAmong es) && not (some tooWideExtent es))
+unfolding some
+all-ordinary [] = refl
+all-ordinary (n ∷ es) = rw (all-ordinary es) (by (eqb n 0) (leb n 9223372036854775808) (zeroAmong es) (some tooWideExtent es) refl)
+  where
+    by : (zero narrow zeros wides : Bool) → leb n 9223372036854775808 ≡ narrow
+        → ((not zero && narrow) && (not zeros && not wides)) ≡ (not (zero || zeros) && not (tooWideExtent n || wides))
+    by true narrow zeros wides e = refl
+    by false true zeros wides e = rw (narrow-extent n (leb-true n 9223372036854775808 e))
+    by false false zeros wides e = rw (wide-extent n (leb-false n 9223372036854775808 e)) (sym (and-false (not zeros)))
 
 -- ---- what the reach says of check-in
 

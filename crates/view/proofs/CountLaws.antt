@@ -1,5 +1,5 @@
 -- A product of extents, factor by factor, and what it says of the number of positions.
-use Rattle.std.specs.Prelude.{if◌then◌else◌}
+use Rattle.std.specs.Prelude.{if◌then◌else◌, Err, Ok, Result}
 use mathlib.Core.Path.{◌≡◌, refl, sym, ap, subst, ◌∙◌}
 use mathlib.Core.Bool.{Bool, true, false, not, ◌&&◌, ◌||◌, and-false}
 use mathlib.Core.List.{List, [], ◌∷◌}
@@ -18,10 +18,8 @@ use Rattle.specification.specs.Axis.{Axis, extents, product, positions, is_empty
 use Rattle.specification.specs.Beside.{zeroAmong}
 use Rattle.specification.specs.Normal.{overfull}
 use Rattle.specification.proofs.OutcomeLaws.{clash, passed, done_inj, refused-inj}
-use Rattle.view.specs.Answers.{number_of, values_of}
-use Rattle.view.specs.Count.{countTold, elementCount, count_of}
-use Rattle.view.specs.declared.count.Count.{Count}
-use Rattle.view.specs.declared.count.Count.TheVariants.{Of, Refused}
+use Rattle.view.specs.Answers.{number_of, values_of, outcomeOf}
+use Rattle.view.specs.Count.{elementCount, count_of}
 use Rattle.view.specs.declared.layout.Refusal.{Refusal}
 
 -- ---- a product
@@ -105,15 +103,15 @@ element-count-of-axes axes few =
     by false t = refl
 
 -- what an answer says of the axes
-module _ (axes : List Axis) {r : Count} (told : countTold r ≡ count_of axes) where
-  pub counted-refused : {why : Refusal} → r ≡ Refused why → (overfull axes ≡ true) × (◌≡◌ {A = Check} (refused (number_of why) (values_of why)) (refused 8 []))
+module _ (axes : List Axis) {r : Result ℕ Refusal} (told : outcomeOf r ≡ count_of axes) where
+  pub counted-refused : {why : Refusal} → r ≡ Err why → (overfull axes ≡ true) × (◌≡◌ {A = Check} (refused (number_of why) (values_of why)) (refused 8 []))
   unfolding count_of refuseIf ◌>>◌
-  counted-refused {why} q = by (overfull axes) refl (sym (ap countTold q) ∙ told)
+  counted-refused {why} q = by (overfull axes) refl (sym (ap outcomeOf q) ∙ told)
     where
       by : (t : Bool) → overfull axes ≡ t → refused (number_of why) (values_of why) ≡ count_of axes → (t ≡ true) × (◌≡◌ {A = Check} (refused (number_of why) (values_of why)) (refused 8 []))
       by true e p = let w = refused-inj (rw e at p) in (refl, rw (w.0, w.1))
       by false e p = absurd (clash (sym (rw e at p)))
 
-  pub counted_is : {n : ℕ} → r ≡ Of n → (overfull axes ≡ false) × (positions axes ≡ n)
+  pub counted_is : {n : ℕ} → r ≡ Ok n → (overfull axes ≡ false) × (positions axes ≡ n)
   unfolding count_of
-  counted_is q = let p = passed (overfull axes) 8 [] (sym told ∙ ap countTold q) in (p.0, done_inj p.1)
+  counted_is q = let p = passed (overfull axes) 8 [] (sym told ∙ ap outcomeOf q) in (p.0, done_inj p.1)

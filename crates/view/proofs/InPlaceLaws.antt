@@ -1,4 +1,6 @@
 -- A view of a layout in place, in the first entries of its arrays, is the view of the layout.
+use Rattle.view.specs.declared.layout.Refusal.{Refusal}
+use Rattle.std.specs.Prelude.{Err, Ok, Result}
 use mathlib.Core.List.{List, [], ◌++◌}
 use mathlib.Core.Path.{◌≡◌}
 use Prim.Native.Nat.{ℕ, ◌≤◌, ◌<◌}
@@ -12,8 +14,6 @@ use Rattle.specification.specs.Views.{After, unlessRefused}
 use Rattle.view.specs.InPlace.{afterIn, LeftInPlace}
 use Rattle.view.specs.Model.{axisOf, axesIn, modelOf, modelFrom}
 use Rattle.view.specs.declared.layout.Layout.{Layout}
-use Rattle.view.specs.declared.layout.RankAfter.{RankAfter}
-use Rattle.view.specs.declared.layout.RankAfter.TheVariants.{Is, Refused}
 use Rattle.view.proofs.HandedLaws.{handed-many-axes}
 use Rattle.view.proofs.ListedLaws.{rank-modelOf}
 use Rattle.view.proofs.ModelLaws.{Lent, axisOf-front}
@@ -31,9 +31,9 @@ too-many-axes l list next new h = rw (handed-many-axes (modelOf l) list (omega (
 
 module _ (l : Layout) (view : LayoutM → After) (es : List ℕ) (ss : List ℤ) where
   -- the first entries of the arrays were lent, and came back as two other lists
-  pub left-in-arrays : (told : RankAfter) → Lent l → length es ≡ length (take l.rank l.extents) → length ss ≡ length (take l.rank l.strides)
+  pub left-in-arrays : (told : Result ℕ Refusal) → Lent l → length es ≡ length (take l.rank l.extents) → length ss ≡ length (take l.rank l.strides)
       → LeftInPlace l.len l.offset.0 (take l.rank l.extents) (take l.rank l.strides) es ss told (view (modelFrom l.len l.offset.0 (take l.rank l.extents) (take l.rank l.strides)))
       → afterIn (modelOf l) (es ++ drop l.rank l.extents) (ss ++ drop l.rank l.strides) told ≡ view (modelOf l)
-  left-in-arrays (Is rank) lent h k left =
+  left-in-arrays (Ok rank) lent h k left =
       rw (axesIn-front es (drop l.rank l.extents) ss (drop l.rank l.strides) rank left.kept_in (omega (arith, left.kept_in, lent.alike)), ← lent.axes-are) left.after_is
-  left-in-arrays (Refused why) lent h k left = rw (← lent.axes-are) left.after_is
+  left-in-arrays (Err why) lent h k left = rw (← lent.axes-are) left.after_is

@@ -62,6 +62,12 @@ axesIn-axesOf es ss n h k =
     (λ i l. let b : i < n = omega (arith, length-axesIn es ss n) in
     axisAt-axesIn es ss n i b ∙ sym (axisAt-axesOf es ss i (omega arith) (omega arith)))
 
+-- two lists put before what two arrays held
+pub axesIn-front : (es es' : List ℕ) (ss ss' : List ℤ) → length ss ≡ length es → axesIn (es ++ es') (ss ++ ss') (length es) ≡ axesOf es ss
+axesIn-front es es' ss ss' h =
+    table-ext (axisOf (es ++ es') (ss ++ ss')) (axisOf es ss) (length es) (λ i l. axisOf-front es es' ss ss' i l (omega arith))
+    ∙ axesIn-axesOf es ss (length es) refl h
+
 -- the first n entries of two arrays hold these axes
 pub axesOf-take : (es : List ℕ) (ss : List ℤ) (n : ℕ) → n ≤ length es → n ≤ length ss → axesOf (take n es) (take n ss) ≡ axesIn es ss n
 axesOf-take es ss n h k =

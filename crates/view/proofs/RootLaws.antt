@@ -2,16 +2,15 @@
 use Rattle.std.specs.Prelude.{if◌then◌else◌}
 use mathlib.Core.Path.{◌≡◌, refl, sym, ap, ◌∙◌}
 use mathlib.Core.Bool.{Bool, true, false}
-use mathlib.Core.List.{List, ◌++◌, map, append-nil}
+use mathlib.Core.List.{List, ◌++◌, map}
 use Prim.Native.Nat.{ℕ, zero, suc, ◌+◌, ◌-◌, ◌*◌, ◌%◌, ◌^◌, ◌≤◌, ◌<◌}
-use native.Mathlib.Nat.{lt-suc_self, pow-suc, zero-add, suc-add, mod-eq_of_lt, add-mul-mod_self_right, one-mul}
+use native.Mathlib.Nat.{pow-suc, zero-add, suc-add, mod-eq_of_lt, add-mul-mod_self_right, one-mul}
 use native.Mathlib.Numerals.{add-one}
 use native.Mathlib.Omega.{arith}
 use lib.Bits.{bit_or, or_shifted_r}
 use lib.Count.{ones, ones_in, ones_cat}
-use lib.ListN.{length, take, drop, get_or, set, drop_of_length-le}
+use lib.ListN.{take, drop}
 use lib.Pow.{pow-add}
-use lib.Seq.{drop-cons, take-suc, take-suc-set, drop-set-lt, append_snoc, take_all}
 use borrow.Author.Tests.{eq-eqb, ne_eqb}
 use Rattle.view.specs.Ties.{rootAt, renamed, isRoot, mask_of}
 use Rattle.view.proofs.MaskLaws.{shifted_one}
@@ -22,16 +21,6 @@ use Rattle.view.proofs.RangeLaws.{passing-zero, count, count_yes, count_no}
 -- the first i are relabelled, the rest is to be
 abbrev pub relabelledFrom : ℕ → ℕ → ℕ → List ℕ → List ℕ
 relabelledFrom from to i roots = take i roots ++ map (renamed from to) (drop i roots)
-
-module _ (from to : ℕ) (roots : List ℕ) (i : ℕ) (h : i < length roots) where
-  pub relabel-here : get_or roots i 0 ≡ from → relabelledFrom from to (i + 1) (set roots i to) ≡ relabelledFrom from to i roots
-  relabel-here e = rw (add-one, take-suc-set roots i to h, drop-set-lt (suc i) roots i to (lt-suc_self i), append_snoc, drop-cons roots i 0 h, eq-eqb (get_or roots i 0) from e)
-
-  pub relabel-past : (get_or roots i 0 ≡ from → ⊥) → relabelledFrom from to (i + 1) roots ≡ relabelledFrom from to i roots
-  relabel-past e = rw (add-one, take-suc roots i 0 h, append_snoc, drop-cons roots i 0 h, ne_eqb (get_or roots i 0) from e)
-
-pub relabel-end : (from to : ℕ) (roots : List ℕ) (i : ℕ) → length roots ≤ i → relabelledFrom from to i roots ≡ roots
-relabel-end from to roots i h = rw (take_all i roots h, drop_of_length-le roots h, append-nil)
 
 -- ---- the mask of roots
 

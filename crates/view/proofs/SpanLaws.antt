@@ -1,12 +1,12 @@
 -- The two sums of spans, each with its limit, and one axis after another.
-use Rattle.std.specs.Prelude.{if◌then◌else◌}
+use Rattle.std.specs.Prelude.{if◌then◌else◌, None, Option, Some}
 use mathlib.Core.Path.{◌≡◌, refl, sym, ap, ◌∙◌}
 use mathlib.Core.Bool.{Bool, true, false, ◌&&◌, and-false}
 use mathlib.Core.List.{List, [], ◌∷◌}
 use Prim.Native.Nat.{ℕ, ◌+◌, ◌-◌, ◌*◌, ◌≤◌, ◌<◌}
 use native.Mathlib.Numerals.{add-one}
 use native.Mathlib.Omega.{arith}
-use lib.IntN.{ℤ, pos}
+use lib.IntN.{ℤ, nat_abs, pos}
 use lib.Signed.{lt_z}
 use lib.ListN.{length, drop, get_or, drop_of_length-le}
 use lib.Seq.{drop-cons}
@@ -20,35 +20,42 @@ use Rattle.integer.proofs.MachineInteger.{readBack, negative-tested, nonnegative
 use Rattle.integer.proofs.MultipleLaws.{posPart-·, negPart-·}
 use Rattle.specification.specs.Axis.{Axis, axesOf, span, upward, downward}
 use Rattle.view.specs.Model.{axisOf}
-use Rattle.view.specs.Reach.{spansUpTo}
+use Rattle.view.specs.Reach.{spansUpTo, sums}
 use Rattle.view.specs.declared.bounds.Spans.{Spans}
-use Rattle.view.specs.declared.bounds.Spans.TheVariants as spans
 
 -- ---- both sums, each with its limit
 
 pub spans-are : (above below : ℕ) (axes : List Axis) → upward axes ≤ above → downward axes ≤ below
-    → spansUpTo above below axes ≡ spans.Of (upward axes) (downward axes)
+    → spansUpTo above below axes ≡ sums (upward axes) (downward axes)
 spans-are above below axes h k = rw (le-leb (upward axes) above h, le-leb (downward axes) below k)
 
-pub spans-above : (above below : ℕ) (axes : List Axis) → above < upward axes → spansUpTo above below axes ≡ spans.Over
+pub spans-above : (above below : ℕ) (axes : List Axis) → above < upward axes → spansUpTo above below axes ≡ None
 spans-above above below axes h = rw (lt-leb (upward axes) above h)
 
-pub spans-below : (above below : ℕ) (axes : List Axis) → below < downward axes → spansUpTo above below axes ≡ spans.Over
+pub spans-below : (above below : ℕ) (axes : List Axis) → below < downward axes → spansUpTo above below axes ≡ None
 spans-below above below axes h = rw (lt-leb (downward axes) below h, and-false)
 
+abbrev up_of : Option Spans → ℕ
+up_of (Some spans) = spans.up
+up_of None = 0
+
+abbrev down_of : Option Spans → ℕ
+down_of (Some spans) = spans.down
+down_of None = 0
+
 -- what an answer says of both
-pub spans-of : {r : Spans} (above below : ℕ) (axes : List Axis) (up down : ℕ) → r ≡ spansUpTo above below axes → r ≡ spans.Of up down
+pub spans-of : {r : Option Spans} (above below : ℕ) (axes : List Axis) (up down : ℕ) → r ≡ spansUpTo above below axes → r ≡ sums up down
     → (up ≡ upward axes) × (down ≡ downward axes) × (upward axes ≤ above) × (downward axes ≤ below)
 spans-of above below axes up down e k = by (leb (upward axes) above) refl (leb (downward axes) below) refl (sym k ∙ e)
   where
     by : (s : Bool) → leb (upward axes) above ≡ s → (t : Bool) → leb (downward axes) below ≡ t
-        → spans.Of up down ≡ (if s && t then spans.Of (upward axes) (downward axes) else spans.Over)
+        → sums up down ≡ (if s && t then sums (upward axes) (downward axes) else None)
         → (up ≡ upward axes) × (down ≡ downward axes) × (upward axes ≤ above) × (downward axes ≤ below)
-    by true p true q z = (cc, cc, leb-true (upward axes) above p, leb-true (downward axes) below q)
+    by true p true q z = (ap up_of z, ap down_of z, leb-true (upward axes) above p, leb-true (downward axes) below q)
     by true p false q z = let n : ◌≡◌ {A = ℕ} 0 1 = cc in absurd (omega arith)
     by false p t q z = let n : ◌≡◌ {A = ℕ} 0 1 = cc in absurd (omega arith)
 
-pub spans-over : {r : Spans} (above below : ℕ) (axes : List Axis) → r ≡ spansUpTo above below axes → r ≡ spans.Over
+pub spans-over : {r : Option Spans} (above below : ℕ) (axes : List Axis) → r ≡ spansUpTo above below axes → r ≡ None
     → upward axes ≤ above → downward axes ≤ below → ⊥
 spans-over above below axes e k u d =
     let q = sym (spans-are above below axes u d) ∙ sym e ∙ k in
@@ -99,23 +106,23 @@ pub record SpansLeft (es : List ℕ) (ss : List ℤ) (i up down : ℕ) : Type 0 
 -- a turn, by the sign of the stride: axis i adds to one of the sums alone
 module _ (es : List ℕ) (ss : List ℤ) (i up down last step : ℕ) (left : SpansLeft es ss i up down) (h : i < length es) (k : i < length ss)
     (is_last : last ≡ get_or es i 0 - 1) (f : SFits w64 (get_or ss i (pos 0))) where
-  pub falling-turn : lt_z (readBack (get_or ss i (pos 0))) (pos 0) ≡ true → step ≡ negPart (readBack (get_or ss i (pos 0)))
+  pub falling-turn : lt_z (readBack (get_or ss i (pos 0))) (pos 0) ≡ true → step ≡ nat_abs (readBack (get_or ss i (pos 0)))
       → SpansLeft es ss (i + 1) up (down + last * step)
   falling-turn below is-step =
       let none = negative-tested (get_or ss i (pos 0)) f below in
       let e = upward-turn es ss i up _ last 0 h k is_last (sym none.no-positive) left.up_left in
       record {
         up_left = omega arith;
-        down_left = downward-turn es ss i down _ last step h k is_last (is-step ∙ ap negPart (to_z-of_z w64 _ f)) left.down_left;
+        down_left = downward-turn es ss i down _ last step h k is_last (is-step ∙ ap nat_abs (to_z-of_z w64 _ f) ∙ none.size) left.down_left;
       }
 
-  pub rising-turn : lt_z (readBack (get_or ss i (pos 0))) (pos 0) ≡ false → step ≡ posPart (readBack (get_or ss i (pos 0)))
+  pub rising-turn : lt_z (readBack (get_or ss i (pos 0))) (pos 0) ≡ false → step ≡ nat_abs (readBack (get_or ss i (pos 0)))
       → SpansLeft es ss (i + 1) (up + last * step) down
   rising-turn above is-step =
       let none = nonnegative-tested (get_or ss i (pos 0)) f above in
       let e = downward-turn es ss i down _ last 0 h k is_last (sym none.no-negative) left.down_left in
       record {
-        up_left = upward-turn es ss i up _ last step h k is_last (is-step ∙ ap posPart (to_z-of_z w64 _ f)) left.up_left;
+        up_left = upward-turn es ss i up _ last step h k is_last (is-step ∙ ap nat_abs (to_z-of_z w64 _ f) ∙ none.size) left.up_left;
         down_left = omega arith;
       }
 

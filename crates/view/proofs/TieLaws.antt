@@ -1,5 +1,5 @@
 -- Pairs one after another: what they refuse, what they tie, and the roots after one pair more.
-use Rattle.std.specs.Prelude.{if◌then◌else◌}
+use Rattle.std.specs.Prelude.{if◌then◌else◌, Ok}
 use mathlib.Core.Path.{◌≡◌, refl, sym, ap, subst, ◌∙◌}
 use mathlib.Core.Bool.{Bool, true, false}
 use mathlib.Core.List.{List, [], ◌∷◌, ◌++◌, map}
@@ -18,7 +18,6 @@ use Rattle.specification.proofs.OutcomeLaws.{clash, passed}
 use Rattle.view.specs.Answers.{outcomeOf}
 use Rattle.view.specs.Ties.{rootAt, TiesOf, renamed}
 use Rattle.view.specs.declared.diagonal.Ties.{Ties}
-use Rattle.view.specs.declared.layout.Answer.TheVariants.{Done}
 use Rattle.view.proofs.ChainLaws.{then-assoc}
 
 -- ---- what pairs refuse
@@ -113,7 +112,7 @@ root-upFrom k (suc n) zero h = omega arith
 root-upFrom k (suc n) (suc a) h = root-upFrom (suc k) n a (omega arith) ∙ omega arith
 
 -- each axis is its own root
-pub ties-none : (rank : ℕ) (u : Ties) → rank ≤ 16 → u.rank ≡ rank → u.answer ≡ Done → u.roots ≡ up_from 0 16 → TiesOf rank [] u
+pub ties-none : (rank : ℕ) (u : Ties) → rank ≤ 16 → u.rank ≡ rank → u.answer ≡ (Ok tt) → u.roots ≡ up_from 0 16 → TiesOf rank [] u
 unfolding pairFault
 ties-none rank u few same_rank e own = record {
   few = few;
@@ -211,7 +210,7 @@ module _ {rank : ℕ} {ps : List (ℕ × ℕ)} {t : Ties} (of : TiesOf rank ps t
           joined_at q.0 (omega (arith, of.few)) ∙ ap (renamed higher lower) (of.alike p q.0 q.1 (pair q n)) ∙ sym (joined_at q.1 (omega (arith, of.few)))
       by (inr e) = rw e (joined_at a (omega (arith, of.few)) ∙ to-lower (old a) (inl refl) ∙ sym (joined_at b (omega (arith, of.few)) ∙ to-lower (old b) (inr refl)))
 
-  pub ties-joined : (u : Ties) → u.rank ≡ t.rank → u.answer ≡ Done → u.roots ≡ joined → pairFault rank ps ≡ pass → pairFault rank (more ps a b) ≡ pass → TiesOf rank (more ps a b) u
+  pub ties-joined : (u : Ties) → u.rank ≡ t.rank → u.answer ≡ (Ok tt) → u.roots ≡ joined → pairFault rank ps ≡ pass → pairFault rank (more ps a b) ≡ pass → TiesOf rank (more ps a b) u
   ties-joined u same_rank e new p q = record {
     few = of.few;
     rank_is = same_rank ∙ of.rank_is;

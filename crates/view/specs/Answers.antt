@@ -1,8 +1,6 @@
 -- Refusals and answers in the numbers and values of 01's table.
-use Rattle.std.specs.Prelude.{List, [], ◌∷◌, ℕ}
+use Rattle.std.specs.Prelude.{List, [], ◌∷◌, ℕ, Err, Ok, Result}
 use Rattle.specification.specs.Outcome.{Outcome, Check, done, refused, pass}
-use Rattle.view.specs.declared.layout.Answer.{Answer}
-use Rattle.view.specs.declared.layout.Answer.TheVariants.{Done, Refused}
 use Rattle.view.specs.declared.layout.Refusal.{Refusal}
 use Rattle.view.specs.declared.layout.Refusal.TheVariants.{TooManyAxes, LengthsDiffer, OutOfRange, WrongLength, BadAxis, BadExtent, BadIndex, TooManyPositions, ShortScratch, ShortOutput, NotARecord}
 
@@ -34,10 +32,10 @@ values_of (ShortScratch words) = words ∷ []
 values_of (ShortOutput bytes) = bytes ∷ []
 values_of NotARecord = []
 
--- the answer as a rule's outcome
-abbrev pub outcomeOf : Answer → Check
-outcomeOf Done = pass
-outcomeOf (Refused why) = refused (number_of why) (values_of why)
+-- an answer as a rule's outcome
+abbrev pub outcomeOf : {A : Type 0} → Result A Refusal → Outcome A
+outcomeOf (Ok a) = done a
+outcomeOf (Err why) = refused (number_of why) (values_of why)
 
 -- an outcome without its result
 abbrev pub answer_of : {A : Type 0} → Outcome A → Check

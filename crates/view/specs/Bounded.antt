@@ -1,8 +1,6 @@
 -- A number with a limit, as the code answers it.
-use Rattle.std.specs.Prelude.{ℕ, leb, if◌then◌else◌}
-use Rattle.view.specs.declared.bounded.Bounded.{Bounded}
-use Rattle.view.specs.declared.bounded.Bounded.TheVariants.{Is, Over}
+use Rattle.std.specs.Prelude.{ℕ, leb, if◌then◌else◌, None, Option, Some}
 
 -- the number, if it is at most the limit
-abbrev pub boundedBy : ℕ → ℕ → Bounded
-boundedBy limit n = if leb n limit then Is n else Over
+abbrev pub boundedBy : ℕ → ℕ → Option ℕ
+boundedBy limit n = if leb n limit then Some n else None

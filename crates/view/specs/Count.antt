@@ -1,19 +1,11 @@
 -- The number of positions, as the code answers it.
 use Rattle.std.specs.Prelude.{not, ◌&&◌, List, [], ℕ, ltb}
 use Rattle.integer.specs.Range.{mostUnsigned}
-use Rattle.specification.specs.Outcome.{Outcome, done, refused, refuseIf, ◌>>◌}
+use Rattle.specification.specs.Outcome.{Outcome, done, refuseIf, ◌>>◌}
 use Rattle.specification.specs.Axis.{Axis, product, positions}
 use Rattle.specification.specs.Beside.{zeroAmong}
 use Rattle.specification.specs.Layout.{tooLong}
 use Rattle.specification.specs.Normal.{overfull}
-use Rattle.view.specs.Answers.{number_of, values_of}
-use Rattle.view.specs.declared.count.Count.{Count}
-use Rattle.view.specs.declared.count.Count.TheVariants.{Of, Refused}
-
--- the positions, or the refusal with its number and values
-abbrev pub countTold : Count → Outcome ℕ
-countTold (Of positions) = done positions
-countTold (Refused why) = refused (number_of why) (values_of why)
 
 -- how many positions these extents have: 1 for more than 16 of them; 8 where none is 0 and there are over 2^64 - 1 positions
 unfoldable pub elementCount : List ℕ → Outcome ℕ

@@ -1,11 +1,11 @@
 -- The offset of an index vector, as the code answers it.
-use Rattle.std.specs.Prelude.{not, ◌||◌, [], ℕ, ltb, ℤ, ◌+ℤ◌}
+use Rattle.view.specs.declared.layout.Refusal.{Refusal}
+use Rattle.view.specs.declared.layout.ReadingOffset.{ReadingOffset}
+use Rattle.std.specs.Prelude.{not, ◌||◌, [], ℕ, ltb, ℤ, ◌+ℤ◌, Err, Ok, Result}
 use Rattle.integer.specs.Multiple.{◌·◌}
 use Rattle.integer.specs.Range.{fits, mostSigned}
 use Rattle.specification.specs.Outcome.{Outcome, done, refused, refuseIf, ◌>>◌}
 use Rattle.view.specs.Answers.{number_of, values_of}
-use Rattle.view.specs.declared.offset.Indexed.{Indexed}
-use Rattle.view.specs.declared.offset.Indexed.TheVariants.{At, Refused}
 
 -- the sum after an index, or refusal 3
 unfoldable pub addedOf : ℤ → ℕ → ℤ → Outcome ℤ
@@ -14,6 +14,6 @@ addedOf sum index stride =
     >> done (sum +ℤ index · stride)
 
 -- the offset, or the refusal with its number and values
-abbrev pub indexedOf : Indexed → Outcome ℤ
-indexedOf (At offset) = done offset.0
-indexedOf (Refused why) = refused (number_of why) (values_of why)
+abbrev pub indexedOf : Result ReadingOffset Refusal → Outcome ℤ
+indexedOf (Ok offset) = done offset.0
+indexedOf (Err why) = refused (number_of why) (values_of why)

@@ -8,3 +8,4 @@ pub mod Count
 pub mod AnswerClaims
 pub mod Indexed
 pub mod Ties
+pub mod Claims

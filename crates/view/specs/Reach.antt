@@ -1,5 +1,5 @@
 -- How far the offsets of a layout reach, as the code answers it.
-use Rattle.std.specs.Prelude.{Bool, true, false, not, ◌&&◌, ◌≡◌, List, [], ℕ, ◌-◌, ◌≤◌, ltb, leb, ℤ, if◌then◌else◌}
+use Rattle.std.specs.Prelude.{Bool, true, false, not, ◌&&◌, ◌≡◌, List, [], ℕ, ◌-◌, ◌≤◌, ltb, leb, ℤ, if◌then◌else◌, None, Option, Some}
 use Rattle.integer.specs.Range.{mostSigned}
 use Rattle.specification.specs.Tests.{some}
 use Rattle.specification.specs.Outcome.{Outcome, done, refused, refuseIf, ◌>>◌}
@@ -10,7 +10,6 @@ use Rattle.specification.specs.Layout.{LayoutM, lowest, highest, inReach}
 use Rattle.view.specs.declared.bounds.Reach.{Reach}
 use Rattle.view.specs.declared.bounds.Reach.TheVariants.{Empty, Between, Outside}
 use Rattle.view.specs.declared.bounds.Spans.{Spans}
-use Rattle.view.specs.declared.bounds.Spans.TheVariants as spans
 
 -- the lowest and the highest offset, or none where there is no position
 pub data Ends : Type 0 where
@@ -29,10 +28,14 @@ reachOf l =
     refuseIf (not (inReach l)) 3 []
     >> done (if is_empty l.axes then none else ends (lowest l) (highest l))
 
+-- two sums, as the code hands them on
+abbrev pub sums : ℕ → ℕ → Option Spans
+sums up down = Some (record { up = up; down = down })
+
 -- the sums of the positive and of the negative spans, if each is at most its limit
-abbrev pub spansUpTo : ℕ → ℕ → List Axis → Spans
+abbrev pub spansUpTo : ℕ → ℕ → List Axis → Option Spans
 spansUpTo above below axes =
-    if leb (upward axes) above && leb (downward axes) below then spans.Of (upward axes) (downward axes) else spans.Over
+    if leb (upward axes) above && leb (downward axes) below then sums (upward axes) (downward axes) else None
 
 -- an active extent minus 1 above 2^63 - 1: `tooWide` of an axis with this extent
 abbrev pub tooWideExtent : ℕ → Bool

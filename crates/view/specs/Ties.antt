@@ -1,5 +1,6 @@
 -- Classes of tied axes as the code keeps them: for each axis its root, the lowest axis of its class, and a mask of the roots.
-use Rattle.std.specs.Prelude.{Bool, true, false, List, [], ◌≡◌, ℕ, zero, suc, ◌+◌, ◌*◌, ◌^◌, ◌≤◌, ◌<◌, eqb, ltb, ℤ, get_or, if◌then◌else◌}
+use Rattle.view.specs.declared.layout.Refusal.{Refusal}
+use Rattle.std.specs.Prelude.{Bool, true, false, List, [], ◌≡◌, ℕ, zero, suc, ◌+◌, ◌*◌, ◌^◌, ◌≤◌, ◌<◌, eqb, ltb, ℤ, get_or, if◌then◌else◌, Result}
 use Rattle.specification.specs.Layout.{LayoutM, rank}
 use Rattle.specification.specs.Outcome.{refused, pass}
 use Rattle.specification.specs.Tied.{Tied}
@@ -7,10 +8,9 @@ use Rattle.specification.specs.Views.{pairFault, kept, sumFaults, diagonalAxes}
 use Rattle.view.specs.Answers.{outcomeOf}
 use Rattle.view.specs.Model.{axesIn}
 use Rattle.view.specs.declared.diagonal.Ties.{Ties}
-use Rattle.view.specs.declared.layout.Answer.{Answer}
 
 -- roots, a rank and an answer that stand apart
-abbrev pub tiesIn : List ℕ → ℕ → Answer → Ties
+abbrev pub tiesIn : List ℕ → ℕ → Result (Unit {0}) Refusal → Ties
 tiesIn roots rank answer = record { roots = roots; rank = rank; answer = answer }
 
 -- the root of axis a

@@ -6,7 +6,7 @@ ghost use Rattle.view.specs.Model.{modelOf, modelFrom};
 ghost use Rattle.view.specs.Reach.{reachTold, reachOf};
 
 use crate::bounds::{Reach, plainly_within, reach_of};
-use crate::layout::{Answer, Layout, ReadingOffset, Refusal};
+use crate::layout::{Layout, ReadingOffset, Refusal};
 
 // The reach of a layout.
 pub fn layout_reach(layout: Layout) -> Reach
@@ -14,13 +14,11 @@ pub fn layout_reach(layout: Layout) -> Reach
     ensures { reachTold result ≡ reachOf (modelOf layout) }
 {
     let rank = layout.rank;
-    let extents = layout.extents;
-    let strides = layout.strides;
     reach_of(
         layout.len,
         layout.offset,
-        &extents[..rank],
-        &strides[..rank],
+        &layout.extents[..rank],
+        &layout.strides[..rank],
     )
 }
 
@@ -31,39 +29,37 @@ pub(crate) fn handed_lists(
     extents: &[u64],
     strides: &[i64],
     entries: usize,
-) -> Answer
-    requires { (length extents.now ≡ length strides.now) × (length extents.now ≤ 16) }
+) -> Result<(), Refusal>
+    requires alike { length extents.now ≡ length strides.now }
+    requires few { length extents.now ≤ 16 }
     ensures { (list : List ℕ) → length list ≡ entries → outcomeOf result ≡ handed (modelFrom len offset.0 extents.now strides.now) list }
 {
     if 16 < entries {
-        return Answer::Refused(Refusal::TooManyAxes);
+        return Err(Refusal::TooManyAxes);
     }
     if plainly_within(len, offset, extents, strides) {
-        return Answer::Done;
+        return Ok(());
     }
     let reach = reach_of(len, offset, extents, strides);
     match reach {
-        Reach::Outside => Answer::Refused(Refusal::OutOfRange),
-        Reach::Empty => Answer::Done,
-        Reach::Between(_, _) => Answer::Done,
+        Reach::Outside => Err(Refusal::OutOfRange),
+        Reach::Empty | Reach::Between(_, _) => Ok(()),
     }
 }
 
 // Refusals 1 and 3 of a layout, for a call whose list has so many entries.
-pub fn handed_refusal(layout: Layout, entries: usize) -> Answer
+pub fn handed_refusal(layout: Layout, entries: usize) -> Result<(), Refusal>
     ensures { (list : List ℕ) → length list ≡ entries → outcomeOf result ≡ handed (modelOf layout) list }
 {
     let rank = layout.rank;
     if 16 < rank {
-        return Answer::Refused(Refusal::TooManyAxes);
+        return Err(Refusal::TooManyAxes);
     }
-    let extents = layout.extents;
-    let strides = layout.strides;
     handed_lists(
         layout.len,
         layout.offset,
-        &extents[..rank],
-        &strides[..rank],
+        &layout.extents[..rank],
+        &layout.strides[..rank],
         entries,
     )
 }

@@ -4,7 +4,7 @@ ghost use Rattle.specification.specs.Axis.{axesOf};
 ghost use Rattle.view.specs.InPlace.{afterIn};
 ghost use Rattle.view.specs.Model.{modelOf, viewedOf, axesIn};
 
-use crate::layout::{Answer, Layout, RankAfter, Viewed};
+use crate::layout::{Layout, Refusal, Viewed};
 
 // The axes of two lists into the first places of two others.
 pub(crate) fn copy_axes(
@@ -13,17 +13,14 @@ pub(crate) fn copy_axes(
     copied_extents: &mut [u64],
     copied_strides: &mut [i64],
 )
-    requires { (length extents.now ≡ length strides.now) × (length extents.now ≤ length copied_extents.old) × (length extents.now ≤ length copied_strides.old) }
+    requires alike { length extents.now ≡ length strides.now }
+    requires extents_room { length extents.now ≤ length copied_extents.old }
+    requires strides_room { length extents.now ≤ length copied_strides.old }
     ensures { axesIn copied_extents.new copied_strides.new (length extents.now) ≡ axesOf extents.now strides.now }
 {
-    let mut i = 0;
-    while i < extents.len() {
-        let extent = extents[i];
-        let stride = strides[i];
-        copied_extents[i] = extent;
-        copied_strides[i] = stride;
-        i += 1;
-    }
+    let rank = extents.len();
+    copied_extents[..rank].copy_from_slice(extents);
+    copied_strides[..rank].copy_from_slice(strides);
 }
 
 impl Layout {
@@ -32,25 +29,25 @@ impl Layout {
         self,
         extents: [u64; 16],
         strides: [i64; 16],
-        after: RankAfter,
+        after: Result<usize, Refusal>,
     ) -> Viewed
         ensures { viewedOf result ≡ afterIn (modelOf self) extents strides after }
     {
         match after {
-            RankAfter::Refused(why) => Viewed {
+            Err(why) => Viewed {
                 layout: self,
-                answer: Answer::Refused(why),
+                answer: Err(why),
             },
-            RankAfter::Is(rank) => {
-                let mut layout = self;
-                layout.rank = rank;
-                layout.extents = extents;
-                layout.strides = strides;
-                Viewed {
-                    layout,
-                    answer: Answer::Done,
-                }
-            }
+            Ok(rank) => Viewed {
+                layout: Layout {
+                    len: self.len,
+                    offset: self.offset,
+                    rank,
+                    extents,
+                    strides,
+                },
+                answer: Ok(()),
+            },
         }
     }
 }

@@ -1,6 +1,5 @@
 // How far the offsets of a layout reach, and check-in by it.
-ghost use Rattle.std.specs.Prelude.{true, false, not, ◌&&◌, ◌≡◌, ℕ, ◌+◌, ◌-◌, length};
-ghost use Rattle.integer.specs.Parts.{posPart, negPart};
+ghost use Rattle.std.specs.Prelude.{true, false, not, ◌&&◌, ◌≡◌, ℕ, ◌+◌, ◌-◌, length, IfSome};
 ghost use Rattle.specification.specs.Tests.{some};
 ghost use Rattle.specification.specs.Axis.{axesOf};
 ghost use Rattle.specification.specs.CheckIn.{bounds, checkIn};
@@ -9,9 +8,8 @@ ghost use Rattle.view.specs.Answers.{outcomeOf, answer_of};
 ghost use Rattle.view.specs.Model.{modelFrom};
 ghost use Rattle.view.specs.Reach.{reachTold, reachOf, spansUpTo, tooWideExtent, SmallSpans, PlainlyWithin};
 
-use crate::bounded::{Bounded, bounded_product, small_product};
-use crate::layout::{Answer, ReadingOffset, Refusal};
-use integer::signed::magnitude;
+use crate::bounded::{bounded_product, small_product};
+use crate::layout::{ReadingOffset, Refusal};
 
 // The lowest and the highest offset of a layout that is not empty, where all its offsets are accepted.
 #[derive(Clone, Copy)]
@@ -21,118 +19,73 @@ pub enum Reach {
     Outside,
 }
 
-// Two sums, each at most a limit of its own, or none.
+// Two sums: of the positive spans, and of the negative ones without their sign.
 #[derive(Clone, Copy)]
-pub enum Spans {
-    Of(u64, u64),
-    Over,
+pub struct Spans {
+    pub up: u64,
+    pub down: u64,
 }
 
 // Whether there is no position.
 pub fn empty_layout(extents: &[u64]) -> bool
     ensures { result ≡ zeroAmong extents.now }
 {
-    let mut i = 0;
-    while i < extents.len() {
-        if extents[i] == 0 {
-            return true;
-        }
-        i += 1;
-    }
-    false
+    extents.iter().any(|extent| *extent == 0)
 }
 
 // Whether each extent is between 1 and 2^63: the layout is not empty, and no extent minus 1 is above 2^63 - 1.
 fn ordinary(extents: &[u64]) -> bool
     ensures { result ≡ (not (zeroAmong extents.now) && not (some tooWideExtent extents.now)) }
 {
-    let mut i = 0;
-    while i < extents.len() {
-        let extent = extents[i];
-        if extent == 0 {
-            return false;
-        }
-        if 9223372036854775808 < extent {
-            return false;
-        }
-        i += 1;
-    }
-    true
-}
-
-// The part of an integer that is above 0: itself, or 0.
-fn positive_part(stride: i64) -> u64
-    ensures { result ≡ posPart stride }
-{
-    if stride < 0 { 0 } else { magnitude(stride) }
-}
-
-// The part that is below 0, without its sign.
-fn negative_part(stride: i64) -> u64
-    ensures { result ≡ negPart stride }
-{
-    if stride < 0 { magnitude(stride) } else { 0 }
-}
-
-// The last index of an extent, and 0 of an empty one.
-fn last_index(extent: u64) -> u64
-    ensures { result ≡ extent - 1 }
-{
-    if extent == 0 { 0 } else { extent - 1 }
+    extents
+        .iter()
+        .all(|extent| *extent != 0 && *extent <= 1 << 63)
 }
 
 // The sums of the positive and of the negative spans, where each is at most its limit. A span is 0 at stride 0, however wide the extent.
-pub fn sum_spans(extents: &[u64], strides: &[i64], above: u64, below: u64) -> Spans
+pub fn sum_spans(extents: &[u64], strides: &[i64], above: u64, below: u64) -> Option<Spans>
     requires { length extents.now ≡ length strides.now }
     ensures { result ≡ spansUpTo above below (axesOf extents.now strides.now) }
 {
     let mut up: u64 = 0;
     let mut down: u64 = 0;
-    let mut i = 0;
-    while i < extents.len() {
-        let last = last_index(extents[i]);
+    for (i, extent) in extents.iter().enumerate() {
         let stride = strides[i];
+        let room = if stride < 0 { below - down } else { above - up };
+        let last = extent.saturating_sub(1);
+        let Some(more) = bounded_product(last, stride.unsigned_abs(), room) else {
+            return None;
+        };
         if stride < 0 {
-            let Bounded::Is(more) = bounded_product(last, negative_part(stride), below - down)
-            else {
-                return Spans::Over;
-            };
             down += more;
-            i += 1;
         } else {
-            let Bounded::Is(more) = bounded_product(last, positive_part(stride), above - up) else {
-                return Spans::Over;
-            };
             up += more;
-            i += 1;
         }
     }
-    Spans::Of(up, down)
+    Some(Spans { up, down })
 }
 
 // The reach of a layout that is not empty. The positive spans have room from the offset up to 2^63 - 1,
 // the negative spans from the offset down to 0.
 fn filled_reach(len: u64, offset: ReadingOffset, extents: &[u64], strides: &[i64]) -> Reach
-    requires { (length extents.now ≡ length strides.now) × (zeroAmong extents.now ≡ false) }
+    requires alike { length extents.now ≡ length strides.now }
+    requires filled { zeroAmong extents.now ≡ false }
     ensures { reachTold result ≡ reachOf (modelFrom len offset.0 extents.now strides.now) }
 {
     let start = offset.0;
     if start < 0 {
         return Reach::Outside;
     }
-    let base = positive_part(start);
-    let spans = sum_spans(extents, strides, 9223372036854775807 - base, base);
-    match spans {
-        Spans::Over => Reach::Outside,
-        Spans::Of(up, down) => {
-            let low = base - down;
-            let high = base + up;
+    let base = start.unsigned_abs();
+    match sum_spans(extents, strides, i64::MAX as u64 - base, base) {
+        None => Reach::Outside,
+        Some(spans) => {
+            let low = base - spans.down;
+            let high = base + spans.up;
             if len <= high {
                 Reach::Outside
             } else {
-                let lowest = low as i64;
-                let highest = high as i64;
-                Reach::Between(ReadingOffset(lowest), ReadingOffset(highest))
+                Reach::Between(ReadingOffset(low as i64), ReadingOffset(high as i64))
             }
         }
     }
@@ -150,35 +103,28 @@ pub(crate) fn reach_of(len: u64, offset: ReadingOffset, extents: &[u64], strides
 }
 
 // The two sums where each is at most its limit, no extent is 0, and every factor is below 2^32, so that no product needs a division; else nothing is said.
-fn small_spans(extents: &[u64], strides: &[i64], above: u64, below: u64) -> Spans
+fn small_spans(extents: &[u64], strides: &[i64], above: u64, below: u64) -> Option<Spans>
     requires { length extents.now ≡ length strides.now }
-    ensures { (up down : ℕ) → result ≡ Spans.Of up down → SmallSpans above below extents.now strides.now up down }
+    ensures { IfSome result (λ spans. SmallSpans above below extents.now strides.now spans.up spans.down) }
 {
     let mut up: u64 = 0;
     let mut down: u64 = 0;
-    let mut i = 0;
-    while i < extents.len() {
-        let extent = extents[i];
-        if extent == 0 {
-            return Spans::Over;
+    for (i, extent) in extents.iter().enumerate() {
+        if *extent == 0 {
+            return None;
         }
-        let last = extent - 1;
         let stride = strides[i];
+        let room = if stride < 0 { below - down } else { above - up };
+        let Some(more) = small_product(*extent - 1, stride.unsigned_abs(), room) else {
+            return None;
+        };
         if stride < 0 {
-            let Bounded::Is(more) = small_product(last, negative_part(stride), below - down) else {
-                return Spans::Over;
-            };
             down += more;
-            i += 1;
         } else {
-            let Bounded::Is(more) = small_product(last, positive_part(stride), above - up) else {
-                return Spans::Over;
-            };
             up += more;
-            i += 1;
         }
     }
-    Spans::Of(up, down)
+    Some(Spans { up, down })
 }
 
 // Whether a layout of small numbers is seen at once to be in bounds, as most are. Where it is false nothing is said.
@@ -195,30 +141,32 @@ pub(crate) fn plainly_within(
     if start < 0 {
         return false;
     }
-    let base = positive_part(start);
-    let spans = small_spans(extents, strides, 9223372036854775807 - base, base);
-    match spans {
-        Spans::Over => false,
-        Spans::Of(up, _) => base + up < len,
+    let base = start.unsigned_abs();
+    match small_spans(extents, strides, i64::MAX as u64 - base, base) {
+        None => false,
+        Some(spans) => base + spans.up < len,
     }
 }
 
 // Check-in's refusal 3 by its five cases. Where the offsets are in reach each span fits, so only a wide extent is left to test.
-fn bounds_by_cases(len: u64, offset: ReadingOffset, extents: &[u64], strides: &[i64]) -> Answer
+fn bounds_by_cases(
+    len: u64,
+    offset: ReadingOffset,
+    extents: &[u64],
+    strides: &[i64],
+) -> Result<(), Refusal>
     requires { length extents.now ≡ length strides.now }
     ensures { outcomeOf result ≡ bounds (modelFrom len offset.0 extents.now strides.now) }
 {
     if !ordinary(extents) {
         if empty_layout(extents) {
-            return Answer::Done;
+            return Ok(());
         }
-        return Answer::Refused(Refusal::OutOfRange);
+        return Err(Refusal::OutOfRange);
     }
-    let found = filled_reach(len, offset, extents, strides);
-    match found {
-        Reach::Outside => Answer::Refused(Refusal::OutOfRange),
-        Reach::Empty => Answer::Done,
-        Reach::Between(_, _) => Answer::Done,
+    match filled_reach(len, offset, extents, strides) {
+        Reach::Outside => Err(Refusal::OutOfRange),
+        Reach::Empty | Reach::Between(_, _) => Ok(()),
     }
 }
 
@@ -228,28 +176,30 @@ pub(crate) fn bounds_refusal(
     offset: ReadingOffset,
     extents: &[u64],
     strides: &[i64],
-) -> Answer
+) -> Result<(), Refusal>
     requires { length extents.now ≡ length strides.now }
     ensures { outcomeOf result ≡ bounds (modelFrom len offset.0 extents.now strides.now) }
 {
     if plainly_within(len, offset, extents, strides) {
-        return Answer::Done;
+        return Ok(());
     }
     bounds_by_cases(len, offset, extents, strides)
 }
 
 // Check-in without the layout: refusals 1 and 2, then the bounds.
-pub fn validate_bounds(len: u64, offset: ReadingOffset, extents: &[u64], strides: &[i64]) -> Answer
+pub fn validate_bounds(
+    len: u64,
+    offset: ReadingOffset,
+    extents: &[u64],
+    strides: &[i64],
+) -> Result<(), Refusal>
     ensures { outcomeOf result ≡ answer_of (checkIn len offset.0 extents.now strides.now) }
 {
-    if 16 < extents.len() {
-        return Answer::Refused(Refusal::TooManyAxes);
-    }
-    if 16 < strides.len() {
-        return Answer::Refused(Refusal::TooManyAxes);
+    if 16 < extents.len() || 16 < strides.len() {
+        return Err(Refusal::TooManyAxes);
     }
     if extents.len() != strides.len() {
-        return Answer::Refused(Refusal::LengthsDiffer);
+        return Err(Refusal::LengthsDiffer);
     }
     bounds_refusal(len, offset, extents, strides)
 }

@@ -8,16 +8,13 @@ ghost use Rattle.view.specs.Model.{modelOf, modelFrom, viewedOf};
 ghost use Rattle.view.specs.Refusals.{broadcastRefusal};
 
 use crate::accepted::handed_lists;
-use crate::layout::{Answer, Layout, RankAfter, ReadingOffset, Refusal, Viewed};
+use crate::layout::{Layout, ReadingOffset, Refusal, Viewed};
 
 // Whether an extent is its target or 1.
 fn stretches(extent: u64, target: u64) -> bool
     ensures { result ≡ (eqb extent target || eqb extent 1) }
 {
-    if extent == target {
-        return true;
-    }
-    extent == 1
+    extent == target || extent == 1
 }
 
 // An equal extent keeps its stride; a stretched axis stands still.
@@ -28,34 +25,27 @@ fn stretched_stride(extent: u64, target: u64, stride: i64) -> i64
 }
 
 // The first axis whose extent is neither equal to the target nor 1; strides do not matter.
-fn target_fault(extents: &[u64], targets: &[u64]) -> Answer
+fn target_fault(extents: &[u64], targets: &[u64]) -> Result<(), Refusal>
     requires { length targets.now ≡ length extents.now }
     ensures { (strides : List ℤ) → length extents.now ≡ length strides → outcomeOf result ≡ targetFault 0 (axesOf extents.now strides) targets.now }
 {
-    let mut i = 0;
-    while i < targets.len() {
-        if stretches(extents[i], targets[i]) {
-            i += 1;
-        } else {
-            return Answer::Refused(Refusal::BadExtent(i));
+    for (i, target) in targets.iter().enumerate() {
+        if !stretches(extents[i], *target) {
+            return Err(Refusal::BadExtent(i));
         }
     }
-    Answer::Done
+    Ok(())
 }
 
 // The targets for extents.
 fn stretch(extents: &mut [u64], strides: &mut [i64], targets: &[u64])
-    requires { (length extents.old ≡ length strides.old) × (length targets.now ≡ length extents.old) }
+    requires alike { length extents.old ≡ length strides.old }
+    requires targeted { length targets.now ≡ length extents.old }
     ensures { axesOf extents.new strides.new ≡ spread (axesOf extents.old strides.old) targets.now }
 {
-    let mut i = 0;
-    while i < targets.len() {
-        let target = targets[i];
-        let extent = extents[i];
-        let stride = strides[i];
-        extents[i] = target;
-        strides[i] = stretched_stride(extent, target, stride);
-        i += 1;
+    for (i, target) in targets.iter().enumerate() {
+        strides[i] = stretched_stride(extents[i], *target, strides[i]);
+        extents[i] = *target;
     }
 }
 
@@ -66,20 +56,19 @@ fn broadcast_refusal(
     extents: &[u64],
     strides: &[i64],
     targets: &[u64],
-) -> Answer
-    requires { (length extents.now ≡ length strides.now) × (length extents.now ≤ 16) }
+) -> Result<(), Refusal>
+    requires alike { length extents.now ≡ length strides.now }
+    requires few { length extents.now ≤ 16 }
     ensures { outcomeOf result ≡ broadcastRefusal (modelFrom len offset.0 extents.now strides.now) targets.now }
 {
     let first = handed_lists(len, offset, extents, strides, targets.len());
-    match first {
-        Answer::Refused(why) => Answer::Refused(why),
-        Answer::Done => {
-            if targets.len() != extents.len() {
-                return Answer::Refused(Refusal::WrongLength(extents.len(), targets.len()));
-            }
-            target_fault(extents, targets)
-        }
+    if let Err(_) = first {
+        return first;
     }
+    if targets.len() != extents.len() {
+        return Err(Refusal::WrongLength(extents.len(), targets.len()));
+    }
+    target_fault(extents, targets)
 }
 
 // broadcast of the layout that two lent lists hold: they hold the stretched one, or are as they were.
@@ -89,16 +78,16 @@ pub fn broadcast_in_place(
     extents: &mut [u64],
     strides: &mut [i64],
     targets: &[u64],
-) -> RankAfter
+) -> Result<usize, Refusal>
     requires { (length extents.old ≡ length strides.old) × (length extents.old ≤ 16) }
     ensures { LeftInPlace len offset.0 extents.old strides.old extents.new strides.new result (broadcast (modelFrom len offset.0 extents.old strides.old) targets.now) }
 {
     let answer = broadcast_refusal(len, offset, extents, strides, targets);
     match answer {
-        Answer::Refused(why) => RankAfter::Refused(why),
-        Answer::Done => {
+        Err(why) => Err(why),
+        Ok(()) => {
             stretch(extents, strides, targets);
-            RankAfter::Is(targets.len())
+            Ok(targets.len())
         }
     }
 }
@@ -112,7 +101,7 @@ impl Layout {
         if 16 < rank {
             return Viewed {
                 layout: self,
-                answer: Answer::Refused(Refusal::TooManyAxes),
+                answer: Err(Refusal::TooManyAxes),
             };
         }
         let mut extents = self.extents;

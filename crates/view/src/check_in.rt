@@ -2,8 +2,9 @@
 ghost use Rattle.std.specs.Prelude.{◌≡◌, ◌≤◌, length};
 ghost use Rattle.view.specs.Model.{modelOf, modelFrom, no_layout, viewedOf, checkedIn};
 
+use crate::axes::copy_axes;
 use crate::bounds::validate_bounds;
-use crate::layout::{Answer, Layout, ReadingOffset, Viewed};
+use crate::layout::{Layout, ReadingOffset, Viewed};
 
 // The layout that stands beside a refusal: it is empty.
 fn no_layout() -> Layout
@@ -20,22 +21,19 @@ fn no_layout() -> Layout
 
 // The layout that two lists of equal length give.
 fn filled(len: u64, offset: ReadingOffset, extents: &[u64], strides: &[i64]) -> Layout
-    requires { (length extents.now ≤ 16) × (length strides.now ≡ length extents.now) }
+    requires few { length extents.now ≤ 16 }
+    requires alike { length strides.now ≡ length extents.now }
     ensures { modelOf result ≡ modelFrom len offset.0 extents.now strides.now }
 {
-    let mut next = no_layout();
-    next.len = len;
-    next.offset = offset;
-    next.rank = extents.len();
-    let mut i = 0;
-    while i < extents.len() {
-        let extent = extents[i];
-        let stride = strides[i];
-        next.extents[i] = extent;
-        next.strides[i] = stride;
-        i += 1;
-    }
-    next
+    let rank = extents.len();
+    let mut layout = Layout {
+        len,
+        offset,
+        rank,
+        ..no_layout()
+    };
+    copy_axes(extents, strides, &mut layout.extents, &mut layout.strides);
+    layout
 }
 
 impl Layout {
@@ -45,20 +43,14 @@ impl Layout {
     {
         let answer = validate_bounds(len, offset, extents, strides);
         match answer {
-            Answer::Refused(why) => {
-                let layout = no_layout();
-                Viewed {
-                    layout: layout,
-                    answer: Answer::Refused(why),
-                }
-            }
-            Answer::Done => {
-                let layout = filled(len, offset, extents, strides);
-                Viewed {
-                    layout: layout,
-                    answer: Answer::Done,
-                }
-            }
+            Err(_) => Viewed {
+                layout: no_layout(),
+                answer,
+            },
+            Ok(()) => Viewed {
+                layout: filled(len, offset, extents, strides),
+                answer,
+            },
         }
     }
 }

@@ -11,8 +11,8 @@ ghost use Rattle.view.specs.Ties.{TiesOf, SomeTies, tiesIn, FusedInto, rankTo16,
 use crate::accepted::handed_lists;
 use crate::axes::copy_axes;
 use crate::bounds::bounds_refusal;
-use crate::layout::{Answer, Layout, RankAfter, ReadingOffset, Refusal, Viewed};
-use integer::signed::{Checked, checked_add};
+use crate::layout::{Layout, ReadingOffset, Refusal, Viewed};
+use integer::signed::checked_add;
 
 // Two axes that are to be one.
 #[derive(Clone, Copy)]
@@ -23,40 +23,17 @@ pub struct AxisPair(pub usize, pub usize);
 pub(crate) struct Ties {
     pub roots: [usize; 16],
     pub rank: usize,
-    pub answer: Answer,
-}
-
-// The larger and the lower of two axes.
-fn larger(a: usize, b: usize) -> usize
-    ensures { result ≡ max a b }
-{
-    if a < b { b } else { a }
-}
-
-fn lower(a: usize, b: usize) -> usize
-    ensures { result ≡ min a b }
-{
-    if a < b { a } else { b }
-}
-
-// The lesser of two extents.
-fn least(a: u64, b: u64) -> u64
-    ensures { result ≡ min a b }
-{
-    if a < b { a } else { b }
+    pub answer: Result<(), Refusal>,
 }
 
 // Each axis whose root is `from` gets the root `to`.
 fn relabel(roots: &mut [usize; 16], from: usize, to: usize)
-    requires { length roots.old ≡ 16 }
     ensures { roots.new ≡ map (renamed from to) roots.old }
 {
-    let mut axis = 0;
-    while axis < 16 {
-        if roots[axis] == from {
-            roots[axis] = to;
+    for root in roots.iter_mut() {
+        if *root == from {
+            *root = to;
         }
-        axis += 1;
     }
 }
 
@@ -66,12 +43,10 @@ fn root_mask(roots: &[usize; 16], rank: usize) -> u16
     ensures { result ≡ mask_of roots.now rank }
 {
     let mut mask: u16 = 0;
-    let mut axis = 0;
-    while axis < rank {
+    for axis in 0..rank {
         if roots[axis] == axis {
-            mask = mask | (1 << axis);
+            mask |= 1 << axis;
         }
-        axis += 1;
     }
     mask
 }
@@ -81,12 +56,12 @@ fn place(mask: u16, root: usize) -> usize
     requires { root < 16 }
     ensures { result ≡ ones (mask % 2 ^ root) }
 {
-    u16::count_ones(mask & ((1 << root) - 1)) as usize
+    (mask & ((1 << root) - 1)).count_ones() as usize
 }
 
 // Each axis is a class of its own.
 pub(crate) fn own_roots() -> [usize; 16]
-    ensures { (rank : ℕ) → rank ≤ 16 → TiesOf rank [] (tiesIn result rank Answer.Done) }
+    ensures { (rank : ℕ) → rank ≤ 16 → TiesOf rank [] (tiesIn result rank (Ok tt)) }
 {
     [0, 1, 2, 3, 4, 5, 6, 7, 8, 9, 10, 11, 12, 13, 14, 15]
 }
@@ -96,27 +71,27 @@ pub(crate) fn own_roots() -> [usize; 16]
 pub(crate) fn tie_pair(
     roots: &mut [usize; 16],
     rank: usize,
-    earlier: Answer,
+    earlier: Result<(), Refusal>,
     a: usize,
     b: usize,
-) -> Answer
-    requires { (rank ≤ 16) × (length roots.old ≡ 16) }
-    ensures { (length roots.new ≡ 16) × ((pairs : List (ℕ × ℕ)) → TiesOf rank pairs (tiesIn roots.old rank earlier) → TiesOf rank (pairs ++ ((a, b) ∷ [])) (tiesIn roots.new rank result)) }
+) -> Result<(), Refusal>
+    requires { rank ≤ 16 }
+    ensures { (pairs : List (ℕ × ℕ)) → TiesOf rank pairs (tiesIn roots.old rank earlier) → TiesOf rank (pairs ++ ((a, b) ∷ [])) (tiesIn roots.new rank result) }
 {
-    if let Answer::Refused(why) = earlier {
-        return Answer::Refused(why);
+    if let Err(_) = earlier {
+        return earlier;
     }
-    let axis = larger(a, b);
+    let axis = a.max(b);
     if rank <= axis {
-        return Answer::Refused(Refusal::BadAxis(axis, rank));
+        return Err(Refusal::BadAxis(axis, rank));
     }
     if a == b {
-        return Answer::Refused(Refusal::BadAxis(a, rank));
+        return Err(Refusal::BadAxis(a, rank));
     }
     let p = roots[a];
     let q = roots[b];
-    relabel(roots, larger(p, q), lower(p, q));
-    Answer::Done
+    relabel(roots, p.max(q), p.min(q));
+    Ok(())
 }
 
 // One axis for each class into two arrays, at the place of its root: the least extent, and the sum of the strides in ascending axis order;
@@ -129,29 +104,24 @@ fn fuse(
     fused_extents: &mut [u64; 16],
     fused_strides: &mut [i64; 16],
 ) -> bool
-    requires { (length extents.now ≡ length strides.now) × (length fused_extents.old ≡ 16) × (length fused_strides.old ≡ 16) × (mask ≡ mask_of roots.now (length extents.now)) × SomeTies (length extents.now) (tiesIn roots.now (length extents.now) Answer.Done) }
-    ensures { (length fused_extents.new ≡ 16) × (length fused_strides.new ≡ 16) × ((pairs : List (ℕ × ℕ)) → TiesOf (length extents.now) pairs (tiesIn roots.now (length extents.now) Answer.Done)
-        → (l : LayoutM) → l.axes ≡ axesOf extents.now strides.now → FusedInto l pairs (ones mask) fused_extents.new fused_strides.new result) }
+    requires alike { length extents.now ≡ length strides.now }
+    requires masked { mask ≡ mask_of roots.now (length extents.now) }
+    requires tied { SomeTies (length extents.now) (tiesIn roots.now (length extents.now) (Ok tt)) }
+    ensures { (pairs : List (ℕ × ℕ)) → TiesOf (length extents.now) pairs (tiesIn roots.now (length extents.now) (Ok tt))
+        → (l : LayoutM) → l.axes ≡ axesOf extents.now strides.now → FusedInto l pairs (ones mask) fused_extents.new fused_strides.new result }
 {
-    let mut axis = 0;
-    while axis < extents.len() {
+    for (axis, extent) in extents.iter().enumerate() {
         let root = roots[axis];
         let at = place(mask, root);
-        let extent = extents[axis];
-        let stride = strides[axis];
         if root == axis {
-            fused_extents[at] = extent;
-            fused_strides[at] = stride;
-            axis += 1;
+            fused_extents[at] = *extent;
+            fused_strides[at] = strides[axis];
         } else {
-            let low = fused_extents[at];
-            let sum = fused_strides[at];
-            let Checked::Fits(more) = checked_add(sum, stride) else {
+            let Some(sum) = checked_add(fused_strides[at], strides[axis]) else {
                 return false;
             };
-            fused_extents[at] = least(low, extent);
-            fused_strides[at] = more;
-            axis += 1;
+            fused_extents[at] = fused_extents[at].min(*extent);
+            fused_strides[at] = sum;
         }
     }
     true
@@ -164,18 +134,19 @@ pub(crate) fn tied_in_place(
     extents: &mut [u64],
     strides: &mut [i64],
     roots: &[usize; 16],
-    ties: Answer,
-) -> RankAfter
-    requires { (length extents.old ≡ length strides.old) × SomeTies (length extents.old) (tiesIn roots.now (length extents.old) ties) }
+    ties: Result<(), Refusal>,
+) -> Result<usize, Refusal>
+    requires alike { length extents.old ≡ length strides.old }
+    requires tied { SomeTies (length extents.old) (tiesIn roots.now (length extents.old) ties) }
     ensures { (pairs : List (ℕ × ℕ)) → TiesOf (length extents.old) pairs (tiesIn roots.now (length extents.old) ties)
         → LeftInPlace len offset.0 extents.old strides.old extents.new strides.new result (diagonalView (modelFrom len offset.0 extents.old strides.old) pairs) }
 {
     let first = handed_lists(len, offset, extents, strides, 0);
-    if let Answer::Refused(why) = first {
-        return RankAfter::Refused(why);
+    if let Err(why) = first {
+        return Err(why);
     }
-    if let Answer::Refused(why) = ties {
-        return RankAfter::Refused(why);
+    if let Err(why) = ties {
+        return Err(why);
     }
     let mask = root_mask(roots, extents.len());
     let mut fused_extents = [0u64; 16];
@@ -188,12 +159,12 @@ pub(crate) fn tied_in_place(
         &mut fused_extents,
         &mut fused_strides,
     ) {
-        return RankAfter::Refused(Refusal::OutOfRange);
+        return Err(Refusal::OutOfRange);
     }
-    let rank = u16::count_ones(mask) as usize;
+    let rank = mask.count_ones() as usize;
     let last = bounds_refusal(len, offset, &fused_extents[..rank], &fused_strides[..rank]);
-    if let Answer::Refused(why) = last {
-        return RankAfter::Refused(why);
+    if let Err(why) = last {
+        return Err(why);
     }
     copy_axes(
         &fused_extents[..rank],
@@ -201,7 +172,7 @@ pub(crate) fn tied_in_place(
         extents,
         strides,
     );
-    RankAfter::Is(rank)
+    Ok(rank)
 }
 
 impl Ties {
@@ -211,12 +182,10 @@ impl Ties {
         ensures { (rank : ℕ) (pairs : List (ℕ × ℕ)) → TiesOf rank pairs self → TiesOf rank (pairs ++ ((a, b) ∷ [])) result }
     {
         let mut roots = self.roots;
-        let rank = self.rank;
-        let earlier = self.answer;
-        let answer = tie_pair(&mut roots, rank, earlier, a, b);
+        let answer = tie_pair(&mut roots, self.rank, self.answer, a, b);
         Ties {
             roots,
-            rank,
+            rank: self.rank,
             answer,
         }
     }
@@ -227,13 +196,11 @@ impl Layout {
     pub(crate) fn untied(self) -> Ties
         ensures { TiesOf (rankTo16 self.rank) [] result }
     {
-        let rank = self.rank;
-        let few = if 16 < rank { 0 } else { rank };
-        let roots = own_roots();
+        let few = if 16 < self.rank { 0 } else { self.rank };
         Ties {
-            roots,
+            roots: own_roots(),
             rank: few,
-            answer: Answer::Done,
+            answer: Ok(()),
         }
     }
 
@@ -246,20 +213,18 @@ impl Layout {
         if 16 < rank {
             return Viewed {
                 layout: self,
-                answer: Answer::Refused(Refusal::TooManyAxes),
+                answer: Err(Refusal::TooManyAxes),
             };
         }
         let mut extents = self.extents;
         let mut strides = self.strides;
-        let roots = t.roots;
-        let ties = t.answer;
         let after = tied_in_place(
             self.len,
             self.offset,
             &mut extents[..rank],
             &mut strides[..rank],
-            &roots,
-            ties,
+            &t.roots,
+            t.answer,
         );
         self.with_axes(extents, strides, after)
     }
@@ -269,11 +234,8 @@ impl Layout {
         ensures { viewedOf result ≡ diagonalView (modelOf self) (pairsIn pairs.now) }
     {
         let mut t = self.untied();
-        let mut i = 0;
-        while i < pairs.len() {
-            let pair = pairs[i];
+        for pair in pairs {
             t = t.tie(pair.0, pair.1);
-            i += 1;
         }
         self.tied(t)
     }

@@ -32,24 +32,11 @@ pub enum Refusal {
     NotARecord,
 }
 
-#[derive(Clone, Copy)]
-pub enum Answer {
-    Done,
-    Refused(Refusal),
-}
-
-// What a view of a layout in two lent lists answers: the rank after it, or the refusal.
-#[derive(Clone, Copy)]
-pub enum RankAfter {
-    Is(usize),
-    Refused(Refusal),
-}
-
 // The layout after a call, and what the call answered.
 #[derive(Clone, Copy)]
 pub struct Viewed {
     pub layout: Layout,
-    pub answer: Answer,
+    pub answer: Result<(), Refusal>,
 }
 
 impl Refusal {

@@ -1,6 +1,8 @@
 // The layout half of view.rs: layouts of strided readings, check-in, views and indexed offsets.
 #![tactic(auto)]
 
+ghost use Rattle.view.specs.Claims.{Claims};
+
 pub mod accepted;
 mod axes;
 pub mod bounded;
@@ -13,3 +15,8 @@ pub mod layout;
 pub mod numbers;
 pub mod offset;
 pub mod permute;
+
+// Does nothing, and promises what the reach and the number of positions say of a layout: the check refuses it unless each claim has its proof.
+pub fn claims_hold()
+    ensures { Claims }
+{}

@@ -6,19 +6,16 @@ ghost use Rattle.view.specs.Model.{modelOf, modelFrom, viewedOf};
 ghost use Rattle.view.specs.Ties.{TiesOf, tiesIn};
 
 use crate::diagonal::{own_roots, tie_pair, tied_in_place};
-use crate::layout::{Answer, Layout, RankAfter, ReadingOffset, Refusal, Viewed};
+use crate::layout::{Layout, ReadingOffset, Refusal, Viewed};
 
 // The ties of all pairs, in axes that are untied yet. Two numbers are a pair; an odd last one is passed over.
-fn tie_numbers(roots: &mut [usize; 16], rank: usize, pairs: &[usize]) -> Answer
-    requires { (length roots.old ≡ 16) × TiesOf rank [] (tiesIn roots.old rank Answer.Done) }
+fn tie_numbers(roots: &mut [usize; 16], rank: usize, pairs: &[usize]) -> Result<(), Refusal>
+    requires { TiesOf rank [] (tiesIn roots.old rank (Ok tt)) }
     ensures { TiesOf rank (pairsOf pairs.now) (tiesIn roots.new rank result) }
 {
-    let count = pairs.len() / 2;
-    let mut answer = Answer::Done;
-    let mut i = 0;
-    while i < count {
+    let mut answer = Ok(());
+    for i in 0..pairs.len() / 2 {
         answer = tie_pair(roots, rank, answer, pairs[2 * i], pairs[2 * i + 1]);
-        i += 1;
     }
     answer
 }
@@ -30,7 +27,7 @@ pub fn diagonal_in_place(
     extents: &mut [u64],
     strides: &mut [i64],
     pairs: &[usize],
-) -> RankAfter
+) -> Result<usize, Refusal>
     requires { (length extents.old ≡ length strides.old) × (length extents.old ≤ 16) }
     ensures { LeftInPlace len offset.0 extents.old strides.old extents.new strides.new result (diagonalView (modelFrom len offset.0 extents.old strides.old) (pairsOf pairs.now)) }
 {
@@ -46,8 +43,8 @@ pub fn diagonal_by_numbers(layout: Layout, pairs: &[usize]) -> Viewed
     let rank = layout.rank;
     if 16 < rank {
         return Viewed {
-            layout: layout,
-            answer: Answer::Refused(Refusal::TooManyAxes),
+            layout,
+            answer: Err(Refusal::TooManyAxes),
         };
     }
     let mut extents = layout.extents;

@@ -9,32 +9,29 @@ ghost use Rattle.view.specs.Refusals.{permuteRefusal};
 
 use crate::accepted::handed_lists;
 use crate::axes::copy_axes;
-use crate::layout::{Answer, Layout, RankAfter, ReadingOffset, Refusal, Viewed};
+use crate::layout::{Layout, ReadingOffset, Refusal, Viewed};
 
 // The first entry that is outside the rank, or was named before: a mask has the axes named so far.
-fn order_fault(order: &[usize], rank: usize) -> Answer
+fn order_fault(order: &[usize], rank: usize) -> Result<(), Refusal>
     requires { rank ≤ 16 }
     ensures { outcomeOf result ≡ orderFault rank [] order.now }
 {
     let mut seen: u16 = 0;
-    let mut i = 0;
-    while i < order.len() {
-        let axis = order[i];
-        if rank <= axis {
-            return Answer::Refused(Refusal::BadAxis(axis, rank));
+    for axis in order {
+        if rank <= *axis || (seen >> *axis) % 2 == 1 {
+            return Err(Refusal::BadAxis(*axis, rank));
         }
-        if (seen >> axis) % 2 == 1 {
-            return Answer::Refused(Refusal::BadAxis(axis, rank));
-        }
-        seen = seen | (1 << axis);
-        i += 1;
+        seen |= 1 << *axis;
     }
-    Answer::Done
+    Ok(())
 }
 
 // The axes in the order of the list, whose entries are below the rank.
 fn reorder(extents: &mut [u64], strides: &mut [i64], order: &[usize])
-    requires { (length extents.old ≡ length strides.old) × (length extents.old ≤ 16) × (length order.now ≡ length extents.old) × AllBelow (length extents.old) order.now }
+    requires alike { length extents.old ≡ length strides.old }
+    requires few { length extents.old ≤ 16 }
+    requires listed { length order.now ≡ length extents.old }
+    requires below { AllBelow (length extents.old) order.now }
     ensures { axesOf extents.new strides.new ≡ map (axisAt (axesOf extents.old strides.old)) order.now }
 {
     let rank = order.len();
@@ -46,14 +43,9 @@ fn reorder(extents: &mut [u64], strides: &mut [i64], order: &[usize])
         &mut old_extents[..rank],
         &mut old_strides[..rank],
     );
-    let mut i = 0;
-    while i < rank {
-        let axis = order[i];
-        let extent = old_extents[axis];
-        let stride = old_strides[axis];
-        extents[i] = extent;
-        strides[i] = stride;
-        i += 1;
+    for (i, axis) in order.iter().enumerate() {
+        extents[i] = old_extents[*axis];
+        strides[i] = old_strides[*axis];
     }
 }
 
@@ -64,20 +56,19 @@ fn permute_refusal(
     extents: &[u64],
     strides: &[i64],
     order: &[usize],
-) -> Answer
-    requires { (length extents.now ≡ length strides.now) × (length extents.now ≤ 16) }
+) -> Result<(), Refusal>
+    requires alike { length extents.now ≡ length strides.now }
+    requires few { length extents.now ≤ 16 }
     ensures { outcomeOf result ≡ permuteRefusal (modelFrom len offset.0 extents.now strides.now) order.now }
 {
     let first = handed_lists(len, offset, extents, strides, order.len());
-    match first {
-        Answer::Refused(why) => Answer::Refused(why),
-        Answer::Done => {
-            if order.len() != extents.len() {
-                return Answer::Refused(Refusal::WrongLength(order.len(), extents.len()));
-            }
-            order_fault(order, extents.len())
-        }
+    if let Err(_) = first {
+        return first;
     }
+    if order.len() != extents.len() {
+        return Err(Refusal::WrongLength(order.len(), extents.len()));
+    }
+    order_fault(order, extents.len())
 }
 
 // permute of the layout that two lent lists hold: they hold the axes in the new order, or are as they were.
@@ -87,16 +78,16 @@ pub fn permute_in_place(
     extents: &mut [u64],
     strides: &mut [i64],
     order: &[usize],
-) -> RankAfter
+) -> Result<usize, Refusal>
     requires { (length extents.old ≡ length strides.old) × (length extents.old ≤ 16) }
     ensures { LeftInPlace len offset.0 extents.old strides.old extents.new strides.new result (permute (modelFrom len offset.0 extents.old strides.old) order.now) }
 {
     let answer = permute_refusal(len, offset, extents, strides, order);
     match answer {
-        Answer::Refused(why) => RankAfter::Refused(why),
-        Answer::Done => {
+        Err(why) => Err(why),
+        Ok(()) => {
             reorder(extents, strides, order);
-            RankAfter::Is(order.len())
+            Ok(order.len())
         }
     }
 }
@@ -110,7 +101,7 @@ impl Layout {
         if 16 < rank {
             return Viewed {
                 layout: self,
-                answer: Answer::Refused(Refusal::TooManyAxes),
+                answer: Err(Refusal::TooManyAxes),
             };
         }
         let mut extents = self.extents;

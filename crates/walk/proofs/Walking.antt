@@ -24,7 +24,7 @@ use Rattle.walk.specs.declared.TwoAxes.{TwoAxes}
 use Rattle.walk.specs.declared.Place.{Place}
 use Rattle.walk.specs.declared.Walked.{Walked}
 use Rattle.walk.specs.declared.Walked.TheVariants.{Completed, Stopped}
-use Rattle.walk.specs.declared.Found.TheVariants.{At, Nowhere}
+use Rattle.walk.specs.declared.Found.TheVariants.{Nowhere}
 use Rattle.walk.proofs.AxisLaws.{widths-with, widths-positive, digits-length, half_place, middle-within}
 use Rattle.walk.proofs.ResidueLaws.{window-below}
 
@@ -70,9 +70,6 @@ stands-more t es ss zs zb qs qb x x' z q z' q' r hz hq s v mz mq =
       q-is = residue-one t.g (dot ss (middle_of es)) (dot ss x) (dot ss x') q q' (dot qs x) (dot qs x') s.q-is mq.so
           (dot-scaled t.g 1 ss qs x (omega arith) (omega arith) iq) (dot-scaled t.g 1 ss qs x' (omega arith) (omega arith) iq);
     }
-
-pub stands-length : {t : TwoAxes} {es ss x : List ℕ} {z q : ℕ} → Stands t es ss x z q → length x ≡ length es
-stands-length {t} {es} s = digits-length es s.within
 
 -- ---- the first place
 
@@ -138,10 +135,6 @@ pub record Walking (t : TwoAxes) (es ss zs zb qs qb : List ℕ) (i : ℕ) (x : L
   pub stands : Stands t es ss x z q
   pub so : hitAfter t es ss n ≡ hitAfter t es ss i
 
-pub walking_start : (t : TwoAxes) (es ss zs zb qs qb x : List ℕ) (i z q : ℕ) → Ready t → Room t es ss → Steps t.b t.inverse es ss zs zb → Steps t.g 1 es ss qs qb
-    → i ≤ half_of es ss → x ≡ index_at (widthsOf es) (half_of es ss + i) → Stands t es ss x z q → Walking t es ss zs zb qs qb i x i z q
-walking_start t es ss zs zb qs qb x i z q r room hz hq l e s = record { ready = r; room = room; z-steps = hz; q-steps = hq; from = omega arith; le = l; at = e; stands = s; so = refl }
-
 module _ (t : TwoAxes) (es ss zs zb qs qb : List ℕ) (i : ℕ) (x : List ℕ) (n z q : ℕ) (w : Walking t es ss zs zb qs qb i x n z q) (x' : List ℕ) (z' q' : ℕ)
     (e : x' ≡ after (widthsOf es) x) (mz : Moves t.b zs x x' z z') (mq : Moves t.g qs x x' q q') where
   at_next : x' ≡ index_at (widthsOf es) (half_of es ss + (n + 1))
@@ -171,11 +164,6 @@ module _ (t : TwoAxes) (es ss zs zb qs qb : List ℕ) (i : ℕ) (x : List ℕ) (
     so = sym (after-no t es ss n h (asked t es ss (n + 1) x' r w.room.one-length at_next f ∙ y)) ∙ w.so;
   }
 
-pub walk-over : (t : TwoAxes) (es ss zs zb qs qb : List ℕ) (i : ℕ) (x : List ℕ) (n z q stop : ℕ) → Walking t es ss zs zb qs qb i x n z q → n ≡ stop
-    → Reached t es ss i stop x (Stopped (record { count = n; z = z; q = q }))
-walk-over t es ss zs zb qs qb i x n z q stop w e =
-    (e, w.at ∙ ap (λ (k : ℕ). index_at (widthsOf es) (half_of es ss + k)) e, w.stands, sym (ap (λ (k : ℕ). hitAfter t es ss k) e) ∙ w.so)
-
 -- ---- the start, and the whole walk
 
 pub start-at : (es ss x : List ℕ) → length ss ≡ length es → PositiveExtents es → x ≡ middle_of es → x ≡ index_at (widthsOf es) (half_of es ss + 0)
@@ -193,9 +181,6 @@ start-stands t es ss x r p e = subst⁻¹ (λ (y : List ℕ). Stands t es ss y t
 })
 
 module _ (t : TwoAxes) (es ss x : List ℕ) (h : ℕ) (r : Walked) (w : Reached t es ss 0 h x r) where
-  pub whole-yes : (n : ℕ) → r ≡ Completed n → At n ≡ foundOf (half_of es ss) (hitAfter t es ss 0)
-  whole-yes n e = sym (ap (λ (o : Option ℕ). foundOf (half_of es ss) o) (subst (Reached t es ss 0 h x) e w).2)
-
   pub whole-no : (at : Place) → r ≡ Stopped at → h ≡ half_of es ss → Nowhere at.count ≡ foundOf (half_of es ss) (hitAfter t es ss 0)
   whole-no at e k =
       let v = subst (Reached t es ss 0 h x) e w in

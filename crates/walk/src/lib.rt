@@ -69,13 +69,7 @@ fn near(t: u64, k: u64, window: u64, part: u64, yb: u64) -> bool
         return false;
     }
     let ka = k * part;
-    if ka > t + yb {
-        return false;
-    }
-    if t > ka + yb {
-        return false;
-    }
-    true
+    ka <= t + yb && t <= ka + yb
 }
 
 // Whether the difference - j / g does.
@@ -83,51 +77,41 @@ fn far(t: u64, j: u64, window: u64, part: u64, yb: u64) -> bool
     requires { window * part + (yb + t) < 2 ^ 64 }
     ensures { Tells result (Far window part yb t j) }
 {
-    if j > window {
-        return false;
-    }
-    if t + j * part > yb {
-        return false;
-    }
-    true
+    j <= window && t + j * part <= yb
 }
 
 // Whether t is a difference of the one times a plus a difference of the other times b; k is t / part modulo b.
 fn combines(two: TwoAxes, t: u64, k: u64) -> bool
-    requires { Ready two × (k < two.b) × Congruent two.b k (t * two.inverse) × (t % two.g ≡ 0) × (two.x * two.a + (two.y * two.b + t) < 2 ^ 64) }
+    requires ready { Ready two }
+    requires low { k < two.b }
+    requires residue { Congruent two.b k (t * two.inverse) }
+    requires divides { t % two.g ≡ 0 }
+    requires fits { two.x * two.a + (two.y * two.b + t) < 2 ^ 64 }
     ensures { Tells result (Combination two.a two.x two.b two.y t) }
 {
-    let b = two.b;
-    let y = two.y;
-    let window = two.window;
-    let part = two.part;
-    let yb = y * b;
-    if near(t, k, window, part, yb) {
-        return true;
-    }
-    far(t, b - k, window, part, yb)
+    let yb = two.y * two.b;
+    near(t, k, two.window, two.part, yb) || far(t, two.b - k, two.window, two.part, yb)
 }
 
 // The sum of differences at these digits, in its two parts.
 fn parts(extents: &[u64], strides: &[u64], digits: &[u64]) -> Sums
-    requires { (length strides.now ≡ length extents.now) × IndexVector (widthsOf extents.now) digits.now × (dot strides.now (middle_of extents.now) < 2 ^ 64) }
+    requires lengths { length strides.now ≡ length extents.now }
+    requires within { IndexVector (widthsOf extents.now) digits.now }
+    requires fits { dot strides.now (middle_of extents.now) < 2 ^ 64 }
     ensures { Parts extents.now strides.now digits.now result.up result.down }
 {
     let mut up: u64 = 0;
     let mut down: u64 = 0;
-    let mut j: usize = 0;
-    while j < extents.len() {
+    for (j, &extent) in extents.iter().enumerate() {
         let i = digits[j];
-        let middle = extents[j] - 1;
+        let middle = extent - 1;
         if i >= middle {
             up += (i - middle) * strides[j];
-            j += 1;
         } else {
             down += (middle - i) * strides[j];
-            j += 1;
         }
     }
-    Sums { up: up, down: down }
+    Sums { up, down }
 }
 
 // One vector on: the digits go to those after them, and the residues with them. The last digit of an axis is twice its middle.
@@ -140,54 +124,53 @@ fn turn(
     digits: &mut [u64],
     b: u64,
     g: u64,
-    z: u64,
-    q: u64,
+    mut z: u64,
+    mut q: u64,
 ) -> Residues
-    requires { IndexVector (widthsOf extents.now) digits.old × Small extents.now × Turns b extents.now zs.now zb.now × Turns g extents.now qs.now qb.now × (z < b) × (q < g) }
-    ensures { (digits.new ≡ after (widthsOf extents.now) digits.old) × Moves b zs.now digits.old digits.new z result.z × Moves g qs.now digits.old digits.new q result.q }
+    requires within { IndexVector (widthsOf extents.now) digits.old }
+    requires small { Small extents.now }
+    requires z_turns { Turns b extents.now zs.now zb.now }
+    requires q_turns { Turns g extents.now qs.now qb.now }
+    requires z_low { z < b }
+    requires q_low { q < g }
+    ensures digits { digits.new ≡ after (widthsOf extents.now) digits.old }
+    ensures z_moves { Moves b zs.now digits.old digits.new z result.z }
+    ensures q_moves { Moves g qs.now digits.old digits.new q result.q }
 {
-    let mut zz = z;
-    let mut qq = q;
-    let mut j: usize = 0;
-    while j < extents.len() {
+    for (j, &extent) in extents.iter().enumerate() {
         let i = digits[j];
-        let middle = extents[j] - 1;
+        let middle = extent - 1;
         if i < middle + middle {
             digits[j] = i + 1;
             return Residues {
-                z: integer::modular::add_mod(zz, zs[j], b),
-                q: integer::modular::add_mod(qq, qs[j], g),
+                z: integer::modular::add_mod(z, zs[j], b),
+                q: integer::modular::add_mod(q, qs[j], g),
             };
         }
         digits[j] = 0;
-        zz = integer::modular::add_mod(zz, zb[j], b);
-        qq = integer::modular::add_mod(qq, qb[j], g);
-        j += 1;
+        z = integer::modular::add_mod(z, zb[j], b);
+        q = integer::modular::add_mod(q, qb[j], g);
     }
-    Residues { z: zz, q: qq }
+    Residues { z, q }
 }
 
 // Whether some difference of the two completes the vector with these digits. Either residue alone can say no.
 fn completes(two: TwoAxes, extents: &[u64], strides: &[u64], digits: &[u64], z: u64, q: u64) -> bool
-    requires { Ready two × Room two extents.now strides.now × Stands two extents.now strides.now digits.now z q }
+    requires ready { Ready two }
+    requires room { Room two extents.now strides.now }
+    requires stands { Stands two extents.now strides.now digits.now z q }
     ensures { Tells result (Question two extents.now strides.now digits.now) }
 {
-    let b = two.b;
-    let window = two.window;
-    if z > 2 * window {
+    if z > 2 * two.window || q > 0 {
         return false;
     }
-    if q > 0 {
-        return false;
-    }
-    let s = parts(extents, strides, digits);
-    let up = s.up;
-    let down = s.down;
-    let k = integer::modular::add_mod(z, b - window, b);
+    let Sums { up, down } = parts(extents, strides, digits);
+    let k = integer::modular::add_mod(z, two.b - two.window, two.b);
     if down <= up {
-        return combines(two, up - down, k);
+        combines(two, up - down, k)
+    } else {
+        combines(two, down - up, integer::modular::neg_mod(k, two.b))
     }
-    combines(two, down - up, integer::modular::neg_mod(k, b))
 }
 
 // The walk from where it stands on to `stop` vectors, or to the first that is completed. Where it stops it can go on.
@@ -203,16 +186,23 @@ pub fn walk_to(
     start: Place,
     stop: u64,
 ) -> Walked
-    requires { Ready two × Room two extents.now strides.now × Steps two.b two.inverse extents.now strides.now zs.now zb.now × Steps two.g 1 extents.now strides.now qs.now qb.now × (start.count ≤ stop) × (stop ≤ half_of extents.now strides.now) × (digits.old ≡ index_at (widthsOf extents.now) (half_of extents.now strides.now + start.count)) × Stands two extents.now strides.now digits.old start.z start.q }
+    requires ready { Ready two }
+    requires room { Room two extents.now strides.now }
+    requires z_steps { Steps two.b two.inverse extents.now strides.now zs.now zb.now }
+    requires q_steps { Steps two.g 1 extents.now strides.now qs.now qb.now }
+    requires from { start.count ≤ stop }
+    requires stop { stop ≤ half_of extents.now strides.now }
+    requires digits { digits.old ≡ index_at (widthsOf extents.now) (half_of extents.now strides.now + start.count) }
+    requires stands { Stands two extents.now strides.now digits.old start.z start.q }
     ensures { Reached two extents.now strides.now start.count stop digits.new result }
 {
-    let b = two.b;
-    let g = two.g;
-    let mut n = start.count;
-    let mut z = start.z;
-    let mut q = start.q;
+    let Place {
+        count: mut n,
+        mut z,
+        mut q,
+    } = start;
     while n < stop {
-        let s = turn(extents, zs, zb, qs, qb, digits, b, g, z, q);
+        let s = turn(extents, zs, zb, qs, qb, digits, two.b, two.g, z, q);
         z = s.z;
         q = s.q;
         n += 1;
@@ -220,11 +210,7 @@ pub fn walk_to(
             return Walked::Completed(n);
         }
     }
-    Walked::Stopped(Place {
-        count: n,
-        z: z,
-        q: q,
-    })
+    Walked::Stopped(Place { count: n, z, q })
 }
 
 // The whole walk, from the digits of no difference.
@@ -239,17 +225,20 @@ pub fn walk_all(
     qb: &[u64],
     digits: &mut [u64],
 ) -> Found
-    requires { Ready two × Room two extents.now strides.now × Steps two.b two.inverse extents.now strides.now zs.now zb.now × Steps two.g 1 extents.now strides.now qs.now qb.now × (half ≡ half_of extents.now strides.now) × (digits.old ≡ middle_of extents.now) }
+    requires ready { Ready two }
+    requires room { Room two extents.now strides.now }
+    requires z_steps { Steps two.b two.inverse extents.now strides.now zs.now zb.now }
+    requires q_steps { Steps two.g 1 extents.now strides.now qs.now qb.now }
+    requires half { half ≡ half_of extents.now strides.now }
+    requires digits { digits.old ≡ middle_of extents.now }
     ensures { result ≡ foundOf (half_of extents.now strides.now) (hitAfter two extents.now strides.now 0) }
 {
-    let window = two.window;
     let start = Place {
         count: 0,
-        z: window,
+        z: two.window,
         q: 0,
     };
-    let end = walk_to(two, extents, strides, zs, zb, qs, qb, digits, start, half);
-    match end {
+    match walk_to(two, extents, strides, zs, zb, qs, qb, digits, start, half) {
         Walked::Completed(count) => Found::At(count),
         Walked::Stopped(place) => Found::Nowhere(place.count),
     }

@@ -1,15 +1,9 @@
--- `put_u64` stores the bytes of x one by one; the stores together are the list of them at the front.
-use mathlib.Core.Path.{◌≡◌}
-use Prim.Native.Nat.{◌%◌, ◌/◌}
-use native.Mathlib.Nat.{div-one}
-use native.Mathlib.Omega.{arith}
-use lib.Seq.{sets-eq}
-use Rattle.specification.specs.Record.{bigEndian}
+-- `put_u64` puts the bytes of x to the front.
+use Rattle.std.proofs.Common.{◌∙◌, ap, ℕ, List, ◌++◌, drop}
+use Rattle.big_endian.proofs.NumberLaws.{big-endian-bytes}
 use Rattle.big_endian.proofs.put_u64.Goals as goal
 
 pub returns : goal.returns
-unfolding bigEndian
 returns c =
-    let x = c.args.x in
-    let e : x % 256 ≡ x / 1 % 256 = rw (div-one x) in
-    rw e (sets-eq (bigEndian 8 x) c.args.out.now 0 (omega arith))
+    let a = c.args in
+    ap (λ (l : List ℕ). l ++ drop 8 a.out.now) (c.copy_from_slice.ensures.after ∙ c.to_be_bytes.ensures ∙ big-endian-bytes a.x)

@@ -1,9 +1,9 @@
--- `u64_at` puts two fours together.
-use native.Mathlib.Omega.{arith}
-use Rattle.big_endian.proofs.NumberLaws.{number-of-eight}
+-- `u64_at` reads eight bytes as one number.
+use Rattle.std.proofs.Common.{◌∙◌, ap, arith}
+use mir.Syntax.{w64}
+use Rattle.std.specs.Int.{from_be_bytes}
+use Rattle.big_endian.proofs.NumberLaws.{big-endian-number}
 use Rattle.big_endian.proofs.u64_at.Goals as goal
 
 pub returns : goal.returns
-returns c =
-    let a = c.args in
-    omega (arith, number-of-eight a.bytes.now a.at.0)
+returns c = c.from_be_bytes.ensures ∙ ap (from_be_bytes w64) c.copy_from_slice.ensures.after ∙ big-endian-number c.args.bytes.now c.args.at.0 _ (omega arith)

@@ -16,20 +16,18 @@ returns-in_default c =
     let es = c.args.extents.now in
     let empty = c.empty_layout-empty in
     let l = c.loop-i in
-    let r = forward-stop empty.result es l.strides l.i l.step l.invariant.4 (search rules) (sym c.next_step.ensures ∙ ap step_of c.in_default.is) in
-    c.no_strides-in_default.ensures ∙ ap denseAfter (sym (col-few es l.invariant.1 ∙ ap (λ (b : Bool). running b 1 es) (sym empty.ensures) ∙ r))
+    let r = forward-stop empty.result es l.strides l.i l.step l.invariant.2 (search rules) (sym c.next_step.ensures ∙ ap step_of c.in_default.is) in
+    c.no_strides-in_default.ensures ∙ ap denseAfter (sym (col-few es (omega arith) ∙ ap (λ (b : Bool). running b 1 es) (sym empty.ensures) ∙ r))
 
 pub loop-i-preserved : goal.loop-i-preserved
 loop-i-preserved c =
     let es = c.args.extents.now in
     let empty = c.empty_layout-empty.result in
     let l = c.loop-i in
-    let o = sym c.next_step.ensures ∙ ap step_of c.in-Is.is in (
-      search rules,
-      l.invariant.1,
-      simp length-set l.invariant.2,
+    let o = sym c.next_step.ensures ∙ ap step_of c.in-Some.is in (
+      simp length-set l.invariant.0,
       step-most empty l.step (get_or es l.i 0) _ o,
-      rw (to_z_pos w64 l.step (omega arith)) (forward-turn empty es l.strides l.i l.step l.invariant.4 _ (search rules) (omega arith) o),
+      rw (to_z_pos w64 l.step (omega arith)) (forward-turn empty es l.strides l.i l.step l.invariant.2 _ (search rules) (omega arith) o),
     )
 
 pub returns : goal.returns
@@ -37,6 +35,7 @@ returns c =
     let l = c.loop-i in
     let es = c.args.extents.now in
     let empty = c.empty_layout-empty in
-    let r = forward-end empty.result es l.strides l.i l.step l.invariant.4 c.loop-i-test.false in
-    let n : length (take l.i l.strides) ≡ l.i = length-take-le l.i l.strides (omega arith) in
-    rw (col-few es l.invariant.1, ← empty.ensures, r, n)
+    let r = forward-end empty.result es l.strides l.i l.step l.invariant.2 (omega arith) in
+    let e : l.i ≡ length es = omega arith in
+    let n : length (take (length es) l.strides) ≡ length es = length-take-le (length es) l.strides (omega arith) in
+    rw (col-few es (omega arith), ← empty.ensures, r, e, n)

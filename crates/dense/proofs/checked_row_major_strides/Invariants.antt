@@ -7,8 +7,5 @@ use Rattle.dense.proofs.checked_row_major_strides.Given as goal
 
 abbrev pub invariant-loop-i : goal.invariant-loop-i
 invariant-loop-i l =
-    (l.i ≤ length l.extents) × (length l.extents ≤ 16) × (length l.strides ≡ 16) × (l.step ≤ mostSigned)
+    (length l.strides ≡ 16) × (l.step ≤ mostSigned)
     × (running l.empty 1 (reverse l.extents) ≡ behind (reverse (take (length l.extents - l.i) (drop l.i l.strides))) (running l.empty l.step (reverse (take l.i l.extents))))
-
-abbrev pub decreases-loop-i : goal.decreases-loop-i
-decreases-loop-i l = l.i

@@ -1,7 +1,6 @@
 -- `remainder`: what is below b is its own remainder, and b may be taken away first.
 use mathlib.Core.Path.{sym, ◌∙◌}
 use native.Mathlib.Nat.{mod-eq_of_lt, mod-eq-sub-mod}
-use borrow.Author.Rules.{rules}
 use Rattle.integer.proofs.remainder.Goals as goal
 
 pub returns-then-a-b : goal.returns-then-a-b

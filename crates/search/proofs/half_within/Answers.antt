@@ -5,19 +5,19 @@ use Rattle.search.proofs.Boxing.{boxing-past, boxing-more, boxing-end}
 use Rattle.search.proofs.half_within.Goals as goal
 
 pub overflow_sub-middle : goal.overflow_sub-middle
-overflow_sub-middle c = omega (arith, extent-above c.loop-j.invariant.positive _ c.loop-j-test.true)
+overflow_sub-middle c = omega (arith, extent-above c.loop-extent.invariant.positive _ c.loop-extent-test.true)
 
 pub returns-then-width-boxed : goal.returns-then-width-boxed
 returns-then-width-boxed c =
-    let a = c.loop-j in
-    let h = c.loop-j-test.true in
-    boxing-past _ _ _ a.invariant _ h (omega (arith, extent-above a.invariant.positive a.j h)) c.if-width-boxed.true
+    let a = c.loop-extent in
+    let h = c.loop-extent-test.true in
+    boxing-past _ _ _ a.invariant _ h (omega (arith, extent-above a.invariant.positive a.extent-index h)) c.if-width-boxed.true
 
-pub loop-j-preserved : goal.loop-j-preserved
-loop-j-preserved c =
-    let a = c.loop-j in
-    let h = c.loop-j-test.true in
-    boxing-more _ _ _ a.invariant _ h (omega (arith, extent-above a.invariant.positive a.j h)) c.if-width-boxed.false
+pub loop-extent-preserved : goal.loop-extent-preserved
+loop-extent-preserved c =
+    let a = c.loop-extent in
+    let h = c.loop-extent-test.true in
+    boxing-more _ _ _ a.invariant _ h (omega (arith, extent-above a.invariant.positive a.extent-index h)) c.if-width-boxed.false
 
 pub returns : goal.returns
-returns c = boxing-end _ _ _ c.loop-j.invariant c.loop-j-test.false
+returns c = boxing-end _ _ _ c.loop-extent.invariant c.loop-extent-test.false

@@ -1,10 +1,10 @@
 -- `search_two` meets its contract: past the budget, or the two collide, or what the walk comes to.
 use mathlib.Core.Path.{sym, ◌∙◌}
-use Rattle.search.proofs.Answered.{blocked-positive, blocked-small, room_of, past-budget, half-right, two-collide, walk-found, walk-ended}
+use Rattle.search.proofs.Answered.{blocked-positive, room_of, past-budget, half-right, two-collide, walk-found, walk-ended}
 use Rattle.search.proofs.search_two.Goals as goal
 
-pub half_within-requires : goal.half_within-requires
-half_within-requires c = let p = c.requires in (blocked-positive _ _ _ p, blocked-small _ _ _ p)
+pub half_within-requires-clause-positive : goal.half_within-requires-clause-positive
+half_within-requires-clause-positive c = blocked-positive _ _ _ c.requires
 
 pub returns-in_default : goal.returns-in_default
 returns-in_default c =
@@ -14,22 +14,24 @@ returns-in_default c =
 pub returns-then-not-apart_by_quotients : goal.returns-then-not-apart_by_quotients
 returns-then-not-apart_by_quotients c =
     let p = c.requires in
-    two-collide _ _ _ _ p.one-length (blocked-positive _ _ _ p) _ c.in-Within.ensures (sym c.apart_by_quotients.ensures ∙ c.if-not-apart_by_quotients.true)
+    two-collide _ _ _ _ p.one-length (blocked-positive _ _ _ p) _ c.in-Some.ensures (sym c.apart_by_quotients.ensures ∙ c.if-not-apart_by_quotients.true)
 
-pub walk_others-end-requires : goal.walk_others-end-requires
-walk_others-end-requires c =
+pub walk_others-requires-clause-room : goal.walk_others-requires-clause-room
+walk_others-requires-clause-room c = room_of _ _ _ _ _ _ _ c.requires c.couple-two.ensures.set_for
+
+pub walk_others-requires-clause-half : goal.walk_others-requires-clause-half
+walk_others-requires-clause-half c =
     let p = c.requires in
-    let t = c.couple-two.ensures in
-    (t.0, room_of _ _ _ _ _ _ _ p t.1, half-right _ _ p.one-length (blocked-positive _ _ _ p) _ c.in-Within.ensures, p.rank)
+    half-right _ _ p.one-length (blocked-positive _ _ _ p) _ c.in-Some.ensures
 
 pub returns-in-At : goal.returns-in-At
 returns-in-At c =
     let p = c.requires in
     let m = sym c.apart_by_quotients.ensures ∙ c.if-not-apart_by_quotients.false in
-    walk-found _ _ _ _ p.one-length (blocked-positive _ _ _ p) _ c.in-Within.ensures c.couple-two.result c.couple-two.ensures.1 c.walk_others-end.result c.walk_others-end.ensures m _ c.in-At.is
+    walk-found _ _ _ _ p.one-length (blocked-positive _ _ _ p) _ c.in-Some.ensures c.couple-two.result c.couple-two.ensures.set_for c.walk_others.result c.walk_others.ensures m _ c.in-At.is
 
 pub returns-in-Nowhere : goal.returns-in-Nowhere
 returns-in-Nowhere c =
     let p = c.requires in
     let m = sym c.apart_by_quotients.ensures ∙ c.if-not-apart_by_quotients.false in
-    walk-ended _ _ _ _ p.one-length (blocked-positive _ _ _ p) _ c.in-Within.ensures c.couple-two.result c.couple-two.ensures.1 c.walk_others-end.result c.walk_others-end.ensures m _ c.in-Nowhere.is
+    walk-ended _ _ _ _ p.one-length (blocked-positive _ _ _ p) _ c.in-Some.ensures c.couple-two.result c.couple-two.ensures.set_for c.walk_others.result c.walk_others.ensures m _ c.in-Nowhere.is

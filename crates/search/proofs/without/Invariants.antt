@@ -1,5 +1,4 @@
 -- `without` meets its contract, place by place.
-use Prim.Native.Nat.{◌-◌}
 use mathlib.Core.Path.{◌≡◌}
 use lib.ListN.{length, get_or}
 use Rattle.search.specs.Longest.{removeAt}
@@ -8,6 +7,3 @@ use Rattle.search.proofs.without.Given as goal
 
 abbrev pub invariant-loop-j : goal.invariant-loop-j
 invariant-loop-j l = Upto (λ k v. v ≡ get_or (removeAt l.p l.numbers) k 0) (length l.initial.out) l.j l.out
-
-abbrev pub decreases-loop-j : goal.decreases-loop-j
-decreases-loop-j l = length l.initial.out - l.j

@@ -2,9 +2,10 @@
 use native.Mathlib.Omega.{arith}
 use Rattle.walk.proofs.PartSums.{summing_start, digit_at, up_at, down-at, summing-up, summing-down, summing-end}
 use Rattle.walk.proofs.parts.Goals as goal
+use Rattle.walk.proofs.parts.Goals.{then-i-middle, else-i-middle}
 
 pub loop-j-init : goal.loop-j-init
-loop-j-init c = summing_start _ _ _ c.requires.0 c.requires.1 c.requires.2
+loop-j-init c = summing_start _ _ _ c.requires.lengths c.requires.within c.requires.fits
 
 pub overflow_sub-middle : goal.overflow_sub-middle
 overflow_sub-middle c = omega (arith, digit_at _ _ _ _ _ _ c.loop-j.invariant c.loop-j-test.true)
@@ -15,9 +16,6 @@ overflow_mul-up c = record { fits = omega (arith, up_at _ _ _ _ _ _ c.loop-j.inv
 pub overflow_add-up : goal.overflow_add-up
 overflow_add-up c = record { fits = omega (arith, up_at _ _ _ _ _ _ c.loop-j.invariant c.loop-j-test.true, c.loop-j.invariant.up_fits) }
 
-pub loop-j-preserved-then-i-middle : goal.loop-j-preserved-then-i-middle
-loop-j-preserved-then-i-middle c = summing-up _ _ _ _ _ _ c.loop-j.invariant c.loop-j-test.true c.if-i-middle.true
-
 pub overflow_mul-down : goal.overflow_mul-down
 overflow_mul-down c = record { fits = omega (arith, down-at _ _ _ _ _ _ c.loop-j.invariant c.loop-j-test.true, c.loop-j.invariant.down_fits) }
 
@@ -25,7 +23,13 @@ pub overflow_add-down : goal.overflow_add-down
 overflow_add-down c = record { fits = omega (arith, down-at _ _ _ _ _ _ c.loop-j.invariant c.loop-j-test.true, c.loop-j.invariant.down_fits) }
 
 pub loop-j-preserved : goal.loop-j-preserved
-loop-j-preserved c = summing-down _ _ _ _ _ _ c.loop-j.invariant c.loop-j-test.true (omega (arith, c.if-i-middle.false))
+loop-j-preserved c =
+    let v = c.loop-j in
+    let h = c.loop-j-test.true in
+    elim c.if-i-middle.branch [
+      | then-i-middle w ↦ rw (w.up-is, w.down-is) (summing-up _ _ _ _ _ _ v.invariant h w.if-i-middle.true)
+      | else-i-middle w ↦ rw (w.up-is, w.down-is) (summing-down _ _ _ _ _ _ v.invariant h (omega (arith, w.if-i-middle.false)))
+    ]
 
 pub returns : goal.returns
 returns c = summing-end _ _ _ _ _ _ c.loop-j.invariant c.loop-j-test.false

@@ -2,5 +2,5 @@
 use Rattle.enumeration.proofs.PartLaws.{zeros-middle}
 use Rattle.enumeration.proofs.parts.meets_table.Goals as goal
 
-pub meets-requires : goal.meets-requires
-meets-requires c = (zeros-middle _ _ c.requires.0, c.requires.1, c.requires.2)
+pub meets-requires-clause-middle : goal.meets-requires-clause-middle
+meets-requires-clause-middle c = zeros-middle _ _ c.requires.part

@@ -5,9 +5,9 @@ use Rattle.enumeration.proofs.PartLaws.{positive-at}
 use Rattle.enumeration.proofs.parts.reaches.Goals as goal
 
 pub overflow_sub-width : goal.overflow_sub-width
-overflow_sub-width c = positive-at c.requires.0 _ c.loop-j-test.true
+overflow_sub-width c = positive-at c.requires.extents _ c.loop-extent-test.true
 
-pub loop-j-preserved : goal.loop-j-preserved
-loop-j-preserved c =
-    let p = positive-at c.requires.0 c.loop-j.j c.loop-j-test.true in
-    mul-pos c.loop-j.invariant (omega arith)
+pub loop-extent-preserved : goal.loop-extent-preserved
+loop-extent-preserved c =
+    let p = positive-at c.requires.extents _ c.loop-extent-test.true in
+    mul-pos c.loop-extent.invariant (omega arith)

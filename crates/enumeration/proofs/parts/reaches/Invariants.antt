@@ -1,10 +1,6 @@
--- `reaches` is safe: the product stays within the goal.
-use Prim.Native.Nat.{◌-◌, ◌<◌}
-use lib.ListN.{length}
+-- `reaches` is safe: the product is never 0.
+use Rattle.std.proofs.Common.{◌<◌}
 use Rattle.enumeration.proofs.parts.reaches.Given as goal
 
-abbrev pub invariant-loop-j : goal.invariant-loop-j
-invariant-loop-j l = (0 < l.vectors)
-
-abbrev pub decreases-loop-j : goal.decreases-loop-j
-decreases-loop-j l = length l.extents - l.j
+abbrev pub invariant-loop-extent : goal.invariant-loop-extent
+invariant-loop-extent l = 0 < l.vectors

@@ -1,12 +1,11 @@
--- `split_axes` meets its contract: the axes before j have so many difference vectors, no more than there is room for.
-use Prim.Native.Nat.{◌-◌, ◌<◌, ◌≤◌}
-use mathlib.Core.Path.{◌≡◌}
-use lib.ListN.{length, take}
+-- `split_axes` meets its contract: the axes before `place` have so many difference vectors, no more than there is room for.
+use Rattle.std.proofs.Common.{◌≡◌, ◌<◌, ◌≤◌, take}
 use Rattle.differences.specs.Differences.{box}
 use Rattle.enumeration.proofs.parts.split_axes.Given as goal
 
-abbrev pub invariant-loop-j : goal.invariant-loop-j
-invariant-loop-j l = (l.j ≤ length l.extents) × (l.vectors ≡ box (take l.j l.extents)) × (0 < l.vectors) × (l.vectors ≤ l.most)
-
-abbrev pub decreases-loop-j : goal.decreases-loop-j
-decreases-loop-j l = length l.extents - l.j
+abbrev pub invariant-loop-place : goal.invariant-loop-place
+invariant-loop-place l = record {
+  counted : l.vectors ≡ box (take l.place l.extents);
+  positive : 0 < l.vectors;
+  room : l.vectors ≤ l.most;
+}

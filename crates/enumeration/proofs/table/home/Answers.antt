@@ -1,9 +1,8 @@
--- `home` meets its contract: a remainder is below its divisor.
+-- `home` meets its contract: its value is that of the definition.
 use mathlib.Core.Path.{refl}
 use Rattle.enumeration.specs.Table.{home_of}
-use Rattle.enumeration.proofs.TableLaws.{home_below}
 use Rattle.enumeration.proofs.table.home.Goals as goal
 
-pub returns : goal.returns
+pub returns-clause-value : goal.returns-clause-value
 unfolding home_of
-returns c = (refl, home_below _ _ c.requires)
+returns-clause-value c = refl

@@ -11,10 +11,10 @@ pub search_block-requires : goal.search_block-requires
 search_block-requires c =
     let s = c.args in
     let o = c.sort_by_axis in
-    let k : length s.axes.now ≤ length o.new.sorted_extents = omega (arith, o.ensures.0.extents-16, c.requires.0.few) in (
-      omega (arith, length-take-le (length s.axes.now) o.new.sorted_extents k, c.requires.1),
-      ordered-blocked s.axes.now s.extents.now s.strides.now o.new.sorted_axes o.new.sorted_extents o.new.sorted_strides c.requires.0 o.ensures.1
-          o.ensures.0.extents-16 o.ensures.0.strides-16,
+    let k : length s.axes.now ≤ length o.new.sorted_extents = omega (arith, o.ensures.sixteen.extents-16, c.requires.searchable.few) in (
+      omega (arith, length-take-le (length s.axes.now) o.new.sorted_extents k, c.requires.many),
+      ordered-blocked s.axes.now s.extents.now s.strides.now o.new.sorted_axes o.new.sorted_extents o.new.sorted_strides c.requires.searchable o.ensures.sorted
+          o.ensures.sixteen.extents-16 o.ensures.sixteen.strides-16,
     )
 
 pub returns : goal.returns
@@ -22,5 +22,5 @@ returns c =
     let s = c.args in
     let o = c.sort_by_axis in
     c.search_block.ensures (blockFrom s.axes.now s.extents.now s.strides.now)
-    (ordered-block s.axes.now s.extents.now s.strides.now o.new.sorted_axes o.new.sorted_extents o.new.sorted_strides c.requires.0 o.ensures.1
-    o.ensures.0.extents-16 o.ensures.0.strides-16)
+    (ordered-block s.axes.now s.extents.now s.strides.now o.new.sorted_axes o.new.sorted_extents o.new.sorted_strides c.requires.searchable o.ensures.sorted
+    o.ensures.sixteen.extents-16 o.ensures.sixteen.strides-16)

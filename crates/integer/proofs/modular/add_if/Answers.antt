@@ -2,7 +2,6 @@
 use mathlib.Core.Path.{◌≡◌, ap}
 use Prim.Native.Nat.{ℕ, ◌*◌}
 use native.Mathlib.Omega.{arith}
-use borrow.Author.Rules.{rules}
 use Rattle.integer.proofs.Congruence.{congruent-of-equal}
 use Rattle.integer.proofs.modular.add_if.Goals as goal
 

@@ -1,5 +1,4 @@
 -- `add_mod` meets its contract: the two arms are the two laws of a sum modulo m.
-use borrow.Author.Rules.{rules}
 use native.Mathlib.Omega.{arith}
 use Rattle.integer.proofs.ModularLaws.{sum-below-m, sum-less-m}
 use Rattle.integer.proofs.modular.add_mod.Goals as goal

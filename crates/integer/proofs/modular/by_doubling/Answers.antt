@@ -1,8 +1,7 @@
 use mathlib.Core.Path.{◌≡◌, ap}
 use Prim.Native.Nat.{ℕ, ◌*◌}
 use native.Mathlib.Omega.{arith}
-use borrow.Author.Rules.{rules}
-use Rattle.integer.proofs.ModularLaws.{Doubling, doubling-next}
+use Rattle.integer.proofs.ModularLaws.{doubling-next}
 use Rattle.integer.proofs.modular.by_doubling.Goals as goal
 
 pub loop-left-init : goal.loop-left-init

@@ -1,9 +1,5 @@
 -- `by_doubling` meets its contract. The invariant is `Doubling`; what is left of y falls.
-use mathlib.Core.Path.{◌≡◌, ap}
-use Prim.Native.Nat.{ℕ, ◌*◌}
-use native.Mathlib.Omega.{arith}
-use borrow.Author.Rules.{rules}
-use Rattle.integer.proofs.ModularLaws.{Doubling, doubling-next}
+use Rattle.integer.proofs.ModularLaws.{Doubling}
 use Rattle.integer.proofs.modular.by_doubling.Given as goal
 
 abbrev pub invariant-loop-left : goal.invariant-loop-left

@@ -2,8 +2,7 @@ use mathlib.Core.Path.{◌≡◌}
 use Prim.Native.Nat.{◌+◌, ◌*◌, ◌/◌, ◌≤◌}
 use native.Mathlib.Nat.{mod-lt}
 use native.Mathlib.Omega.{arith}
-use borrow.Author.Rules.{rules}
-use Rattle.integer.proofs.ModularLaws.{EuclidLoop, euclid-ends-negative, euclid-ends-positive, euclid-next, euclid-start, multiple-at-most}
+use Rattle.integer.proofs.ModularLaws.{euclid-ends-negative, euclid-ends-positive, euclid-next, euclid-start, multiple-at-most}
 use Rattle.integer.proofs.modular.gcd_and_inverse.Goals as goal
 
 pub loop-r1-init : goal.loop-r1-init

@@ -1,6 +1,5 @@
 -- `mul_mod` meets its contract: a small product fits a word, and any other is made by doubling, in either order.
 use native.Mathlib.Nat.{mul_comm}
-use borrow.Author.Rules.{rules}
 use Rattle.integer.proofs.Congruence.{equal-of-congruent}
 use Rattle.integer.proofs.ModularLaws.{product-fits}
 use Rattle.integer.proofs.modular.mul_mod.Goals as goal

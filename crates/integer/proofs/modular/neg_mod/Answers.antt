@@ -1,5 +1,4 @@
 -- `neg_mod` meets its contract: 0 and m - x are both the negative of x modulo m.
-use borrow.Author.Rules.{rules}
 use native.Mathlib.Omega.{arith}
 use Rattle.integer.proofs.modular.neg_mod.Goals as goal
 

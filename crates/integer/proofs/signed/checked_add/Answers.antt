@@ -13,7 +13,7 @@ use Rattle.integer.proofs.MachineInteger.{less-tested, readBack}
 use Rattle.integer.proofs.PartLaws.{ltZ-false, ltZ-true, negPart-below, parts_add, parts-minus, posPart-below}
 use Rattle.integer.proofs.Polynomial.{◌⊕◌, ◌⊖◌, int, prove-fits}
 use Rattle.integer.specs.Range.{checkedOf, mostSigned}
-use Rattle.integer.specs.declared.signed.Checked.TheVariants.{Fits, Over}
+use Rattle.std.specs.Prelude.{Some, None}
 use Rattle.integer.proofs.signed.checked_add.Goals as goal
 
 abbrev least : ℤ
@@ -44,12 +44,12 @@ module _ (a b : ℤ) (fa : SFits w64 a) (fb : SFits w64 b) where
   most-left-read t = rw (to_z-of_z w64 b fb) (most-left t)
 
   -- a sum out of range
-  sum_below : lt_z (readBack b) (pos 0) ≡ true → lt_z (readBack a) (readBack (least -ℤ readBack b)) ≡ true → Over ≡ checkedOf (a +ℤ b)
+  sum_below : lt_z (readBack b) (pos 0) ≡ true → lt_z (readBack a) (readBack (least -ℤ readBack b)) ≡ true → None ≡ checkedOf (a +ℤ b)
   sum_below t u =
       let k = ltZ-true a (least -ℤ b) (less-tested fa (least-left t) (rw (to_z-of_z w64 b fb) at u)) in
       sym (checked-below (a +ℤ b) (omega (arith, parts_add a b, parts-minus least b)))
 
-  sum-above : lt_z (readBack b) (pos 0) ≡ false → lt_z (readBack (most -ℤ readBack b)) (readBack a) ≡ true → Over ≡ checkedOf (a +ℤ b)
+  sum-above : lt_z (readBack b) (pos 0) ≡ false → lt_z (readBack (most -ℤ readBack b)) (readBack a) ≡ true → None ≡ checkedOf (a +ℤ b)
   sum-above t u =
       let k = ltZ-true (most -ℤ b) a (less-tested (most-left t) fa (rw (to_z-of_z w64 b fb) at u)) in
       sym (checked-above (a +ℤ b) (omega (arith, parts_add a b, parts-minus most b)))
@@ -71,7 +71,7 @@ module _ (a b : ℤ) (fa : SFits w64 a) (fb : SFits w64 b) where
   read_fits : SFits w64 (a +ℤ b) → SFits w64 (readBack a +ℤ readBack b)
   read_fits f = rw (to_z-of_z w64 a fa, to_z-of_z w64 b fb) f
 
-  read-sum : SFits w64 (a +ℤ b) → Fits (readBack (readBack a +ℤ readBack b)) ≡ checkedOf (a +ℤ b)
+  read-sum : SFits w64 (a +ℤ b) → Some (readBack (readBack a +ℤ readBack b)) ≡ checkedOf (a +ℤ b)
   read-sum f = rw (to_z-of_z w64 a fa, to_z-of_z w64 b fb, to_z-of_z w64 (a +ℤ b) f) (sym (checked-within (a +ℤ b) f))
 
 pub overflow_sub-b : goal.overflow_sub-b

@@ -1,5 +1,5 @@
 -- The product of the magnitudes is tested by a division, and then has the sign of the stride.
-use Rattle.std.proofs.Common.{◌∙◌, ◌≡◌, ap, sym, ℕ, ◌*◌, ◌<◌, arith}
+use Rattle.std.proofs.Common.{◌∙◌, ◌≡◌, ap, sym, ◌<◌, arith}
 use Rattle.std.specs.Prelude.{nat_abs}
 use native.Mathlib.Nat.{div-lt_iff_lt-mul}
 use mir.Syntax.{w64}

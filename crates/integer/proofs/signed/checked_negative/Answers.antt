@@ -1,7 +1,6 @@
 -- `checked_negative` meets its contract: -m fits down to -2^63, and is below the range from there on.
 use mathlib.Core.Path.{sym}
 use native.Mathlib.Omega.{arith}
-use borrow.Author.Rules.{rules}
 use lib.IntN.{neg_ℤ, pos}
 use Rattle.integer.proofs.CheckedLaws.{checked-below, checked-within}
 use Rattle.integer.proofs.MachineInteger.{negation-reads}

@@ -1,7 +1,6 @@
 -- `checked_positive` meets its contract: m fits up to 2^63 - 1, and is above the range from there on.
 use mathlib.Core.Path.{sym}
 use native.Mathlib.Omega.{arith}
-use borrow.Author.Rules.{rules}
 use lib.IntN.{pos}
 use mir.Syntax.{w64}
 use mir.ValLaws.{to_z_pos}

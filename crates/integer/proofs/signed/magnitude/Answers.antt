@@ -1,6 +1,5 @@
 -- `magnitude` meets its contract: what a test `s < 0` tells is all that its casts and its sum ask.
 use native.Mathlib.Omega.{arith}
-use borrow.Author.Rules.{rules}
 use mir.Syntax.{w64}
 use mir.ValLaws.{to_z-of_z}
 use Rattle.integer.proofs.MachineInteger.{Negative, negative-tested, nonnegative-tested}

@@ -7,6 +7,3 @@ use Rattle.search.proofs.set_up.fill_back.Given as goal
 
 abbrev pub invariant-loop-j : goal.invariant-loop-j
 invariant-loop-j l = Upto (λ k v. (v < l.m) × Congruent l.m (v + 2 * (get_or l.extents k 0 - 1) * get_or l.up k 0) 0) (length l.extents) l.j l.back
-
-abbrev pub decreases-loop-j : goal.decreases-loop-j
-decreases-loop-j l = length l.extents - l.j

@@ -4,7 +4,7 @@ use Rattle.search.proofs.Filling.{middle-done, extent-above}
 use Rattle.search.proofs.set_up.fill_middle.Goals as goal
 
 pub overflow_sub-digits : goal.overflow_sub-digits
-overflow_sub-digits c = omega (arith, extent-above c.requires.1 _ c.loop-j-test.true)
+overflow_sub-digits c = omega (arith, extent-above c.requires.positive _ c.loop-j-test.true)
 
 pub returns : goal.returns
 returns c = middle-done c.args.extents.now _ _ c.loop-j.invariant c.loop-j-test.false

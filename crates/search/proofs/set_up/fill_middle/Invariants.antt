@@ -7,6 +7,3 @@ use Rattle.search.proofs.set_up.fill_middle.Given as goal
 
 abbrev pub invariant-loop-j : goal.invariant-loop-j
 invariant-loop-j l = Upto (λ k v. v ≡ get_or l.extents k 0 - 1) (length l.extents) l.j l.digits
-
-abbrev pub decreases-loop-j : goal.decreases-loop-j
-decreases-loop-j l = length l.extents - l.j

@@ -6,5 +6,5 @@ use Rattle.search.proofs.set_up.fill_up.Goals as goal
 
 pub loop-j-preserved : goal.loop-j-preserved
 loop-j-preserved c =
-    let h : 0 < c.args.m = omega (arith, c.requires.1) in
+    let h : 0 < c.args.m = omega (arith, c.requires.low) in
     upto-more _ _ _ _ _ c.loop-j.invariant c.loop-j-test.true (up_is _ _ _ _ h c.mul_mod.ensures)

@@ -1,5 +1,5 @@
 -- `fill_up` meets its contract, place by place.
-use Prim.Native.Nat.{◌*◌, ◌-◌, ◌<◌}
+use Prim.Native.Nat.{◌*◌, ◌<◌}
 use lib.ListN.{length, get_or}
 use Rattle.integer.specs.Congruence.{Congruent}
 use Rattle.search.proofs.Filling.{Upto}
@@ -7,6 +7,3 @@ use Rattle.search.proofs.set_up.fill_up.Given as goal
 
 abbrev pub invariant-loop-j : goal.invariant-loop-j
 invariant-loop-j l = Upto (λ k v. (v < l.m) × Congruent l.m v (get_or l.strides k 0 * l.c)) (length l.strides) l.j l.up
-
-abbrev pub decreases-loop-j : goal.decreases-loop-j
-decreases-loop-j l = length l.strides - l.j

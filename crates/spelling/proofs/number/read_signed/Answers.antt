@@ -1,23 +1,24 @@
 -- The answer by the sign, and by what the digits behind it spell.
 use Rattle.std.proofs.Common.{sym, ◌∙◌}
+use borrow.Author.Tests.{eqb-true, eqb-false}
 use Rattle.spelling.proofs.NumberLaws.{signed-empty, signed-negative, signed-positive}
 use Rattle.spelling.proofs.number.read_signed.Goals as goal
 
-pub returns-then-text-eq0 : goal.returns-then-text-eq0
-returns-then-text-eq0 c = sym (signed-empty _ c.if-text-eq0.true)
+pub returns-then-is_empty : goal.returns-then-is_empty
+returns-then-is_empty c = sym (signed-empty _ (eqb-true _ _ (sym c.is_empty.ensures ∙ c.if-is_empty.true)))
 
-pub returns-in-Is : goal.returns-in-Is
-returns-in-Is c =
-    c.checked_negative.ensures ∙ sym (signed-negative _ c.if-text-eq0.false _ c.if-text-eq45.true (sym c.read_unsigned-size.ensures ∙ c.in-Is.is))
+pub returns-in-Some : goal.returns-in-Some
+returns-in-Some c =
+    c.checked_negative.ensures ∙ sym (signed-negative _ (eqb-false _ _ (sym c.is_empty.ensures ∙ c.if-is_empty.false)) _ c.if-text-eq-MINUS.true (sym c.in-Some.ensures))
 
-pub returns-in-Not : goal.returns-in-Not
-returns-in-Not c =
-    sym (signed-negative _ c.if-text-eq0.false _ c.if-text-eq45.true (sym c.read_unsigned-size.ensures ∙ c.in-Not.is))
+pub returns-in-None : goal.returns-in-None
+returns-in-None c =
+    sym (signed-negative _ (eqb-false _ _ (sym c.is_empty.ensures ∙ c.if-is_empty.false)) _ c.if-text-eq-MINUS.true (sym c.in-None.ensures))
 
-pub returns-in-Is-size : goal.returns-in-Is-size
-returns-in-Is-size c =
-    c.checked_positive.ensures ∙ sym (signed-positive _ c.if-text-eq0.false _ c.if-text-eq45.false (sym c.read_unsigned-size-else-text-eq45.ensures ∙ c.in-Is-size.is))
+pub returns-in-Some-read_unsigned : goal.returns-in-Some-read_unsigned
+returns-in-Some-read_unsigned c =
+    c.checked_positive.ensures ∙ sym (signed-positive _ (eqb-false _ _ (sym c.is_empty.ensures ∙ c.if-is_empty.false)) _ c.if-text-eq-MINUS.false (sym c.in-Some-read_unsigned.ensures))
 
-pub returns-in-Not-size : goal.returns-in-Not-size
-returns-in-Not-size c =
-    sym (signed-positive _ c.if-text-eq0.false _ c.if-text-eq45.false (sym c.read_unsigned-size-else-text-eq45.ensures ∙ c.in-Not-size.is))
+pub returns-in-None-read_unsigned : goal.returns-in-None-read_unsigned
+returns-in-None-read_unsigned c =
+    sym (signed-positive _ (eqb-false _ _ (sym c.is_empty.ensures ∙ c.if-is_empty.false)) _ c.if-text-eq-MINUS.false (sym c.in-None-read_unsigned.ensures))

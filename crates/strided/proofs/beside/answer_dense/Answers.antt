@@ -5,10 +5,10 @@ use Rattle.view.specs.Answers.{outcomeOf}
 use Rattle.strided.proofs.beside.answer_dense.Goals as goal
 
 pub store_strides-requires : goal.store_strides-requires
-store_strides-requires c = (c.requires.0 (ap outcomeOf c.in-Done.is), c.requires.1)
+store_strides-requires c = (c.requires.0 (ap outcomeOf c.in-Ok.is), c.requires.1)
 
-pub returns-in-Done : goal.returns-in-Done
-returns-in-Done c =
-    let few : c.args.count ≤ 16 = c.requires.0 (ap outcomeOf c.in-Done.is) in
+pub returns-in-Ok : goal.returns-in-Ok
+returns-in-Ok c =
+    let few : c.args.count ≤ 16 = c.requires.0 (ap outcomeOf c.in-Ok.is) in
     let inside : c.args.count ≤ length c.args.dense.strides = search rules in
-    rw c.in-Done.is (record { answer-is = refl; strides-are = rw length-take-le c.store_strides.ensures })
+    rw c.in-Ok.is (record { answer-is = refl; strides-are = rw length-take-le c.store_strides.ensures })

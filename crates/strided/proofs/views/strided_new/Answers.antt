@@ -7,11 +7,11 @@ use Rattle.strided.proofs.views.strided_new.Goals as goal
 pub store_lists-requires : goal.store_lists-requires
 store_lists-requires c =
     let room = layout-room _ _ (sym c.if-not-holds_layout.ensures) in
-    let passed = checked-done _ _ _ _ (sym c.in-Done.ensures) in
+    let passed = checked-done _ _ _ _ (sym c.in-Ok.ensures) in
     (room.0, room.1, passed.0, sym passed.1)
 
-pub returns-in-Done : goal.returns-in-Done
-returns-in-Done c =
+pub returns-in-Ok : goal.returns-in-Ok
+returns-in-Ok c =
     let read = to_z-of_z c.ranges.offset in
-    let passed = checked-done _ _ _ _ (sym (rw read at c.in-Done.ensures)) in
+    let passed = checked-done _ _ _ _ (sym (rw read at c.in-Ok.ensures)) in
     rw (sym c.if-not-holds_layout.ensures, passed.2) (record { answer-is = refl; layout_is = rw read at c.store_lists.ensures })

@@ -9,16 +9,16 @@ use Rattle.view.specs.Model.{modelFrom}
 use Rattle.view.proofs.BoundsLaws.{zero-tested, wide-tested, base-told, spans-within}
 use Rattle.view.proofs.bounds.plainly_within.Goals as goal
 
-pub returns-in-Of : goal.returns-in-Of
-returns-in-Of c told =
+pub returns-in-Some : goal.returns-in-Some
+returns-in-Some c told =
     let a = c.args in
     let l = modelFrom a.len a.offset.0 a.extents.now a.strides.now in
-    let found = c.small_spans-spans.ensures _ _ c.in-Of.is in
+    let found = c.in-Some.ensures in
     let filled = zero-tested a.extents.now a.strides.now c.requires found.none-zero in
     let f : SFits w64 a.offset.0 = search rules in
-    let b = base-told f c.if-start-lt0.false c.positive_part-base.ensures in
+    let b = base-told f c.if-start-lt0.false c.unsigned_abs-base.ensures.value in
     let below = posPart-below f in
-    let inside : c.positive_part-base.result + c.in-Of.up < a.len = ltb-true _ _ told in
+    let inside : c.unsigned_abs-base.result + c.in-Some.spans.up < a.len = ltb-true _ _ told in
     record {
       not-empty = filled;
       not_wide = wide-tested a.extents.now a.strides.now c.requires found.none-wide;

@@ -1,5 +1,5 @@
 -- By the sign of its stride an axis adds to one of the sums alone; an extent that a small product took is narrow.
-use Rattle.std.proofs.Common.{◌≡◌, ◌∙◌, refl, get_or, arith}
+use Rattle.std.proofs.Common.{◌∙◌, refl, ◌<◌, length, get_or, arith}
 use borrow.Author.Rules.{rules}
 use borrow.Author.Tests.{ne_eqb}
 use lib.Dec.{eqb}
@@ -8,49 +8,52 @@ use Rattle.specification.proofs.SomeLaws.{some-behind, some_end}
 use Rattle.view.proofs.BoundsLaws.{narrow-extent}
 use Rattle.view.proofs.SpanLaws.{falling-turn, rising-turn, spans-end}
 use Rattle.view.proofs.bounds.small_spans.Goals as goal
-
-pub loop-i-preserved-then-stride-lt0 : goal.loop-i-preserved-then-stride-lt0
-loop-i-preserved-then-stride-lt0 c =
-    let l = c.loop-i in
-    let es = c.args.extents.now in
-    let more = c.small_product.ensures _ c.in-Is.is in
-    record {
-      in_range = omega arith;
-      up_most = omega arith;
-      down_most = omega arith;
-      left = rw more.0 (falling-turn es c.args.strides.now l.i l.up l.down _ c.negative_part.result
-          l.invariant.left (omega arith) (omega arith) refl (search rules) c.if-stride-lt0.true c.negative_part.ensures);
-      none_zero = l.invariant.none_zero ∙ some-behind (λ n. eqb n 0) 0 es l.i (omega arith) (ne_eqb _ _ c.if-extent-eq0.false);
-      none_wide = l.invariant.none_wide ∙ some-behind tooWideExtent 0 es l.i (omega arith) (narrow-extent (get_or es l.i 0) (omega arith));
-    }
+use Rattle.view.proofs.bounds.small_spans.Goals.{then-stride-lt0, else-stride-lt0, then-stride-lt0-2, else-stride-lt0-2}
 
 pub loop-i-preserved : goal.loop-i-preserved
 loop-i-preserved c =
     let l = c.loop-i in
     let es = c.args.extents.now in
-    let more = c.small_product-else-stride-lt0.ensures _ c.in-Is-small_product.is in
-    record {
-      in_range = omega arith;
-      up_most = omega arith;
-      down_most = omega arith;
-      left = rw more.0 (rising-turn es c.args.strides.now l.i l.up l.down _ c.positive_part.result
-          l.invariant.left (omega arith) (omega arith) refl (search rules) c.if-stride-lt0.false c.positive_part.ensures);
-      none_zero = l.invariant.none_zero ∙ some-behind (λ n. eqb n 0) 0 es l.i (omega arith) (ne_eqb _ _ c.if-extent-eq0.false);
-      none_wide = l.invariant.none_wide ∙ some-behind tooWideExtent 0 es l.i (omega arith) (narrow-extent (get_or es l.i 0) (omega arith));
-    }
+    let ss = c.args.strides.now in
+    let k : l.i < length ss = omega arith in
+    let more = c.in-Some.ensures in
+    let zeros = l.invariant.none_zero ∙ some-behind (λ n. eqb n 0) 0 es l.i (omega arith) (ne_eqb _ _ c.if-extent-eq0.false) in
+    let wides = l.invariant.none_wide ∙ some-behind tooWideExtent 0 es l.i (omega arith) (narrow-extent (get_or es l.i 0) (omega arith)) in
+    elim c.if-stride-lt0-2.branch [
+      | then-stride-lt0-2 v ↦ elim c.if-stride-lt0.branch [
+        | then-stride-lt0 w ↦ record {
+          up_most = omega arith;
+          down_most = omega arith;
+          left = rw (v.up-is, v.down-is, more.0) (falling-turn es ss l.i l.up l.down _ c.unsigned_abs.result
+              l.invariant.left (omega arith) k refl (search rules) v.if-stride-lt0-2.true c.unsigned_abs.ensures.value);
+          none_zero = zeros;
+          none_wide = wides;
+        }
+        | else-stride-lt0 w ↦ cc
+      ]
+      | else-stride-lt0-2 v ↦ elim c.if-stride-lt0.branch [
+        | then-stride-lt0 w ↦ cc
+        | else-stride-lt0 w ↦ record {
+          up_most = omega arith;
+          down_most = omega arith;
+          left = rw (v.up-is, v.down-is, more.0) (rising-turn es ss l.i l.up l.down _ c.unsigned_abs.result
+              l.invariant.left (omega arith) k refl (search rules) v.if-stride-lt0-2.false c.unsigned_abs.ensures.value);
+          none_zero = zeros;
+          none_wide = wides;
+        }
+      ]
+    ]
 
 pub returns : goal.returns
-returns c up down told =
+returns c =
     let l = c.loop-i in
     let es = c.args.extents.now in
-    let ends = spans-end es c.args.strides.now l.i l.up l.down l.invariant.left c.loop-i-test.false in
-    let e : up ≡ l.up = cc in
-    let k : down ≡ l.down = cc in
+    let ends = spans-end es c.args.strides.now l.i l.up l.down l.invariant.left (omega arith) in
     record {
-      up_is = e ∙ ends.0;
-      down_is = k ∙ ends.1;
+      up_is = ends.0;
+      down_is = ends.1;
       up-most = omega arith;
       down-most = omega arith;
-      none-zero = l.invariant.none_zero ∙ some_end (λ n. eqb n 0) 0 es l.i c.loop-i-test.false;
-      none-wide = l.invariant.none_wide ∙ some_end tooWideExtent 0 es l.i c.loop-i-test.false;
+      none-zero = l.invariant.none_zero ∙ some_end (λ n. eqb n 0) 0 es l.i (omega arith);
+      none-wide = l.invariant.none_wide ∙ some_end tooWideExtent 0 es l.i (omega arith);
     }

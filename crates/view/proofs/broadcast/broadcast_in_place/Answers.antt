@@ -18,21 +18,21 @@ targeted len offset es ss targets h e = (listed-passed (modelFrom len offset es 
 pub stretch-requires : goal.stretch-requires
 stretch-requires c =
     let a = c.args in
-    (c.requires.0, targeted a.len a.offset.0 a.extents.now a.strides.now a.targets.now c.requires.0 (sym c.broadcast_refusal-answer.ensures ∙ ap outcomeOf c.in-Done.is))
+    record { alike = c.requires.0; targeted = targeted a.len a.offset.0 a.extents.now a.strides.now a.targets.now c.requires.0 (sym c.broadcast_refusal-answer.ensures ∙ ap outcomeOf c.in-Ok.is) }
 
-pub returns-in-Refused : goal.returns-in-Refused
+pub returns-in-Err : goal.returns-in-Err
 unfolding broadcast unlessRefused
-returns-in-Refused c = record { after_is = rw (← c.broadcast_refusal-answer.ensures, c.in-Refused.is); kept_in = (refl, refl) }
+returns-in-Err c = record { after_is = rw (← c.broadcast_refusal-answer.ensures, c.in-Err.is); kept_in = (refl, refl) }
 
-pub returns-in-Done : goal.returns-in-Done
+pub returns-in-Ok : goal.returns-in-Ok
 unfolding broadcast unlessRefused
-returns-in-Done c =
+returns-in-Ok c =
     let a = c.args in
     let t = c.stretch in
-    let n = targeted a.len a.offset.0 a.extents.now a.strides.now a.targets.now c.requires.0 (sym c.broadcast_refusal-answer.ensures ∙ ap outcomeOf c.in-Done.is) in
+    let n = targeted a.len a.offset.0 a.extents.now a.strides.now a.targets.now c.requires.0 (sym c.broadcast_refusal-answer.ensures ∙ ap outcomeOf c.in-Ok.is) in
     let h : length t.new.extents ≡ length a.targets.now = omega arith in
     let k : length t.new.strides ≡ length a.targets.now = omega arith in
     record {
-      after_is = rw (← c.broadcast_refusal-answer.ensures, c.in-Done.is, axesIn-axesOf t.new.extents t.new.strides (length a.targets.now) h k, t.ensures);
+      after_is = rw (← c.broadcast_refusal-answer.ensures, c.in-Ok.is, axesIn-axesOf t.new.extents t.new.strides (length a.targets.now) h k, t.ensures);
       kept_in = omega arith;
     }

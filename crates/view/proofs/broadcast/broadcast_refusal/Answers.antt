@@ -8,26 +8,26 @@ use Rattle.view.proofs.ListedLaws.{listed-refused, listed-wrong, listed_next}
 use Rattle.view.proofs.ModelLaws.{length-axesOf}
 use Rattle.view.proofs.broadcast.broadcast_refusal.Goals as goal
 
-pub returns-in-Refused : goal.returns-in-Refused
-returns-in-Refused c =
+pub returns-in-Err : goal.returns-in-Err
+returns-in-Err c =
     let a = c.args in
     let model = modelFrom a.len a.offset.0 a.extents.now a.strides.now in
-    let told : outcomeOf c.handed_lists-first.result ≡ handed model a.targets.now = c.handed_lists-first.ensures a.targets.now refl in
-    sym (listed-refused model a.targets.now _ _ (sym told ∙ ap outcomeOf c.in-Refused.is))
+    let told : handed model a.targets.now ≡ outcomeOf c.handed_lists-first.result = sym (c.handed_lists-first.ensures a.targets.now refl) in
+    ap outcomeOf c.in-Err.is ∙ sym (listed-refused model a.targets.now _ _ (told ∙ ap outcomeOf c.in-Err.is))
 
 pub returns-then-targets-extents : goal.returns-then-targets-extents
 returns-then-targets-extents c =
     let a = c.args in
     let model = modelFrom a.len a.offset.0 a.extents.now a.strides.now in
-    let n = length-axesOf a.extents.now a.strides.now c.requires.0 in
-    let passed : handed model a.targets.now ≡ pass = sym (c.handed_lists-first.ensures a.targets.now refl) ∙ ap outcomeOf c.in-Done.is in
+    let n = length-axesOf a.extents.now a.strides.now c.requires.alike in
+    let passed : handed model a.targets.now ≡ pass = sym (c.handed_lists-first.ensures a.targets.now refl) ∙ ap outcomeOf c.in_default.is in
     sym (listed-wrong model a.targets.now _ _ passed (λ e. c.if-targets-extents.true (e ∙ n)) ∙ rw n)
 
-pub returns-else-targets-extents : goal.returns-else-targets-extents
-returns-else-targets-extents c =
+pub returns : goal.returns
+returns c =
     let a = c.args in
     let model = modelFrom a.len a.offset.0 a.extents.now a.strides.now in
-    let n = length-axesOf a.extents.now a.strides.now c.requires.0 in
-    let passed : handed model a.targets.now ≡ pass = sym (c.handed_lists-first.ensures a.targets.now refl) ∙ ap outcomeOf c.in-Done.is in
-    c.target_fault.ensures a.strides.now c.requires.0
+    let n = length-axesOf a.extents.now a.strides.now c.requires.alike in
+    let passed : handed model a.targets.now ≡ pass = sym (c.handed_lists-first.ensures a.targets.now refl) ∙ ap outcomeOf c.in_default.is in
+    c.target_fault.ensures a.strides.now c.requires.alike
     ∙ sym (listed_next model a.targets.now _ _ passed (c.if-targets-extents.false ∙ sym n))

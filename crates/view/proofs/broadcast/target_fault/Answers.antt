@@ -3,29 +3,26 @@ use native.Mathlib.Omega.{arith}
 use Rattle.specification.specs.Axis.{axesOf}
 use Rattle.view.proofs.ModelLaws.{axisAt-axesOf, length-axesOf}
 use Rattle.view.proofs.TargetLaws.{fault-here, fault-later, fault-none}
-use borrow.Author.Rules.{rules}
 use Rattle.view.proofs.broadcast.target_fault.Goals as goal
 
 pub loop-i-preserved : goal.loop-i-preserved
 loop-i-preserved c =
-    let l = c.loop-i in (
-      search rules,
-      λ strides e.
-          let n = length-axesOf c.args.extents.now strides e in
-          l.invariant.1 strides e ∙ fault-later (axesOf c.args.extents.now strides) c.args.targets.now l.i (omega arith) (omega arith)
-          (rw (axisAt-axesOf c.args.extents.now strides l.i e (omega arith)) (sym c.stretches.ensures ∙ c.if-stretches.true)),
-    )
-
-pub returns-else-stretches : goal.returns-else-stretches
-returns-else-stretches c =
     let l = c.loop-i in
     λ strides e.
     let n = length-axesOf c.args.extents.now strides e in
-    sym (l.invariant.1 strides e ∙ fault-here (axesOf c.args.extents.now strides) c.args.targets.now l.i (omega arith) (omega arith)
-    (rw (axisAt-axesOf c.args.extents.now strides l.i e (omega arith)) (sym c.stretches.ensures ∙ c.if-stretches.false)))
+    l.invariant strides e ∙ fault-later (axesOf c.args.extents.now strides) c.args.targets.now l.i (omega arith) (omega arith)
+    (rw (axisAt-axesOf c.args.extents.now strides l.i e (omega arith)) (sym c.stretches.ensures ∙ c.if-not-stretches.false))
+
+pub returns-then-not-stretches : goal.returns-then-not-stretches
+returns-then-not-stretches c =
+    let l = c.loop-i in
+    λ strides e.
+    let n = length-axesOf c.args.extents.now strides e in
+    sym (l.invariant strides e ∙ fault-here (axesOf c.args.extents.now strides) c.args.targets.now l.i (omega arith) (omega arith)
+    (rw (axisAt-axesOf c.args.extents.now strides l.i e (omega arith)) (sym c.stretches.ensures ∙ c.if-not-stretches.true)))
 
 pub returns : goal.returns
 returns c =
     let l = c.loop-i in
     λ strides e.
-    sym (l.invariant.1 strides e ∙ fault-none (axesOf c.args.extents.now strides) c.args.targets.now l.i l.i (omega arith) (omega (arith, length-axesOf c.args.extents.now strides e)))
+    sym (l.invariant strides e ∙ fault-none (axesOf c.args.extents.now strides) c.args.targets.now l.i l.i (omega arith) (omega (arith, length-axesOf c.args.extents.now strides e)))

@@ -1,7 +1,6 @@
 -- `target_fault` is the first fault: from each axis on it is the whole.
 use mathlib.Core.Path.{◌≡◌}
 use mathlib.Core.List.{List}
-use Prim.Native.Nat.{◌≤◌, ◌-◌}
 use lib.IntN.{ℤ}
 use lib.ListN.{length, drop}
 use Rattle.specification.specs.Axis.{axesOf}
@@ -10,8 +9,4 @@ use Rattle.view.proofs.broadcast.target_fault.Given as goal
 
 abbrev pub invariant-loop-i : goal.invariant-loop-i
 invariant-loop-i l =
-    (l.i ≤ length l.targets)
-    × ((strides : List ℤ) → length l.extents ≡ length strides → targetFault 0 (axesOf l.extents strides) l.targets ≡ targetFault l.i (drop l.i (axesOf l.extents strides)) (drop l.i l.targets))
-
-abbrev pub decreases-loop-i : goal.decreases-loop-i
-decreases-loop-i l = length l.targets - l.i
+    (strides : List ℤ) → length l.extents ≡ length strides → targetFault 0 (axesOf l.extents strides) l.targets ≡ targetFault l.i (drop l.i (axesOf l.extents strides)) (drop l.i l.targets)

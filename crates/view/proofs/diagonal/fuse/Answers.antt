@@ -1,4 +1,5 @@
 -- `fuse`: an axis that is a root begins the class at its place, another is taken into the class of its root, or the sum of strides is out of range.
+use Rattle.std.specs.Prelude.{Ok}
 use Rattle.std.proofs.Common.{◌≡◌, ℕ, ◌+◌, ◌<◌, ◌≤◌, ◌-◌, ◌%◌, ◌^◌, List, [], length, get_or, refl, sym, ap, subst, ◌∙◌, arith, rules}
 use lib.Count.{ones}
 use lib.IntN.{ℤ, pos, ◌+ℤ◌}
@@ -14,7 +15,6 @@ use Rattle.specification.specs.Outcome.{refused, pass}
 use Rattle.specification.specs.Views.{kept, sumFaults, diagonalAxes}
 use Rattle.view.specs.Model.{axesIn}
 use Rattle.view.specs.Ties.{rootAt, isRoot, mask_of, tiesIn, TiesOf}
-use Rattle.view.specs.declared.layout.Answer.TheVariants.{Done}
 use Rattle.view.proofs.ModelLaws.{axisAt-axesOf, length-axesOf}
 use Rattle.view.proofs.RangeLaws.{count, count_most}
 use Rattle.view.proofs.RootLaws.{ones_below, mask-ones}
@@ -22,10 +22,11 @@ use Rattle.view.proofs.ClassLaws.{root-of-root}
 use Rattle.view.proofs.FusedLaws.{Stored, faultBelow, stored-first, stored-later, over-here, over-later}
 use Rattle.view.proofs.DiagonalLaws.{sums-over, sums_none, axes-stored}
 use Rattle.view.proofs.diagonal.fuse.Goals as goal
+use Rattle.view.proofs.diagonal.fuse.Goals.{then-root-axis, else-root-axis+in-Some}
 
 -- ---- an axis whose root and place are found
 
-module _ {n : ℕ} {roots : List ℕ} {pairs : List (ℕ × ℕ)} (of : TiesOf n pairs (tiesIn roots n Done)) (axis : ℕ) (below : axis < n) where
+module _ {n : ℕ} {roots : List ℕ} {pairs : List (ℕ × ℕ)} (of : TiesOf n pairs (tiesIn roots n (Ok tt))) (axis : ℕ) (below : axis < n) where
   -- the root of an axis is not above it
   root-low : rootAt roots axis ≤ axis
   root-low = of.low axis (omega (arith, of.few))
@@ -43,12 +44,12 @@ module _ {n : ℕ} {roots : List ℕ} {pairs : List (ℕ × ℕ)} (of : TiesOf n
 
 -- ---- at the end, said of a layout with these axes
 
-module _ (es : List ℕ) (ss : List ℤ) {roots : List ℕ} (long : length es ≡ length ss) {pairs : List (ℕ × ℕ)} (of : TiesOf (length es) pairs (tiesIn roots (length es) Done)) (m : LayoutM) (same : m.axes ≡ axesOf es ss) where
+module _ (es : List ℕ) (ss : List ℤ) {roots : List ℕ} (long : length es ≡ length ss) {pairs : List (ℕ × ℕ)} (of : TiesOf (length es) pairs (tiesIn roots (length es) (Ok tt))) (m : LayoutM) (same : m.axes ≡ axesOf es ss) where
   size : rank m ≡ length es
   size = ap length same ∙ length-axesOf es ss long
 
-  of-model : TiesOf (rank m) pairs (tiesIn roots (length es) Done)
-  of-model = subst (λ (n : ℕ). TiesOf n pairs (tiesIn roots (length es) Done)) (sym size) of
+  of-model : TiesOf (rank m) pairs (tiesIn roots (length es) (Ok tt))
+  of-model = subst (λ (n : ℕ). TiesOf n pairs (tiesIn roots (length es) (Ok tt))) (sym size) of
 
   over : (n r : ℕ) → n ≤ length es → r < length es → rootAt roots r ≡ r → faultBelow (axesOf es ss) roots n r ≡ refused 3 []
       → sumFaults m pairs (kept pairs (rank m)) ≡ refused 3 []
@@ -68,35 +69,16 @@ module _ (es : List ℕ) (ss : List ℤ) {roots : List ℕ} (long : length es �
 -- ---- the goals
 
 pub bounds-fused_extents-at : goal.bounds-fused_extents-at
-bounds-fused_extents-at c = place-low c.requires.4.1 c.loop-axis.axis c.loop-axis-test.true c.place-at.ensures c.requires.3
+bounds-fused_extents-at c = place-low c.requires.tied.1 c.loop-axis.axis (omega arith) c.place-at.ensures c.requires.masked
 
 pub bounds-fused_strides-at : goal.bounds-fused_strides-at
-bounds-fused_strides-at c = place-low c.requires.4.1 c.loop-axis.axis c.loop-axis-test.true c.place-at.ensures c.requires.3
-
-pub loop-axis-preserved-then-root-axis : goal.loop-axis-preserved-then-root-axis
-loop-axis-preserved-then-root-axis c =
-    let es : List ℕ = c.args.extents.now in
-    let ss : List ℤ = c.args.strides.now in
-    let roots : List ℕ = c.args.roots.now in
-    let l = c.loop-axis in
-    let h = c.loop-axis-test.true in
-    let of = c.requires.4.1 in
-    let low = place-low of l.axis h c.place-at.ensures c.requires.3 in
-    let g : SFits w64 (get_or ss l.axis (pos 0)) = search rules in (
-      omega arith,
-      simp length-set l.invariant.1,
-      simp length-set l.invariant.2,
-      stored-first (axesOf es ss) roots l.axis l.invariant.3 _ _ (axisAt-axesOf es ss l.axis c.requires.0 h) c.place-at.result
-          c.if-root-axis.true (place_is of l.axis h c.place-at.ensures c.requires.3 ∙ ap (count (isRoot roots)) c.if-root-axis.true)
-          (λ a b. of.low a (omega (arith, of.few))) (fits-of-sfits _ g)
-          (omega (arith, low)) (omega (arith, low)) _ (to_z-of_z w64 _ g),
-    )
+bounds-fused_strides-at c = place-low c.requires.tied.1 c.loop-axis.axis (omega arith) c.place-at.ensures c.requires.masked
 
 pub bounds-fused_extents-at-else-root-axis : goal.bounds-fused_extents-at-else-root-axis
-bounds-fused_extents-at-else-root-axis c = place-low c.requires.4.1 c.loop-axis.axis c.loop-axis-test.true c.place-at.ensures c.requires.3
+bounds-fused_extents-at-else-root-axis c = place-low c.requires.tied.1 c.loop-axis.axis (omega arith) c.place-at.ensures c.requires.masked
 
 pub bounds-fused_strides-at-else-root-axis : goal.bounds-fused_strides-at-else-root-axis
-bounds-fused_strides-at-else-root-axis c = place-low c.requires.4.1 c.loop-axis.axis c.loop-axis-test.true c.place-at.ensures c.requires.3
+bounds-fused_strides-at-else-root-axis c = place-low c.requires.tied.1 c.loop-axis.axis (omega arith) c.place-at.ensures c.requires.masked
 
 pub returns-in_default : goal.returns-in_default
 returns-in_default c =
@@ -104,23 +86,23 @@ returns-in_default c =
     let ss : List ℤ = c.args.strides.now in
     let roots : List ℕ = c.args.roots.now in
     let l = c.loop-axis in
-    let h = c.loop-axis-test.true in
-    let of = c.requires.4.1 in
+    let h : l.axis < length es = omega arith in
+    let of = c.requires.tied.1 in
     let r : ℕ = rootAt roots l.axis in
     let low : r ≤ l.axis = root-low of l.axis h in
     let less : r < l.axis = omega arith in
     let so_far : ℤ = get_or l.fused_strides c.place-at.result (pos 0) in
     let stride : ℤ = get_or ss l.axis (pos 0) in
     let e : c.checked_add.result ≡ checkedOf (so_far +ℤ stride) = checked-add-is so_far stride (search rules) (search rules) c.checked_add.ensures in
-    let here = over-here (axesOf es ss) roots l.axis l.invariant.3 _ _ (axisAt-axesOf es ss l.axis c.requires.0 h) c.place-at.result r refl less (root-own of l.axis h)
-    (place_is of l.axis h c.place-at.ensures c.requires.3) (over-arm (so_far +ℤ stride) e c.in_default.is) in
-    (l.invariant.1, l.invariant.2, λ pairs of' m same. over es ss c.requires.0 of' m same (l.axis + 1) r (omega arith) (omega arith) (root-own of l.axis h) here)
+    let here = over-here (axesOf es ss) roots l.axis l.invariant.stored _ _ (axisAt-axesOf es ss l.axis c.requires.alike h) c.place-at.result r refl less (root-own of l.axis h)
+    (place_is of l.axis h c.place-at.ensures c.requires.masked) (over-arm (so_far +ℤ stride) e c.in_default.is) in
+    λ pairs of' m same. over es ss c.requires.alike of' m same (l.axis + 1) r (omega arith) (omega arith) (root-own of l.axis h) here
 
 pub bounds-fused_extents-at-else-root-axis-2 : goal.bounds-fused_extents-at-else-root-axis-2
-bounds-fused_extents-at-else-root-axis-2 c = place-low c.requires.4.1 c.loop-axis.axis c.loop-axis-test.true c.place-at.ensures c.requires.3
+bounds-fused_extents-at-else-root-axis-2 c = place-low c.requires.tied.1 c.loop-axis.axis (omega arith) c.place-at.ensures c.requires.masked
 
 pub bounds-fused_strides-at-else-root-axis-2 : goal.bounds-fused_strides-at-else-root-axis-2
-bounds-fused_strides-at-else-root-axis-2 c = place-low c.requires.4.1 c.loop-axis.axis c.loop-axis-test.true c.place-at.ensures c.requires.3
+bounds-fused_strides-at-else-root-axis-2 c = place-low c.requires.tied.1 c.loop-axis.axis (omega arith) c.place-at.ensures c.requires.masked
 
 pub loop-axis-preserved : goal.loop-axis-preserved
 loop-axis-preserved c =
@@ -128,23 +110,35 @@ loop-axis-preserved c =
     let ss : List ℤ = c.args.strides.now in
     let roots : List ℕ = c.args.roots.now in
     let l = c.loop-axis in
-    let h = c.loop-axis-test.true in
-    let of = c.requires.4.1 in
+    let h : l.axis < length es = omega arith in
+    let of = c.requires.tied.1 in
     let r : ℕ = rootAt roots l.axis in
-    let low : r ≤ l.axis = root-low of l.axis h in
-    let less : r < l.axis = omega arith in
-    let at-low : c.place-at.result < 16 = place-low of l.axis h c.place-at.ensures c.requires.3 in
-    let so_far : ℤ = get_or l.fused_strides c.place-at.result (pos 0) in
+    let at-low : c.place-at.result < 16 = place-low of l.axis h c.place-at.ensures c.requires.masked in
     let stride : ℤ = get_or ss l.axis (pos 0) in
-    let e : c.checked_add.result ≡ checkedOf (so_far +ℤ stride) = checked-add-is so_far stride (search rules) (search rules) c.checked_add.ensures in
-    let w = fits-arm (so_far +ℤ stride) e c.in-Fits.is in (
-      omega arith,
-      simp length-set l.invariant.1,
-      simp length-set l.invariant.2,
-      stored-later (axesOf es ss) roots l.axis l.invariant.3 _ _ (axisAt-axesOf es ss l.axis c.requires.0 h) c.place-at.result
-          r refl less (root-own of l.axis h) (place_is of l.axis h c.place-at.ensures c.requires.3) w.test
-          (omega arith) (omega arith) _ c.least.ensures _ w.reads,
-    )
+    let g : SFits w64 stride = search rules in
+    elim c.if-root-axis.branch [
+      | then-root-axis w ↦ rw (w.fused_extents-is, w.fused_strides-is) record {
+        extents_long = simp length-set l.invariant.extents_long;
+        strides_long = simp length-set l.invariant.strides_long;
+        stored = stored-first (axesOf es ss) roots l.axis l.invariant.stored _ _ (axisAt-axesOf es ss l.axis c.requires.alike h) c.place-at.result
+            w.if-root-axis.true (place_is of l.axis h c.place-at.ensures c.requires.masked ∙ ap (count (isRoot roots)) w.if-root-axis.true)
+            (λ a b. of.low a (omega (arith, of.few))) (fits-of-sfits _ g)
+            (omega (arith, at-low)) (omega (arith, at-low)) _ (to_z-of_z w64 _ g);
+      }
+      | else-root-axis+in-Some w ↦
+          let low : r ≤ l.axis = root-low of l.axis h in
+          let less : r < l.axis = omega arith in
+          let so_far : ℤ = get_or l.fused_strides c.place-at.result (pos 0) in
+          let e : w.checked_add.result ≡ checkedOf (so_far +ℤ stride) = checked-add-is so_far stride (search rules) g w.checked_add.ensures in
+          let fits = fits-arm (so_far +ℤ stride) e w.in-Some.is in
+          rw (w.fused_extents-is, w.fused_strides-is) record {
+            extents_long = simp length-set l.invariant.extents_long;
+            strides_long = simp length-set l.invariant.strides_long;
+            stored = stored-later (axesOf es ss) roots l.axis l.invariant.stored _ _ (axisAt-axesOf es ss l.axis c.requires.alike h) c.place-at.result
+                r refl less (root-own of l.axis h) (place_is of l.axis h c.place-at.ensures c.requires.masked) fits.test
+                (omega arith) (omega arith) _ w.min.ensures _ fits.reads;
+          }
+    ]
 
 pub returns : goal.returns
 returns c =
@@ -153,4 +147,4 @@ returns c =
     let roots : List ℕ = c.args.roots.now in
     let l = c.loop-axis in
     let e : l.axis ≡ length es = omega arith in
-    (l.invariant.1, l.invariant.2, λ pairs of m same. held es ss c.requires.0 of m same c.requires.3 (subst (λ (n : ℕ). Stored (axesOf es ss) roots n l.fused_extents l.fused_strides) e l.invariant.3))
+    λ pairs of m same. held es ss c.requires.alike of m same c.requires.masked (subst (λ (n : ℕ). Stored (axesOf es ss) roots n l.fused_extents l.fused_strides) e l.invariant.stored)

@@ -7,13 +7,13 @@ use Rattle.view.proofs.diagonal.root_mask.Goals.{then-roots-axis, else-roots-axi
 
 pub loop-axis-init : goal.loop-axis-init
 unfolding mask_of
-loop-axis-init c = (omega arith, refl)
+loop-axis-init c = refl
 
 pub loop-axis-preserved : goal.loop-axis-preserved
 loop-axis-preserved c =
     let l = c.loop-axis in
     let roots = c.args.roots.now in
     elim c.if-roots-axis.branch [
-      | then-roots-axis w ↦ (omega arith, w.mask-is ∙ mask-set roots l.axis l.mask (omega arith) w.if-roots-axis.true l.invariant.1)
-      | else-roots-axis w ↦ (omega arith, w.mask-is ∙ l.invariant.1 ∙ mask-clear roots l.axis w.if-roots-axis.false)
+      | then-roots-axis w ↦ w.mask-is ∙ mask-set roots l.axis l.mask (omega arith) w.if-roots-axis.true l.invariant
+      | else-roots-axis w ↦ w.mask-is ∙ l.invariant ∙ mask-clear roots l.axis w.if-roots-axis.false
     ]

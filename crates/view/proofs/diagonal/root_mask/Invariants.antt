@@ -1,10 +1,7 @@
 -- `root_mask`: the mask so far is that of the axes passed.
-use Rattle.std.proofs.Common.{◌≡◌, ◌≤◌, ◌-◌}
+use Rattle.std.proofs.Common.{◌≡◌}
 use Rattle.view.specs.Ties.{mask_of}
 use Rattle.view.proofs.diagonal.root_mask.Given as goal
 
 abbrev pub invariant-loop-axis : goal.invariant-loop-axis
-invariant-loop-axis l = (l.axis ≤ l.rank) × (l.mask ≡ mask_of l.roots l.axis)
-
-abbrev pub decreases-loop-axis : goal.decreases-loop-axis
-decreases-loop-axis l = l.rank - l.axis
+invariant-loop-axis l = l.mask ≡ mask_of l.roots l.axis

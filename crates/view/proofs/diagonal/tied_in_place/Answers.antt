@@ -1,4 +1,5 @@
 -- `tied_in_place`: the rules in the order of the definition; the fused axes stand in arrays of their own until their bounds are looked at.
+use Rattle.std.specs.Prelude.{Err, Ok, Result}
 use Rattle.std.proofs.Common.{◌≡◌, ℕ, ◌≤◌, Bool, List, [], length, take, refl, sym, ap, subst, ◌∙◌, arith}
 use lib.Count.{ones}
 use lib.IntN.{ℤ}
@@ -12,9 +13,6 @@ use Rattle.view.specs.Answers.{outcomeOf, number_of, values_of}
 use Rattle.view.specs.InPlace.{LeftInPlace}
 use Rattle.view.specs.Model.{modelFrom, axesIn}
 use Rattle.view.specs.Ties.{isRoot, mask_of, tiesIn, TiesOf, FusedInto}
-use Rattle.view.specs.declared.layout.Answer.{Answer}
-use Rattle.view.specs.declared.layout.Answer.TheVariants.{Done}
-use Rattle.view.specs.declared.layout.RankAfter.TheVariants as after
 use Rattle.view.specs.declared.layout.Refusal.{Refusal}
 use Rattle.view.specs.declared.layout.Refusal.TheVariants.{OutOfRange}
 use Rattle.view.proofs.ModelLaws.{length-axesOf, axesOf-take}
@@ -28,26 +26,26 @@ roots_few : (roots : List ℕ) (n : ℕ) {mask : ℕ} → mask ≡ mask_of roots
 roots_few roots n masked = omega (arith, ap ones masked ∙ mask-ones roots n, count_most (isRoot roots) n)
 
 -- a layout that two lists hold, and the ties of some pairs of its axes
-module _ (len : ℕ) (offset : ℤ) (es : List ℕ) (ss : List ℤ) (long : length es ≡ length ss) {roots : List ℕ} {ties : Answer} (pairs : List (ℕ × ℕ))
+module _ (len : ℕ) (offset : ℤ) (es : List ℕ) (ss : List ℤ) (long : length es ≡ length ss) {roots : List ℕ} {ties : Result (Unit {0}) Refusal} (pairs : List (ℕ × ℕ))
     (of : TiesOf (length es) pairs (tiesIn roots (length es) ties)) where
   abbrev model : LayoutM
   model = modelFrom len offset es ss
 
-  pairs-told : {told : Answer} → ties ≡ told → pairFault (rank model) pairs ≡ outcomeOf told
+  pairs-told : {told : Result (Unit {0}) Refusal} → ties ≡ told → pairFault (rank model) pairs ≡ outcomeOf told
   pairs-told e = ap (λ (n : ℕ). pairFault n pairs) (length-axesOf es ss long) ∙ sym of.answer-is ∙ ap outcomeOf e
 
   -- a refusal, with the lists as they were
   stays : (why : Refusal) → diagonalView model pairs ≡ record { answer = refused (number_of why) (values_of why); layout = model }
-      → LeftInPlace len offset es ss es ss (after.Refused why) (diagonalView model pairs)
+      → LeftInPlace len offset es ss es ss (Err why) (diagonalView model pairs)
   stays why e = record { after_is = sym e; kept_in = (refl, refl) }
 
   -- the layout was let pass, and the pairs
-  module _ (first : handed model [] ≡ pass) (done : ties ≡ Done) where
-    of-done : TiesOf (length es) pairs (tiesIn roots (length es) Done)
-    of-done = subst (λ (a : Answer). TiesOf (length es) pairs (tiesIn roots (length es) a)) done of
+  module _ (first : handed model [] ≡ pass) (done : ties ≡ (Ok tt)) where
+    of-done : TiesOf (length es) pairs (tiesIn roots (length es) (Ok tt))
+    of-done = subst (λ (a : Result (Unit {0}) Refusal). TiesOf (length es) pairs (tiesIn roots (length es) a)) done of
 
     sum-stays : (why : Refusal) → sumFaults model pairs (kept pairs (rank model)) ≡ refused (number_of why) (values_of why)
-        → LeftInPlace len offset es ss es ss (after.Refused why) (diagonalView model pairs)
+        → LeftInPlace len offset es ss es ss (Err why) (diagonalView model pairs)
     sum-stays why e = stays why (sum-refused model pairs first (pairs-told done) e)
 
 -- the first n places of the arrays, where the classes were fused into them
@@ -74,20 +72,20 @@ module _ (n : ℕ) (fused-extents : List ℕ) (fused-strides : List ℤ) (few : 
       → told ≡ bounds (withAxes l (axesOf (take n fused-extents) (take n fused-strides))) → bounds (withAxes l (diagonalAxes l pairs)) ≡ told
   bounds-told l pairs e t = ap (λ (axes : List Axis). bounds (withAxes l axes)) (sym (first-axes l pairs e)) ∙ sym t
 
-pub returns-in-Refused : goal.returns-in-Refused
-returns-in-Refused c pairs of =
+pub returns-in-Err : goal.returns-in-Err
+returns-in-Err c pairs of =
     let a = c.args in
     let m : LayoutM = modelFrom a.len a.offset.0 a.extents.now a.strides.now in
-    stays a.len a.offset.0 a.extents.now a.strides.now c.requires.0 pairs of c.in-Refused.why
-    (handed-refused m pairs (sym (c.handed_lists-first.ensures [] refl) ∙ ap outcomeOf c.in-Refused.is))
+    stays a.len a.offset.0 a.extents.now a.strides.now c.requires.alike pairs of c.in-Err.why
+    (handed-refused m pairs (sym (c.handed_lists-first.ensures [] refl) ∙ ap outcomeOf c.in-Err.is))
 
-pub returns-in-Refused-ties : goal.returns-in-Refused-ties
-returns-in-Refused-ties c pairs of =
+pub returns-in-Err-ties : goal.returns-in-Err-ties
+returns-in-Err-ties c pairs of =
     let a = c.args in
     let m : LayoutM = modelFrom a.len a.offset.0 a.extents.now a.strides.now in
-    stays a.len a.offset.0 a.extents.now a.strides.now c.requires.0 pairs of c.in-Refused-ties.why
+    stays a.len a.offset.0 a.extents.now a.strides.now c.requires.alike pairs of c.in-Err-ties.why
     (pair-refused m pairs (sym (c.handed_lists-first.ensures [] refl) ∙ ap outcomeOf c.in_default.is)
-    (pairs-told a.len a.offset.0 a.extents.now a.strides.now c.requires.0 pairs of c.in-Refused-ties.is))
+    (pairs-told a.len a.offset.0 a.extents.now a.strides.now c.requires.alike pairs of c.in-Err-ties.is))
 
 pub returns-then-not-fuse : goal.returns-then-not-fuse
 returns-then-not-fuse c pairs of =
@@ -96,12 +94,12 @@ returns-then-not-fuse c pairs of =
     let f = c.fuse.new in
     let first : handed m [] ≡ pass = sym (c.handed_lists-first.ensures [] refl) ∙ ap outcomeOf c.in_default.is in
     let done = c.in_default-ties.is in
-    let told = c.fuse.ensures.2 pairs (of-done a.len a.offset.0 a.extents.now a.strides.now c.requires.0 pairs of first done) m refl in
-    sum-stays a.len a.offset.0 a.extents.now a.strides.now c.requires.0 pairs of first done OutOfRange
+    let told = c.fuse.ensures pairs (of-done a.len a.offset.0 a.extents.now a.strides.now c.requires.alike pairs of first done) m refl in
+    sum-stays a.len a.offset.0 a.extents.now a.strides.now c.requires.alike pairs of first done OutOfRange
     (subst (λ (t : Bool). FusedInto m pairs (ones c.root_mask-mask.result) f.fused_extents f.fused_strides t) c.if-not-fuse.true told)
 
-pub returns-in-Refused-last : goal.returns-in-Refused-last
-returns-in-Refused-last c pairs of =
+pub returns-in-Err-last : goal.returns-in-Err-last
+returns-in-Err-last c pairs of =
     let a = c.args in
     let m : LayoutM = modelFrom a.len a.offset.0 a.extents.now a.strides.now in
     let f = c.fuse.new in
@@ -109,21 +107,21 @@ returns-in-Refused-last c pairs of =
     let few : n ≤ 16 = omega (arith, roots_few a.roots.now (length a.extents.now) c.root_mask-mask.ensures, of.few) in
     let first : handed m [] ≡ pass = sym (c.handed_lists-first.ensures [] refl) ∙ ap outcomeOf c.in_default.is in
     let done = c.in_default-ties.is in
-    let told = c.fuse.ensures.2 pairs (of-done a.len a.offset.0 a.extents.now a.strides.now c.requires.0 pairs of first done) m refl in
+    let told = c.fuse.ensures pairs (of-done a.len a.offset.0 a.extents.now a.strides.now c.requires.alike pairs of first done) m refl in
     let fused = subst (λ (t : Bool). FusedInto m pairs n f.fused_extents f.fused_strides t) c.if-not-fuse.false told in
-    stays a.len a.offset.0 a.extents.now a.strides.now c.requires.0 pairs of c.in-Refused-last.why
-    (bounds-refused m pairs first (pairs-told a.len a.offset.0 a.extents.now a.strides.now c.requires.0 pairs of done) fused.0
-    (bounds-told n f.fused_extents f.fused_strides few c.fuse.array_long c.fuse.array_long2 m pairs fused.1 (sym (ap outcomeOf c.in-Refused-last.is) ∙ c.bounds_refusal-last.ensures)))
+    stays a.len a.offset.0 a.extents.now a.strides.now c.requires.alike pairs of c.in-Err-last.why
+    (bounds-refused m pairs first (pairs-told a.len a.offset.0 a.extents.now a.strides.now c.requires.alike pairs of done) fused.0
+    (bounds-told n f.fused_extents f.fused_strides few c.fuse.array_long c.fuse.array_long2 m pairs fused.1 (sym (ap outcomeOf c.in-Err-last.is) ∙ c.bounds_refusal-last.ensures)))
 
 pub copy_axes-requires : goal.copy_axes-requires
 copy_axes-requires c =
     let f = c.fuse.new in
     let n : ℕ = ones c.root_mask-mask.result in
     let within : n ≤ length c.args.extents.now = roots_few c.args.roots.now (length c.args.extents.now) c.root_mask-mask.ensures in
-    let few : n ≤ 16 = omega (arith, c.requires.1.1.few) in
+    let few : n ≤ 16 = omega (arith, c.requires.tied.1.few) in
     let t = extents-taken n f.fused_extents f.fused_strides few c.fuse.array_long c.fuse.array_long2 in
     let u = strides-taken n f.fused_extents f.fused_strides few c.fuse.array_long c.fuse.array_long2 in
-    (t ∙ sym u, omega (arith, t), omega (arith, t, c.requires.0))
+    record { alike = t ∙ sym u; extents_room = omega (arith, t); strides_room = omega (arith, t, c.requires.alike) }
 
 pub returns : goal.returns
 returns c pairs of =
@@ -135,7 +133,7 @@ returns c pairs of =
     let few : n ≤ 16 = omega (arith, of.few) in
     let first : handed m [] ≡ pass = sym (c.handed_lists-first.ensures [] refl) ∙ ap outcomeOf c.in_default.is in
     let done = c.in_default-ties.is in
-    let told = c.fuse.ensures.2 pairs (of-done a.len a.offset.0 a.extents.now a.strides.now c.requires.0 pairs of first done) m refl in
+    let told = c.fuse.ensures pairs (of-done a.len a.offset.0 a.extents.now a.strides.now c.requires.alike pairs of first done) m refl in
     let fused = subst (λ (t : Bool). FusedInto m pairs n f.fused_extents f.fused_strides t) c.if-not-fuse.false told in
     let t = extents-taken n f.fused_extents f.fused_strides few c.fuse.array_long c.fuse.array_long2 in
     let held = ap (axesIn c.copy_axes.new.copied_extents c.copy_axes.new.copied_strides) (sym t) ∙ c.copy_axes.ensures
@@ -143,7 +141,7 @@ returns c pairs of =
     record {
       after_is =
           ap (λ (axes : List Axis). record { answer = pass; layout = withAxes m axes }) held
-          ∙ sym (none-refused m pairs first (pairs-told a.len a.offset.0 a.extents.now a.strides.now c.requires.0 pairs of done) fused.0
+          ∙ sym (none-refused m pairs first (pairs-told a.len a.offset.0 a.extents.now a.strides.now c.requires.alike pairs of done) fused.0
           (bounds-told n f.fused_extents f.fused_strides few c.fuse.array_long c.fuse.array_long2 m pairs fused.1 (sym (ap outcomeOf c.in_default-last.is) ∙ c.bounds_refusal-last.ensures)));
       kept_in = omega (arith, c.copy_axes.auto.copied_extents);
     }

@@ -1,13 +1,9 @@
 -- The sum over all axes is the sum so far with the axes and indices still left.
-use Rattle.std.proofs.Common.{◌≡◌, ◌≤◌, ◌-◌, length, drop}
+use Rattle.std.proofs.Common.{◌≡◌, drop}
 use Rattle.specification.specs.Beside.{sumIndexed}
 use Rattle.view.specs.Model.{modelOf}
 use Rattle.view.proofs.offset.sum_indexed.Given as goal
 
 abbrev pub invariant-loop-i : goal.invariant-loop-i
 invariant-loop-i l =
-    (l.i ≤ length l.index)
-    × (sumIndexed 0 l.layout.offset.0 (modelOf l.layout).axes l.index ≡ sumIndexed l.i l.sum.0 (drop l.i (modelOf l.layout).axes) (drop l.i l.index))
-
-abbrev pub decreases-loop-i : goal.decreases-loop-i
-decreases-loop-i l = length l.index - l.i
+    sumIndexed 0 l.layout.offset.0 (modelOf l.layout).axes l.index ≡ sumIndexed l.i l.sum.0 (drop l.i (modelOf l.layout).axes) (drop l.i l.index)

@@ -6,29 +6,28 @@ use Rattle.view.proofs.MaskLaws.{bit-yes, bit-no, set-fits}
 use Rattle.view.proofs.OrderLaws.{fault-range, fault-twice, fault-further, fault-end, mask-more}
 use borrow.Author.Rules.{rules}
 use Rattle.view.proofs.permute.order_fault.Goals as goal
+use Rattle.view.proofs.permute.order_fault.Goals.{then-rank-axis-via-then-rank-axis, then-rank-axis-via-else-rank-axis+then-seen-axis-eq1}
 
-pub loop-i-init : goal.loop-i-init
+pub loop-axis-init : goal.loop-axis-init
 unfolding some
-loop-i-init c = (search rules, search rules, refl, λ k r. rw zero-div)
+loop-axis-init c = (search rules, refl, λ k r. rw zero-div)
 
 pub returns-then-rank-axis : goal.returns-then-rank-axis
 returns-then-rank-axis c =
-    let l = c.loop-i in
-    sym (l.invariant.2 ∙ fault-range _ _ l.i (search rules) c.if-rank-axis.true)
+    let l = c.loop-axis in
+    elim c.then-rank-axis.branch [
+      | then-rank-axis-via-then-rank-axis w ↦ sym (l.invariant.1 ∙ fault-range _ _ l.axis-index (search rules) w.if-rank-axis.true)
+      | then-rank-axis-via-else-rank-axis+then-seen-axis-eq1 w ↦
+          sym (l.invariant.1 ∙ fault-twice _ _ l.axis-index (search rules) w.if-rank-axis.false (bit-yes _ (l.invariant.2 _ w.if-rank-axis.false) w.if-seen-axis-eq1.true))
+    ]
 
-pub returns-then-seen-axis-eq1 : goal.returns-then-seen-axis-eq1
-returns-then-seen-axis-eq1 c =
-    let l = c.loop-i in
-    sym (l.invariant.2 ∙ fault-twice _ _ l.i (search rules) (search rules) (bit-yes _ (l.invariant.3 _ (search rules)) c.if-seen-axis-eq1.true))
-
-pub loop-i-preserved : goal.loop-i-preserved
-loop-i-preserved c =
-    let l = c.loop-i in (
-      search rules,
-      set-fits l.seen _ l.invariant.1 (omega arith),
-      l.invariant.2 ∙ fault-further _ _ l.i (search rules) (search rules) (bit-no _ (l.invariant.3 _ (search rules)) c.if-seen-axis-eq1.false),
-      mask-more _ _ l.i l.seen (search rules) (omega arith) l.invariant.3,
+pub loop-axis-preserved : goal.loop-axis-preserved
+loop-axis-preserved c =
+    let l = c.loop-axis in (
+      set-fits l.seen _ l.invariant.0 (omega arith),
+      l.invariant.1 ∙ fault-further _ _ l.axis-index (search rules) (search rules) (bit-no _ (l.invariant.2 _ (search rules)) c.if-seen-axis-eq1.false),
+      mask-more _ _ l.axis-index l.seen (search rules) (omega arith) l.invariant.2,
     )
 
 pub returns : goal.returns
-returns c = sym (c.loop-i.invariant.2 ∙ fault-end _ _ _ _ c.loop-i-test.false)
+returns c = sym (c.loop-axis.invariant.1 ∙ fault-end c.args.rank c.args.order.now _ c.loop-axis.axis-index (omega arith))

@@ -24,22 +24,22 @@ ordered len offset es ss order h e =
 pub reorder-requires : goal.reorder-requires
 reorder-requires c =
     let a = c.args in
-    let o = ordered a.len a.offset.0 a.extents.now a.strides.now a.order.now c.requires.0 (sym c.permute_refusal-answer.ensures ∙ ap outcomeOf c.in-Done.is) in
-    (c.requires.0, c.requires.1, o.0, o.1)
+    let o = ordered a.len a.offset.0 a.extents.now a.strides.now a.order.now c.requires.0 (sym c.permute_refusal-answer.ensures ∙ ap outcomeOf c.in-Ok.is) in
+    record { alike = c.requires.0; few = c.requires.1; listed = o.0; below = o.1 }
 
-pub returns-in-Refused : goal.returns-in-Refused
+pub returns-in-Err : goal.returns-in-Err
 unfolding permute unlessRefused
-returns-in-Refused c = record { after_is = rw (← c.permute_refusal-answer.ensures, c.in-Refused.is); kept_in = (refl, refl) }
+returns-in-Err c = record { after_is = rw (← c.permute_refusal-answer.ensures, c.in-Err.is); kept_in = (refl, refl) }
 
-pub returns-in-Done : goal.returns-in-Done
+pub returns-in-Ok : goal.returns-in-Ok
 unfolding permute unlessRefused
-returns-in-Done c =
+returns-in-Ok c =
     let a = c.args in
     let t = c.reorder in
-    let o = ordered a.len a.offset.0 a.extents.now a.strides.now a.order.now c.requires.0 (sym c.permute_refusal-answer.ensures ∙ ap outcomeOf c.in-Done.is) in
+    let o = ordered a.len a.offset.0 a.extents.now a.strides.now a.order.now c.requires.0 (sym c.permute_refusal-answer.ensures ∙ ap outcomeOf c.in-Ok.is) in
     let h : length t.new.extents ≡ length a.order.now = omega (arith, o.0) in
     let k : length t.new.strides ≡ length a.order.now = omega (arith, o.0) in
     record {
-      after_is = rw (← c.permute_refusal-answer.ensures, c.in-Done.is, axesIn-axesOf t.new.extents t.new.strides (length a.order.now) h k, t.ensures);
+      after_is = rw (← c.permute_refusal-answer.ensures, c.in-Ok.is, axesIn-axesOf t.new.extents t.new.strides (length a.order.now) h k, t.ensures);
       kept_in = omega arith;
     }

@@ -9,26 +9,26 @@ use Rattle.view.proofs.ListedLaws.{listed-refused, listed-wrong, listed_next}
 use Rattle.view.proofs.ModelLaws.{length-axesOf}
 use Rattle.view.proofs.permute.permute_refusal.Goals as goal
 
-pub returns-in-Refused : goal.returns-in-Refused
-returns-in-Refused c =
+pub returns-in-Err : goal.returns-in-Err
+returns-in-Err c =
     let a = c.args in
     let model = modelFrom a.len a.offset.0 a.extents.now a.strides.now in
-    let told : outcomeOf c.handed_lists-first.result ≡ handed model a.order.now = c.handed_lists-first.ensures a.order.now refl in
-    sym (listed-refused model a.order.now _ _ (sym told ∙ ap outcomeOf c.in-Refused.is))
+    let told : handed model a.order.now ≡ outcomeOf c.handed_lists-first.result = sym (c.handed_lists-first.ensures a.order.now refl) in
+    ap outcomeOf c.in-Err.is ∙ sym (listed-refused model a.order.now _ _ (told ∙ ap outcomeOf c.in-Err.is))
 
 pub returns-then-order-extents : goal.returns-then-order-extents
 returns-then-order-extents c =
     let a = c.args in
     let model = modelFrom a.len a.offset.0 a.extents.now a.strides.now in
-    let n = length-axesOf a.extents.now a.strides.now c.requires.0 in
-    let passed : handed model a.order.now ≡ pass = sym (c.handed_lists-first.ensures a.order.now refl) ∙ ap outcomeOf c.in-Done.is in
+    let n = length-axesOf a.extents.now a.strides.now c.requires.alike in
+    let passed : handed model a.order.now ≡ pass = sym (c.handed_lists-first.ensures a.order.now refl) ∙ ap outcomeOf c.in_default.is in
     sym (listed-wrong model a.order.now _ _ passed (λ e. c.if-order-extents.true (e ∙ n)) ∙ rw n)
 
-pub returns-else-order-extents : goal.returns-else-order-extents
-returns-else-order-extents c =
+pub returns : goal.returns
+returns c =
     let a = c.args in
     let model = modelFrom a.len a.offset.0 a.extents.now a.strides.now in
-    let n = length-axesOf a.extents.now a.strides.now c.requires.0 in
-    let passed : handed model a.order.now ≡ pass = sym (c.handed_lists-first.ensures a.order.now refl) ∙ ap outcomeOf c.in-Done.is in
+    let n = length-axesOf a.extents.now a.strides.now c.requires.alike in
+    let passed : handed model a.order.now ≡ pass = sym (c.handed_lists-first.ensures a.order.now refl) ∙ ap outcomeOf c.in_default.is in
     c.order_fault.ensures ∙ ap (λ (r : ℕ). orderFault r [] a.order.now) (sym n)
     ∙ sym (listed_next model a.order.now _ _ passed (c.if-order-extents.false ∙ sym n))

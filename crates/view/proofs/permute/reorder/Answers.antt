@@ -17,7 +17,6 @@ loop-i-init c =
     let k = c.copy_axes in
     let few : length c.args.order.now ≤ 16 = omega arith in
     let n = length c.args.extents.now in (
-      omega arith,
       refl,
       refl,
       λ i h.
@@ -34,18 +33,17 @@ loop-i-preserved c =
     let old : ℕ → Axis = axisAt (axesOf c.args.extents.now c.args.strides.now) in
     let strides : List ℤ = c.copy_axes.new.copied_strides ++ drop (length o) (replicate 16 (pos 0)) in
     let fits : SFits w64 (get_or strides (get_or o l.i 0) (pos 0)) = search rules in
-    let below : get_or o l.i 0 < length o = omega (arith, c.requires.3 l.i (search rules)) in (
-      omega arith,
-      length-set l.extents _ _ ∙ l.invariant.1,
-      length-set l.strides _ _ ∙ l.invariant.2,
-      l.invariant.3,
+    let below : get_or o l.i 0 < length o = omega (arith, c.requires.below l.i (search rules)) in (
+      length-set l.extents _ _ ∙ l.invariant.0,
+      length-set l.strides _ _ ∙ l.invariant.1,
+      l.invariant.2,
       axesIn-store l.extents l.strides l.i _ _ (omega arith) (omega arith)
-          ∙ rw (l.invariant.4, to_z-of_z w64 _ fits, map_more old o l.i (search rules))
-          (ap (λ (a : Axis). map old (take l.i o) ++ (a ∷ [])) (l.invariant.3 _ below)),
+          ∙ rw (l.invariant.3, to_z-of_z w64 _ fits, map_more old o l.i (search rules))
+          (ap (λ (a : Axis). map old (take l.i o) ++ (a ∷ [])) (l.invariant.2 _ below)),
     )
 
 pub returns : goal.returns
 returns c =
     let l = c.loop-i in
-    sym (axesIn-axesOf l.extents l.strides l.i (omega arith) (omega arith)) ∙ l.invariant.4
+    sym (axesIn-axesOf l.extents l.strides l.i (omega arith) (omega arith)) ∙ l.invariant.3
     ∙ ap (map (axisAt (axesOf c.args.extents.now c.args.strides.now))) (take_all l.i c.args.order.now (omega arith))

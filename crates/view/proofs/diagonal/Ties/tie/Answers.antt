@@ -8,4 +8,4 @@ returns c rank pairs of =
     let s = c.args in
     let t = c.tie_pair-answer in
     subst (λ (n : ℕ). TiesOf n (pairs ++ ((s.a, s.b) ∷ [])) (tiesIn t.new.roots s.self.rank t.result)) of.rank_is
-    (t.ensures.1 pairs (subst (λ (n : ℕ). TiesOf n pairs s.self) (sym of.rank_is) of))
+    (t.ensures pairs (subst (λ (n : ℕ). TiesOf n pairs s.self) (sym of.rank_is) of))

@@ -12,21 +12,21 @@ use Rattle.view.proofs.layout.Layout.indexed_offset.Goals as goal
 pub sum_indexed-requires : goal.sum_indexed-requires
 sum_indexed-requires c =
     let l = c.args.self in
-    let passed : handed (modelOf l) c.args.index.now ≡ pass = sym (c.handed_refusal-answer.ensures c.args.index.now refl) ∙ ap outcomeOf c.in-Done.is in
-    (omega (arith, length-axesIn l.extents l.strides l.rank, handed-passed (modelOf l) _ passed), c.if-index-rank.false)
+    let passed : handed (modelOf l) c.args.index.now ≡ pass = sym (c.handed_refusal-answer.ensures c.args.index.now refl) ∙ ap outcomeOf c.in-Ok.is in
+    record { few = omega (arith, length-axesIn l.extents l.strides l.rank, handed-passed (modelOf l) _ passed); listed = c.if-index-rank.false }
 
-pub returns-in-Refused : goal.returns-in-Refused
+pub returns-in-Err : goal.returns-in-Err
 unfolding indexedOffset refuseIf ◌>>◌
-returns-in-Refused c = rw (← c.handed_refusal-answer.ensures c.args.index.now refl, c.in-Refused.is)
+returns-in-Err c = rw (← c.handed_refusal-answer.ensures c.args.index.now refl, c.in-Err.is)
 
 pub returns-then-index-rank : goal.returns-then-index-rank
 unfolding indexedOffset refuseIf ◌>>◌
 returns-then-index-rank c =
     let l = c.args.self in
-    rw (← c.handed_refusal-answer.ensures c.args.index.now refl, c.in-Done.is, length-axesIn l.extents l.strides l.rank, ne_eqb _ _ c.if-index-rank.true)
+    rw (← c.handed_refusal-answer.ensures c.args.index.now refl, c.in-Ok.is, length-axesIn l.extents l.strides l.rank, ne_eqb _ _ c.if-index-rank.true)
 
 pub returns-else-index-rank : goal.returns-else-index-rank
 unfolding indexedOffset refuseIf ◌>>◌
 returns-else-index-rank c =
     let l = c.args.self in
-    rw (← c.handed_refusal-answer.ensures c.args.index.now refl, c.in-Done.is, length-axesIn l.extents l.strides l.rank, eq-eqb _ _ c.if-index-rank.false) c.sum_indexed.ensures
+    rw (← c.handed_refusal-answer.ensures c.args.index.now refl, c.in-Ok.is, length-axesIn l.extents l.strides l.rank, eq-eqb _ _ c.if-index-rank.false) c.sum_indexed.ensures

@@ -4,12 +4,12 @@ use Rattle.view.specs.Answers.{outcomeOf}
 use Rattle.view.proofs.CheckInLaws.{checked-done}
 use Rattle.view.proofs.layout.Layout.new.Goals as goal
 
-pub filled-layout-requires : goal.filled-layout-requires
-filled-layout-requires c =
-    let p = checked-done _ _ _ _ (sym c.validate_bounds-answer.ensures ∙ ap outcomeOf c.in-Done.is) in
-    (p.0, sym p.1)
+pub filled-requires : goal.filled-requires
+filled-requires c =
+    let p = checked-done _ _ _ _ (sym c.validate_bounds-answer.ensures ∙ ap outcomeOf c.in-Ok.is) in
+    record { few = p.0; alike = sym p.1 }
 
-pub returns-in-Done : goal.returns-in-Done
-returns-in-Done c =
-    let p = checked-done _ _ _ _ (sym c.validate_bounds-answer.ensures ∙ ap outcomeOf c.in-Done.is) in
-    rw (p.2, c.filled-layout.ensures)
+pub returns-in-Ok : goal.returns-in-Ok
+returns-in-Ok c =
+    let p = checked-done _ _ _ _ (sym c.validate_bounds-answer.ensures ∙ ap outcomeOf c.in-Ok.is) in
+    rw (p.2, c.filled.ensures, c.in-Ok.is)

@@ -25,7 +25,7 @@ pub tied_in_place-after-requires : goal.tied_in_place-after-requires
 tied_in_place-after-requires c =
     let l = c.args.self in
     let lends : Lent l = lent l c.if-rank-gt16.false (search rules) (search rules) in
-    (lends.alike, (_, of-lent l c.args.t _ lends c.if-rank-gt16.false c.requires.1))
+    record { alike = lends.alike; tied = (_, of-lent l c.args.t _ lends c.if-rank-gt16.false c.requires.1) }
 
 pub returns : goal.returns
 returns c pairs of =

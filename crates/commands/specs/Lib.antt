@@ -1,0 +1,4 @@
+pub mod Names
+pub mod Refused
+pub mod Spelled
+pub mod Words

@@ -1,0 +1,38 @@
+-- What texts spell: numbers, pairs of axes, and bytes. Assumes nothing.
+use Rattle.std.specs.Prelude.{ℕ, ℤ, ◌+◌, List, [], ◌∷◌, Option, Some, None, ◌==◌, nat_le, take, drop, if◌then◌else◌}
+use Rattle.std.specs.List.{position}
+use Rattle.spelling.specs.Number.{unsignedOf, signed_of}
+use Rattle.commands.specs.declared.spelled.Lent.{Lent}
+
+-- a number below 2^64
+abbrev pub unsigned : List ℕ → Option ℕ
+unsigned text = unsignedOf text
+
+-- a number of 64 bits with its sign
+abbrev pub signed : List ℕ → Option ℤ
+signed text = signed_of text
+
+abbrev pub lent_of : Option ℕ → Option Lent
+lent_of (Some n) = if nat_le n 65536 then Some (record { 0 = n }) else None
+lent_of None = None
+
+-- a number up to 65536
+abbrev pub lent : List ℕ → Option Lent
+lent text = lent_of (unsigned text)
+
+abbrev pub both : Option ℕ → Option ℕ → Option (List ℕ)
+both (Some a) (Some b) = Some (a ∷ b ∷ [])
+both (Some a) None = None
+both None other = None
+
+abbrev pub pair_around : Option ℕ → List ℕ → Option (List ℕ)
+pair_around (Some i) text = both (unsigned (take i text)) (unsigned (drop (i + 1) text))
+pair_around None text = None
+
+-- the place of the first colon (58)
+abbrev pub colon : List ℕ → Option ℕ
+colon text = position (λ byte. byte == 58) text
+
+-- two numbers around the first colon
+abbrev pub pair : List ℕ → Option (List ℕ)
+pair text = pair_around (colon text) text

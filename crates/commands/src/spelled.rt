@@ -1,0 +1,89 @@
+// What a word, or an entry of a list, can spell.
+ghost use Rattle.std.specs.Prelude.{◌≡◌, ◌<◌, List, ℕ, Option, IfSome, length};
+ghost use Rattle.commands.specs.Spelled.{unsigned, signed, lent, colon, pair};
+
+use spelling::number::{read_signed, read_unsigned};
+
+// A number of words or of bytes that a line lends to a call.
+#[derive(Clone, Copy)]
+pub struct Lent(pub usize);
+
+// A value that a text can spell, in one way.
+pub trait Spelled: Drop {
+    ghost spelled: { List ℕ → Option Self };
+
+    // What the text should have been, for the error.
+    const FORM: &'static str;
+
+    // The value that the text spells, if it is one.
+    fn read(text: &[u8]) -> Option<Self>
+        ensures { result ≡ spelled text.now };
+}
+
+impl Spelled for u64 {
+    ghost spelled = { unsigned };
+
+    const FORM: &'static str = "number from 0 to 18446744073709551615";
+
+    fn read(text: &[u8]) -> Option<u64> {
+        read_unsigned(text)
+    }
+}
+
+impl Spelled for i64 {
+    ghost spelled = { signed };
+
+    const FORM: &'static str = "number from -9223372036854775808 to 9223372036854775807";
+
+    fn read(text: &[u8]) -> Option<i64> {
+        read_signed(text)
+    }
+}
+
+// An axis, or a count of places.
+impl Spelled for usize {
+    ghost spelled = { unsigned };
+
+    const FORM: &'static str = "number from 0 to 18446744073709551615";
+
+    fn read(text: &[u8]) -> Option<usize> {
+        Some(u64::read(text)? as usize)
+    }
+}
+
+// The place of the first colon.
+fn colon(text: &[u8]) -> Option<usize>
+    ensures place { result ≡ colon text.now }
+    ensures within { IfSome result (λ i. i < length text.now) }
+{
+    text.iter().position(|byte| *byte == b':')
+}
+
+// Two axes, with a colon between them.
+impl Spelled for [usize; 2] {
+    ghost spelled = { pair };
+
+    const FORM: &'static str = "pair a:b of numbers from 0 to 18446744073709551615";
+
+    fn read(text: &[u8]) -> Option<[usize; 2]> {
+        let at = colon(text)?;
+        let left = usize::read(&text[..at])?;
+        let right = usize::read(&text[at + 1..])?;
+        Some([left, right])
+    }
+}
+
+impl Spelled for Lent {
+    ghost spelled = { lent };
+
+    const FORM: &'static str = "number from 0 to 65536";
+
+    fn read(text: &[u8]) -> Option<Lent> {
+        let count = usize::read(text)?;
+        if count <= 65536 {
+            Some(Lent(count))
+        } else {
+            None
+        }
+    }
+}
