@@ -1,5 +1,5 @@
 -- Demand 3 and the round trip said of running code: what any two chains of calls, or runs of `run_calls`, and any calls of `write_record` and `read_record` come to.
--- `Layout`, `Ran` and `Wrote` are what the functions hand back; the premises are their contracts, word for word (held to them in proofs/PremisesAreContracts).
+-- `Layout`, `Ran` and a `Result` with a `BytePlace` are what the functions hand back; the premises are their contracts, word for word (held to them in proofs/PremisesAreContracts).
 use Rattle.view.specs.declared.layout.Refusal.{Refusal}
 use Rattle.big_endian.specs.declared.BytePlace.{BytePlace}
 use Rattle.std.specs.Prelude.{List, ◌≡◌, ℕ, ◌≤◌, length, take, Result}

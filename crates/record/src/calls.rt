@@ -1,5 +1,5 @@
 // Call lists: views of a layout, one after another, given in numbers.
-ghost use Rattle.std.specs.Prelude.{◌≡◌, ◌≤◌, min, length, take};
+ghost use Rattle.std.specs.Prelude.{◌≡◌, ◌≤◌, length, take};
 ghost use Rattle.specification.specs.Views.{broadcast};
 ghost use Rattle.specification.specs.Calls.{after_call, end_of};
 ghost use Rattle.view.specs.Model.{modelOf, viewedOf};
@@ -22,22 +22,15 @@ pub struct Ran {
     pub ended: Ended,
 }
 
-fn at_most_17(count: usize) -> usize
-    ensures { result ≡ min count 17 }
-{
-    if count < 17 { count } else { 17 }
-}
-
 // The first arguments of a call as targets.
 fn targets_of(arguments: &[usize], count: usize) -> [u64; 17]
-    requires { (count ≤ 17) × (count ≤ length arguments.now) }
+    requires few { count ≤ 17 }
+    requires there { count ≤ length arguments.now }
     ensures { take count result ≡ take count arguments.now }
 {
     let mut targets = [0u64; 17];
-    let mut i = 0;
-    while i < count {
+    for i in 0..count {
         targets[i] = arguments[i] as u64;
-        i += 1;
     }
     targets
 }
@@ -46,7 +39,7 @@ fn targets_of(arguments: &[usize], count: usize) -> [u64; 17]
 fn broadcast_to(layout: Layout, arguments: &[usize]) -> Viewed
     ensures { viewedOf result ≡ broadcast (modelOf layout) arguments.now }
 {
-    let count = at_most_17(arguments.len());
+    let count = arguments.len().min(17);
     let targets = targets_of(arguments, count);
     layout.broadcast(&targets[..count])
 }
@@ -55,13 +48,11 @@ fn broadcast_to(layout: Layout, arguments: &[usize]) -> Viewed
 fn run_call(layout: Layout, kind: usize, arguments: &[usize]) -> Viewed
     ensures { viewedOf result ≡ after_call (modelOf layout) (call_of kind arguments.now) }
 {
-    if kind == 1 {
-        return layout.permute(arguments);
+    match kind {
+        1 => layout.permute(arguments),
+        2 => diagonal_by_numbers(layout, arguments),
+        _ => broadcast_to(layout, arguments),
     }
-    if kind == 2 {
-        return diagonal_by_numbers(layout, arguments);
-    }
-    broadcast_to(layout, arguments)
 }
 
 // Whether a well-formed call stands at a place: a known kind, how many arguments follow, and these.
@@ -70,17 +61,7 @@ fn is_call_at(calls: &[usize], at: usize) -> bool
     ensures { result ≡ isCallAt calls.now at }
 {
     let left = calls.len() - at;
-    if left < 2 {
-        return false;
-    }
-    let kind = calls[at];
-    if kind < 1 {
-        return false;
-    }
-    if 3 < kind {
-        return false;
-    }
-    calls[at + 1] <= left - 2
+    left >= 2 && matches!(calls[at], 1..=3) && calls[at + 1] <= left - 2
 }
 
 // Each call in turn on the layout after the last, after a refusal on the old one. A list that is ill-formed is run up to there.
@@ -96,12 +77,9 @@ pub fn run_calls(layout: Layout, calls: &[usize]) -> Ran
                 ended: Ended::IllFormed(at),
             };
         }
-        let kind = calls[at];
         let start = at + 2;
         let end = start + calls[at + 1];
-        let view = run_call(current, kind, &calls[start..end]);
-        let next = view.layout;
-        current = next;
+        current = run_call(current, calls[at], &calls[start..end]).layout;
         at = end;
     }
     Ran {

@@ -12,16 +12,13 @@ fn put_five(out: &mut [u8], a: u8, b: u8, c: u8, d: u8, e: u8)
     requires { 5 ≤ length out.old }
     ensures { out.new ≡ (a ∷ b ∷ c ∷ d ∷ e ∷ []) ++ drop 5 out.old }
 {
-    out[0] = a;
-    out[1] = b;
-    out[2] = c;
-    out[3] = d;
-    out[4] = e;
+    out[..5].copy_from_slice(&[a, b, c, d, e]);
 }
 
 // Length of the whole, version, verdict, rank and offset: the first 13 bytes.
 fn put_head(out: &mut [u8], rank: usize, verdict: u8, offset: ReadingOffset)
-    requires { (13 ≤ length out.old) × (rank ≤ 16) }
+    requires room { 13 ≤ length out.old }
+    requires few { rank ≤ 16 }
     ensures { out.new ≡ headBytes rank verdict offset.0 ++ drop 13 out.old }
 {
     let size = 13 + 16 * rank;
@@ -33,8 +30,7 @@ fn put_head(out: &mut [u8], rank: usize, verdict: u8, offset: ReadingOffset)
         verdict,
         rank as u8,
     );
-    let bits = twos_complement(offset.0);
-    put_u64_at(out, BytePlace(5), bits);
+    put_u64_at(out, BytePlace(5), twos_complement(offset.0));
 }
 
 // One axis from a place on: extent, then stride.
@@ -43,22 +39,22 @@ fn put_axis_at(out: &mut [u8], at: BytePlace, extent: u64, stride: i64)
     ensures { out.new ≡ take at.0 out.old ++ (axisField extent stride ++ drop (at.0 + 16) out.old) }
 {
     put_u64_at(out, at, extent);
-    let bits = twos_complement(stride);
-    put_u64_at(out, BytePlace(at.0 + 8), bits);
+    put_u64_at(out, BytePlace(at.0 + 8), twos_complement(stride));
 }
 
 // The record of a layout with a verdict byte at the front; the bytes past it stay.
 pub(crate) fn put_record(out: &mut [u8], layout: Layout, verdict: u8)
-    requires { (layout.rank ≤ 16) × (recordLength layout.rank ≤ length out.old) }
+    requires few { layout.rank ≤ 16 }
+    requires room { recordLength layout.rank ≤ length out.old }
     ensures { out.new ≡ recordFields (modelOf layout) verdict ++ drop (recordLength layout.rank) out.old }
 {
-    let rank = layout.rank;
-    put_head(out, rank, verdict, layout.offset);
-    let mut i = 0;
-    while i < rank {
-        let extent = layout.extents[i];
-        let stride = layout.strides[i];
-        put_axis_at(out, BytePlace(13 + 16 * i), extent, stride);
-        i += 1;
+    put_head(out, layout.rank, verdict, layout.offset);
+    for i in 0..layout.rank {
+        put_axis_at(
+            out,
+            BytePlace(13 + 16 * i),
+            layout.extents[i],
+            layout.strides[i],
+        );
     }
 }

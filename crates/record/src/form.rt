@@ -16,38 +16,27 @@ fn is_merged(layout: Layout) -> bool
     requires { layout.rank ≤ 16 }
     ensures { result ≡ isMerged (modelOf layout).axes }
 {
-    let rank = layout.rank;
-    if rank == 0 {
+    if layout.rank == 0 {
         return true;
     }
-    let mut i = 0;
-    while i + 1 < rank {
+    let last = layout.rank - 1;
+    for i in 0..last {
         let extent = layout.extents[i];
-        let stride = layout.strides[i];
-        let next = layout.strides[i + 1];
         if extent <= 1 {
             return false;
         }
-        if continues(extent, stride, next) {
+        if continues(extent, layout.strides[i], layout.strides[i + 1]) {
             return false;
         }
-        i += 1;
     }
-    1 < layout.extents[i]
+    1 < layout.extents[last]
 }
 
 // Whether the layout is the normal form of an empty one: offset 0, and one axis of extent 0 and stride 0.
 fn is_empty_form(layout: Layout) -> bool
     ensures { result ≡ isEmptyForm (modelOf layout) }
 {
-    let rank = layout.rank;
-    if rank != 1 {
-        return false;
-    }
-    if layout.offset.0 != 0 {
-        return false;
-    }
-    if layout.extents[0] != 0 {
+    if layout.rank != 1 || layout.offset.0 != 0 || layout.extents[0] != 0 {
         return false;
     }
     layout.strides[0] == 0
@@ -58,11 +47,7 @@ fn is_overfull(layout: Layout) -> bool
     requires { layout.rank ≤ 16 }
     ensures { result ≡ overfull (modelOf layout).axes }
 {
-    let count = layout_count(layout);
-    match count {
-        Ok(_) => false,
-        Err(_) => true,
-    }
+    layout_count(layout).is_err()
 }
 
 // The reach over the longest buffer, which holds every offset to 2^63 - 1.
@@ -70,9 +55,10 @@ fn longest_reach(layout: Layout) -> Reach
     requires { layout.rank ≤ 16 }
     ensures { reachTold result ≡ reachOf (inLongest (modelOf layout)) }
 {
-    let mut longest = layout;
-    longest.len = 18446744073709551615;
-    layout_reach(longest)
+    layout_reach(Layout {
+        len: u64::MAX,
+        ..layout
+    })
 }
 
 // Whether the layout is a normal form of at most 2^64 - 1 positions with offsets within 0 to 2^63 - 1.
@@ -83,21 +69,16 @@ pub(crate) fn is_normal(layout: Layout) -> bool
     if is_empty_form(layout) {
         return true;
     }
-    if !is_merged(layout) {
+    if !is_merged(layout) || is_overfull(layout) {
         return false;
     }
-    if is_overfull(layout) {
-        return false;
-    }
-    let Reach::Between(_, _) = longest_reach(layout) else {
-        return false;
-    };
-    true
+    matches!(longest_reach(layout), Reach::Between(_, _))
 }
 
 // The buffer length of such a layout: the highest offset + 1, or 0 where there is no position.
 pub(crate) fn buffer_length(layout: Layout) -> u64
-    requires { (layout.rank ≤ 16) × (isNormal (modelOf layout) ≡ true) }
+    requires few { layout.rank ≤ 16 }
+    requires normal { isNormal (modelOf layout) ≡ true }
     ensures { result ≡ (withBuffer (modelOf layout)).buffer }
 {
     let Reach::Between(_, high) = longest_reach(layout) else {

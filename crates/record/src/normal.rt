@@ -17,8 +17,7 @@ use view::layout::{Layout, ReadingOffset, Refusal, Viewed};
 pub(crate) fn continues(extent: u64, stride: i64, next: i64) -> bool
     ensures { result ≡ eqZ next (extent · stride) }
 {
-    let product = checked_mul(stride, extent);
-    match product {
+    match checked_mul(stride, extent) {
         None => false,
         Some(step) => next == step,
     }
@@ -29,39 +28,35 @@ fn continues_last(layout: Layout, stored: usize, stride: i64) -> bool
     requires { stored ≤ 16 }
     ensures { result ≡ continuesLast layout.extents layout.strides stored stride }
 {
-    if stored == 0 {
-        return false;
-    }
-    let last = stored - 1;
-    let extent = layout.extents[last];
-    let hand = layout.strides[last];
-    continues(extent, hand, stride)
+    stored != 0
+        && continues(
+            layout.extents[stored - 1],
+            layout.strides[stored - 1],
+            stride,
+        )
 }
 
 // One pass from the left. The last axis stored is in hand: an axis that continues it is merged into it, another is stored behind it.
 fn merged(layout: Layout) -> Layout
-    requires { (layout.rank ≤ 16) × (is_empty (modelOf layout).axes ≡ false) × (overfull (modelOf layout).axes ≡ false) }
+    requires few { layout.rank ≤ 16 }
+    requires full { is_empty (modelOf layout).axes ≡ false }
+    requires within { overfull (modelOf layout).axes ≡ false }
     ensures { modelOf result ≡ normalOf (modelOf layout) }
 {
-    let rank = layout.rank;
     let mut next = layout;
     let mut stored = 0;
-    let mut i = 0;
-    while i < rank {
+    for i in 0..layout.rank {
         let extent = layout.extents[i];
         let stride = layout.strides[i];
         if extent == 1 {
-            i += 1;
-        } else if continues_last(next, stored, stride) {
-            let last = stored - 1;
-            let hand = next.extents[last];
-            next.extents[last] = hand * extent;
-            i += 1;
+            continue;
+        }
+        if continues_last(next, stored, stride) {
+            next.extents[stored - 1] *= extent;
         } else {
             next.extents[stored] = extent;
             next.strides[stored] = stride;
             stored += 1;
-            i += 1;
         }
     }
     next.rank = stored;
@@ -74,11 +69,11 @@ fn empty_form(layout: Layout) -> Layout
     ensures { modelOf result ≡ normalOf (modelOf layout) }
 {
     Layout {
-        len: layout.len,
         offset: ReadingOffset(0),
         rank: 1,
         extents: [0; 16],
         strides: [0; 16],
+        ..layout
     }
 }
 
@@ -87,9 +82,7 @@ pub(crate) fn layout_count(layout: Layout) -> Result<u64, Refusal>
     requires { layout.rank ≤ 16 }
     ensures { outcomeOf result ≡ count_of (modelOf layout).axes }
 {
-    let rank = layout.rank;
-    let extents = layout.extents;
-    checked_element_count(&extents[..rank])
+    checked_element_count(&layout.extents[..layout.rank])
 }
 
 // Refusal 8, or the normal form.
@@ -97,23 +90,19 @@ fn counted_form(layout: Layout) -> Viewed
     requires { layout.rank ≤ 16 }
     ensures { viewedOf result ≡ counted (modelOf layout) }
 {
-    let count = layout_count(layout);
-    match count {
+    match layout_count(layout) {
         Err(why) => Viewed {
-            layout: layout,
+            layout,
             answer: Err(why),
         },
-        Ok(positions) => {
-            let next = if positions == 0 {
-                empty_form(layout)
-            } else {
-                merged(layout)
-            };
-            Viewed {
-                layout: next,
-                answer: Ok(()),
-            }
-        }
+        Ok(0) => Viewed {
+            layout: empty_form(layout),
+            answer: Ok(()),
+        },
+        Ok(_) => Viewed {
+            layout: merged(layout),
+            answer: Ok(()),
+        },
     }
 }
 
@@ -121,10 +110,9 @@ fn counted_form(layout: Layout) -> Viewed
 pub fn normal_form(layout: Layout) -> Viewed
     ensures { viewedOf result ≡ normalView (modelOf layout) }
 {
-    let answer = handed_refusal(layout, 0);
-    match answer {
+    match handed_refusal(layout, 0) {
         Err(why) => Viewed {
-            layout: layout,
+            layout,
             answer: Err(why),
         },
         Ok(()) => counted_form(layout),

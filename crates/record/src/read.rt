@@ -5,23 +5,16 @@ ghost use Rattle.view.specs.Answers.{number_of, values_of};
 ghost use Rattle.view.specs.Model.{viewedOf};
 ghost use Rattle.record.specs.Reading.{readAfter, Reading};
 
-use crate::reader::read_front;
+use crate::reader::{no_layout, read_front};
 use crate::writer::{judge_layout, verdict_byte};
-use view::layout::{Layout, ReadingOffset, Refusal, Viewed};
+use view::layout::{Refusal, Viewed};
 
 // A refusal, beside an empty layout.
 fn not_read(why: Refusal) -> Viewed
     ensures { viewedOf result ≡ readAfter (refused (number_of why) (values_of why)) }
 {
-    let layout = Layout {
-        len: 0,
-        offset: ReadingOffset(0),
-        rank: 1,
-        extents: [0; 16],
-        strides: [0; 16],
-    };
     Viewed {
-        layout,
+        layout: no_layout(),
         answer: Err(why),
     }
 }
@@ -37,10 +30,15 @@ pub fn read_record(bytes: &[u8], scratch: &mut [u64]) -> Viewed
     let layout = front.layout;
     match judge_layout(layout, scratch) {
         Err(why) => not_read(why),
-        Ok(judged) if verdict_byte(judged) == front.verdict => Viewed {
-            layout,
-            answer: Ok(()),
-        },
-        Ok(_) => not_read(Refusal::NotARecord),
+        Ok(judged) => {
+            let confirmed = verdict_byte(judged) == front.verdict;
+            if !confirmed {
+                return not_read(Refusal::NotARecord);
+            }
+            Viewed {
+                layout,
+                answer: Ok(()),
+            }
+        }
     }
 }

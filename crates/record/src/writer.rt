@@ -28,10 +28,11 @@ pub fn judge_layout(layout: Layout, scratch: &mut [u64]) -> Result<Judgement, Re
     requires { layout.rank ≤ 16 }
     ensures { JudgedAs (judge (modelOf layout).axes (length scratch.old)) scratch.old scratch.new result }
 {
-    let rank = layout.rank;
-    let extents = layout.extents;
-    let strides = layout.strides;
-    is_injective_layout(&extents[..rank], &strides[..rank], scratch)
+    is_injective_layout(
+        &layout.extents[..layout.rank],
+        &layout.strides[..layout.rank],
+        scratch,
+    )
 }
 
 // Refusals 1, 3, 8, then 10, then 9; or the record at the front, and the bytes past it as they were.
@@ -46,7 +47,8 @@ pub fn write_record(
     viewed.answer?;
     let form = viewed.layout;
     let size = 13 + 16 * form.rank;
-    if out.len() < size {
+    let short = out.len() < size;
+    if short {
         return Err(Refusal::ShortOutput(size));
     }
     let judged = judge_layout(form, scratch)?;

@@ -45,7 +45,7 @@ pub fn read_unsigned(text: &[u8]) -> Option<u64>
     Some(sum)
 }
 
-// The number that a text of digits spells, with `-` in front of a negative one, where an i64 holds it; `Over` for any other text.
+// The number that a text of digits spells, with `-` in front of a negative one, where an i64 holds it; `None` for any other text.
 pub fn read_signed(text: &[u8]) -> Option<i64>
     ensures { result ≡ signed_of text.now }
 {

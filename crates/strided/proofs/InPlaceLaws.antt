@@ -4,7 +4,7 @@ use Rattle.std.specs.Prelude.{Err, Ok, Result}
 use Rattle.std.proofs.Common.{true, List, [], ◌∷◌, ◌≡◌, refl, ap, ◌∙◌, ℕ, ◌+◌, ◌-◌, ◌<◌, ◌≤◌, ℤ, pos, length, get_or, take, drop, set, arith}
 use Rattle.std.proofs.Math.Nat.{add-sub_cancel}
 use Rattle.std.proofs.lemmas.List.{length-take, length-drop, take-take}
-use borrow.Rule.Slice.PartMut.{mid_of, put_mid, put_same, same_len_mid}
+use borrow.Rule.Slice.PartMut.{mid_of, put_mid, put_same}
 use Rattle.specification.specs.Layout.{LayoutM, handed}
 use Rattle.specification.specs.Outcome.{Check, ◌>>◌}
 use Rattle.specification.specs.Views.{After, unlessRefused}
@@ -16,7 +16,10 @@ use Rattle.flat.specs.Flat.{holdsView, modelOfFlat, Stored}
 use Rattle.flat.proofs.CopyLaws.{behind-front}
 use Rattle.flat.proofs.FlatLaws.{axes-in-front}
 use Rattle.strided.specs.Crossing.{Answered, Viewing}
-use Rattle.strided.proofs.RoomLaws.{view-room}
+
+-- what the test for room says of the lengths
+view-room : (numbers steps values : ℕ) → holdsView numbers steps values ≡ true → ((18 ≤ numbers) × (17 ≤ steps)) × (2 ≤ values)
+view-room numbers steps values held = grind arith
 
 -- the words of the axes make the layout that the buffers hold
 model-lent : (numbers : List ℕ) (steps : List ℤ) (offset : ℤ) → 18 ≤ length numbers → 17 ≤ length steps → get_or numbers 1 0 ≤ 16 → offset ≡ get_or steps 0 (pos 0)
@@ -73,9 +76,3 @@ viewed-in-place {told = Err why} {numbers = numbers} {steps = steps} {values = v
       crossed = record { answer-is = answered.0; layout_is = (put_same 2 _ numbers, put_same 1 _ steps) };
       values-are = answered.2;
     })
-
--- ---- where there is room: the words of the axes are there, and a buffer that they were put back into is as long as it was
-
-pub words-there : (numbers : List ℕ) (steps : List ℤ) (values : List ℕ) → holdsView (length numbers) (length steps) (length values) ≡ true → get_or numbers 1 0 ≤ 16
-    → ((get_or numbers 1 0 + 2 ≤ length numbers) × (get_or numbers 1 0 + 1 ≤ length steps)) × (2 ≤ length values)
-words-there numbers steps values held few = let r = view-room (length numbers) (length steps) (length values) held in ((omega arith, omega arith), r.1)

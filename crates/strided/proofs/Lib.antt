@@ -1,4 +1,2 @@
-pub mod RoomLaws
-pub mod StepLaws
 pub mod InPlaceLaws
 pub mod DenseLaws

@@ -6,3 +6,8 @@ mod beside;
 mod records;
 mod verdicts;
 mod views;
+
+// The answer where a buffer is too short for its part; it comes before every refusal.
+const SHORT_BUFFER: u8 = 255;
+// The most axes that the buffers of a layout have room for.
+const MOST_AXES: usize = 16;

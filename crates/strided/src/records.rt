@@ -1,11 +1,12 @@
 // The record: written, read and stepped over.
-ghost use Rattle.std.specs.Prelude.{◌≡◌, ◌≤◌, length};
-ghost use Rattle.specification.specs.Record.{written, read_of};
+ghost use Rattle.std.specs.Prelude.{◌≤◌, length};
+ghost use Rattle.specification.specs.Record.{written};
 ghost use Rattle.record.specs.Writer.{wroteOf};
 ghost use Rattle.flat.specs.Flat.{holdsView, modelOfFlat};
 ghost use Rattle.strided.specs.Crossing.{ifRoom};
-ghost use Rattle.strided.specs.Calls.{WroteAfter, RecordWritten, layoutRead, RecordRead, Behind};
+ghost use Rattle.strided.specs.Calls.{WroteAfter, RecordWritten, RecordRead, Behind};
 
+use crate::SHORT_BUFFER;
 use crate::views::answer_viewed;
 use big_endian::BytePlace;
 use flat::buffers::{holds_view, layout_in};
@@ -41,10 +42,9 @@ pub extern "C" fn strided_write(
     ensures { RecordWritten (ifRoom (holdsView (length numbers.now) (length steps.now) (length values.old)) (written (modelOfFlat numbers.now steps.now) (length out.old) (length scratch.old))) out.old scratch.old values.old out.new scratch.new values.new result }
 {
     if !holds_view(numbers.len(), steps.len(), values.len()) {
-        return 255;
+        return SHORT_BUFFER;
     }
-    let layout = layout_in(numbers, steps);
-    let wrote = write_record(layout, out, scratch);
+    let wrote = write_record(layout_in(numbers, steps), out, scratch);
     answer_wrote(wrote, values)
 }
 
@@ -60,7 +60,7 @@ pub extern "C" fn strided_read(
     ensures { RecordRead (holdsView (length numbers.old) (length steps.old) (length values.old)) bytes.now scratch.old numbers.old steps.old values.old scratch.new numbers.new steps.new values.new result }
 {
     if !holds_view(numbers.len(), steps.len(), values.len()) {
-        return 255;
+        return SHORT_BUFFER;
     }
     let viewed = read_record(bytes, scratch);
     answer_viewed(viewed, numbers, steps, values)

@@ -1,43 +1,30 @@
 // The verdict.
-ghost use Rattle.std.specs.Prelude.{◌&&◌, ◌∷◌, ◌≡◌, ◌≤◌, leb, length, drop};
+ghost use Rattle.std.specs.Prelude.{◌&&◌, ◌≤◌, leb, length};
 ghost use Rattle.specification.specs.Verdict.{verdict};
 ghost use Rattle.injectivity.specs.Judgement.{judgedOf};
 ghost use Rattle.strided.specs.Crossing.{ifRoom};
 ghost use Rattle.strided.specs.Calls.{ToldAfter, Judging};
 
+use crate::SHORT_BUFFER;
 use flat::refusals::refuse;
 use injectivity::{Judgement, is_injective_layout};
 use view::layout::Refusal;
 
-// A verdict's number and its count.
-fn put_found(found: &mut [u64], verdict: u64, count: u64)
-    requires { 2 ≤ length found.old }
-    ensures { found.new ≡ verdict ∷ count ∷ drop 2 found.old }
-{
-    found[0] = verdict;
-    found[1] = count;
-}
-
 // 1 Distinct, 2 Repeated, 3 Undecided, with the count; or the refusal.
 fn answer_judgement(judged: Result<Judgement, Refusal>, found: &mut [u64], values: &mut [u64]) -> u8
-    requires { (2 ≤ length found.old) × (2 ≤ length values.old) }
+    requires found_room { 2 ≤ length found.old }
+    requires values_room { 2 ≤ length values.old }
     ensures { ToldAfter (judgedOf judged) found.old values.old found.new values.new result }
 {
-    match judged {
-        Ok(Judgement::Distinct(count)) => {
-            put_found(found, 1, count);
-            0
-        }
-        Ok(Judgement::Repeated(count)) => {
-            put_found(found, 2, count);
-            0
-        }
-        Ok(Judgement::Undecided) => {
-            put_found(found, 3, 0);
-            0
-        }
-        Err(why) => refuse(why, values),
-    }
+    let (verdict, count) = match judged {
+        Ok(Judgement::Distinct(count)) => (1, count),
+        Ok(Judgement::Repeated(count)) => (2, count),
+        Ok(Judgement::Undecided) => (3, 0),
+        Err(why) => return refuse(why, values),
+    };
+    found[0] = verdict;
+    found[1] = count;
+    0
 }
 
 // Whether no two positions share an offset, with the number of difference vectors looked at.
@@ -51,11 +38,8 @@ pub extern "C" fn strided_is_injective(
 ) -> u8
     ensures { Judging (ifRoom (leb 2 (length found.old) && leb 2 (length values.old)) (verdict extents.now strides.now (length scratch.old))) scratch.old found.old values.old scratch.new found.new values.new result }
 {
-    if found.len() < 2 {
-        return 255;
-    }
-    if values.len() < 2 {
-        return 255;
+    if found.len() < 2 || values.len() < 2 {
+        return SHORT_BUFFER;
     }
     let judged = is_injective_layout(extents, strides, scratch);
     answer_judgement(judged, found, values)

@@ -7,6 +7,7 @@ ghost use Rattle.view.specs.Model.{viewedOf};
 ghost use Rattle.flat.specs.Flat.{modelOfFlat};
 ghost use Rattle.strided.specs.Crossing.{layout_of, Answered, Crossed, CrossedWithValues, Viewing, Making};
 
+use crate::{MOST_AXES, SHORT_BUFFER};
 use flat::buffers::{holds_layout, holds_view, layout_in, store_layout, store_lists};
 use flat::refusals::refuse;
 use record::normal::normal_form;
@@ -18,15 +19,14 @@ use view::permute::permute_in_place;
 
 // The layout after a call into the buffers; on a refusal its number alone, and the buffers as they were.
 fn store_viewed(viewed: Viewed, numbers: &mut [u64], steps: &mut [i64]) -> u8
-    requires { (18 ≤ length numbers.old) × (17 ≤ length steps.old) }
+    requires numbers_room { 18 ≤ length numbers.old }
+    requires steps_room { 17 ≤ length steps.old }
     ensures { Crossed (layout_of (viewedOf viewed)) numbers.old steps.old numbers.new steps.new result }
 {
-    let answer = viewed.answer;
-    match answer {
+    match viewed.answer {
         Err(why) => why.number(),
         Ok(()) => {
-            let layout = viewed.layout;
-            store_layout(layout, numbers, steps);
+            store_layout(viewed.layout, numbers, steps);
             0
         }
     }
@@ -39,15 +39,15 @@ pub fn answer_viewed(
     steps: &mut [i64],
     values: &mut [u64],
 ) -> u8
-    requires { (18 ≤ length numbers.old) × (17 ≤ length steps.old) × (2 ≤ length values.old) }
+    requires numbers_room { 18 ≤ length numbers.old }
+    requires steps_room { 17 ≤ length steps.old }
+    requires values_room { 2 ≤ length values.old }
     ensures { CrossedWithValues (layout_of (viewedOf viewed)) numbers.old steps.old values.old numbers.new steps.new values.new result }
 {
-    let answer = viewed.answer;
-    match answer {
+    match viewed.answer {
         Err(why) => refuse(why, values),
         Ok(()) => {
-            let layout = viewed.layout;
-            store_layout(layout, numbers, steps);
+            store_layout(viewed.layout, numbers, steps);
             0
         }
     }
@@ -55,7 +55,8 @@ pub fn answer_viewed(
 
 // The rank after a view that was made in the buffers; on a refusal its number and its values.
 fn answer_in_place(after: Result<usize, Refusal>, numbers: &mut [u64], values: &mut [u64]) -> u8
-    requires { (2 ≤ length numbers.old) × (2 ≤ length values.old) }
+    requires numbers_room { 2 ≤ length numbers.old }
+    requires values_room { 2 ≤ length values.old }
     ensures { Answered after numbers.old values.old numbers.new values.new result }
 {
     match after {
@@ -80,11 +81,10 @@ pub extern "C" fn strided_new(
     ensures { Making (checkIn len offset extents.now strides.now) numbers.old steps.old numbers.new steps.new result }
 {
     if !holds_layout(numbers.len(), steps.len()) {
-        return 255;
+        return SHORT_BUFFER;
     }
     let from = ReadingOffset(offset);
-    let answer = validate_bounds(len, from, extents, strides);
-    match answer {
+    match validate_bounds(len, from, extents, strides) {
         Err(why) => why.number(),
         Ok(()) => {
             store_lists(numbers, steps, len, from, extents, strides);
@@ -104,17 +104,21 @@ pub extern "C" fn strided_permute(
     ensures { Viewing (λ layout. permute layout axes.now) numbers.old steps.old values.old numbers.new steps.new values.new result }
 {
     if !holds_view(numbers.len(), steps.len(), values.len()) {
-        return 255;
+        return SHORT_BUFFER;
     }
     let rank = numbers[1] as usize;
-    if 16 < rank {
-        return 1;
+    if MOST_AXES < rank {
+        return Refusal::TooManyAxes.number();
     }
     let len = numbers[0];
     let offset = ReadingOffset(steps[0]);
-    let end = rank + 2;
-    let last = rank + 1;
-    let after = permute_in_place(len, offset, &mut numbers[2..end], &mut steps[1..last], axes);
+    let after = permute_in_place(
+        len,
+        offset,
+        &mut numbers[2..rank + 2],
+        &mut steps[1..rank + 1],
+        axes,
+    );
     answer_in_place(after, numbers, values)
 }
 
@@ -129,21 +133,19 @@ pub extern "C" fn strided_diagonal_view(
     ensures { Viewing (λ layout. diagonalView layout (pairsOf pairs.now)) numbers.old steps.old values.old numbers.new steps.new values.new result }
 {
     if !holds_view(numbers.len(), steps.len(), values.len()) {
-        return 255;
+        return SHORT_BUFFER;
     }
     let rank = numbers[1] as usize;
-    if 16 < rank {
-        return 1;
+    if MOST_AXES < rank {
+        return Refusal::TooManyAxes.number();
     }
     let len = numbers[0];
     let offset = ReadingOffset(steps[0]);
-    let end = rank + 2;
-    let last = rank + 1;
     let after = diagonal_in_place(
         len,
         offset,
-        &mut numbers[2..end],
-        &mut steps[1..last],
+        &mut numbers[2..rank + 2],
+        &mut steps[1..rank + 1],
         pairs,
     );
     answer_in_place(after, numbers, values)
@@ -160,21 +162,19 @@ pub extern "C" fn strided_broadcast(
     ensures { Viewing (λ layout. broadcast layout extents.now) numbers.old steps.old values.old numbers.new steps.new values.new result }
 {
     if !holds_view(numbers.len(), steps.len(), values.len()) {
-        return 255;
+        return SHORT_BUFFER;
     }
     let rank = numbers[1] as usize;
-    if 16 < rank {
-        return 1;
+    if MOST_AXES < rank {
+        return Refusal::TooManyAxes.number();
     }
     let len = numbers[0];
     let offset = ReadingOffset(steps[0]);
-    let end = rank + 2;
-    let last = rank + 1;
     let after = broadcast_in_place(
         len,
         offset,
-        &mut numbers[2..end],
-        &mut steps[1..last],
+        &mut numbers[2..rank + 2],
+        &mut steps[1..rank + 1],
         extents,
     );
     answer_in_place(after, numbers, values)
@@ -186,9 +186,8 @@ pub extern "C" fn strided_normal_form(numbers: &mut [u64], steps: &mut [i64]) ->
     ensures { Making (normalForm (modelOfFlat numbers.old steps.old)) numbers.old steps.old numbers.new steps.new result }
 {
     if !holds_layout(numbers.len(), steps.len()) {
-        return 255;
+        return SHORT_BUFFER;
     }
-    let layout = layout_in(numbers, steps);
-    let viewed = normal_form(layout);
+    let viewed = normal_form(layout_in(numbers, steps));
     store_viewed(viewed, numbers, steps)
 }

@@ -40,11 +40,10 @@ impl Layout {
             },
             Ok(rank) => Viewed {
                 layout: Layout {
-                    len: self.len,
-                    offset: self.offset,
                     rank,
                     extents,
                     strides,
+                    ..self
                 },
                 answer: Ok(()),
             },

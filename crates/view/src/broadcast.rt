@@ -61,10 +61,7 @@ fn broadcast_refusal(
     requires few { length extents.now ≤ 16 }
     ensures { outcomeOf result ≡ broadcastRefusal (modelFrom len offset.0 extents.now strides.now) targets.now }
 {
-    let first = handed_lists(len, offset, extents, strides, targets.len());
-    if let Err(_) = first {
-        return first;
-    }
+    handed_lists(len, offset, extents, strides, targets.len())?;
     if targets.len() != extents.len() {
         return Err(Refusal::WrongLength(extents.len(), targets.len()));
     }
@@ -82,14 +79,9 @@ pub fn broadcast_in_place(
     requires { (length extents.old ≡ length strides.old) × (length extents.old ≤ 16) }
     ensures { LeftInPlace len offset.0 extents.old strides.old extents.new strides.new result (broadcast (modelFrom len offset.0 extents.old strides.old) targets.now) }
 {
-    let answer = broadcast_refusal(len, offset, extents, strides, targets);
-    match answer {
-        Err(why) => Err(why),
-        Ok(()) => {
-            stretch(extents, strides, targets);
-            Ok(targets.len())
-        }
-    }
+    broadcast_refusal(len, offset, extents, strides, targets)?;
+    stretch(extents, strides, targets);
+    Ok(targets.len())
 }
 
 impl Layout {

@@ -78,9 +78,7 @@ pub(crate) fn tie_pair(
     requires { rank ≤ 16 }
     ensures { (pairs : List (ℕ × ℕ)) → TiesOf rank pairs (tiesIn roots.old rank earlier) → TiesOf rank (pairs ++ ((a, b) ∷ [])) (tiesIn roots.new rank result) }
 {
-    if let Err(_) = earlier {
-        return earlier;
-    }
+    earlier?;
     let axis = a.max(b);
     if rank <= axis {
         return Err(Refusal::BadAxis(axis, rank));
@@ -141,13 +139,8 @@ pub(crate) fn tied_in_place(
     ensures { (pairs : List (ℕ × ℕ)) → TiesOf (length extents.old) pairs (tiesIn roots.now (length extents.old) ties)
         → LeftInPlace len offset.0 extents.old strides.old extents.new strides.new result (diagonalView (modelFrom len offset.0 extents.old strides.old) pairs) }
 {
-    let first = handed_lists(len, offset, extents, strides, 0);
-    if let Err(why) = first {
-        return Err(why);
-    }
-    if let Err(why) = ties {
-        return Err(why);
-    }
+    handed_lists(len, offset, extents, strides, 0)?;
+    ties?;
     let mask = root_mask(roots, extents.len());
     let mut fused_extents = [0u64; 16];
     let mut fused_strides = [0i64; 16];
@@ -162,10 +155,7 @@ pub(crate) fn tied_in_place(
         return Err(Refusal::OutOfRange);
     }
     let rank = mask.count_ones() as usize;
-    let last = bounds_refusal(len, offset, &fused_extents[..rank], &fused_strides[..rank]);
-    if let Err(why) = last {
-        return Err(why);
-    }
+    bounds_refusal(len, offset, &fused_extents[..rank], &fused_strides[..rank])?;
     copy_axes(
         &fused_extents[..rank],
         &fused_strides[..rank],

@@ -61,10 +61,7 @@ fn permute_refusal(
     requires few { length extents.now ≤ 16 }
     ensures { outcomeOf result ≡ permuteRefusal (modelFrom len offset.0 extents.now strides.now) order.now }
 {
-    let first = handed_lists(len, offset, extents, strides, order.len());
-    if let Err(_) = first {
-        return first;
-    }
+    handed_lists(len, offset, extents, strides, order.len())?;
     if order.len() != extents.len() {
         return Err(Refusal::WrongLength(order.len(), extents.len()));
     }
@@ -82,14 +79,9 @@ pub fn permute_in_place(
     requires { (length extents.old ≡ length strides.old) × (length extents.old ≤ 16) }
     ensures { LeftInPlace len offset.0 extents.old strides.old extents.new strides.new result (permute (modelFrom len offset.0 extents.old strides.old) order.now) }
 {
-    let answer = permute_refusal(len, offset, extents, strides, order);
-    match answer {
-        Err(why) => Err(why),
-        Ok(()) => {
-            reorder(extents, strides, order);
-            Ok(order.len())
-        }
-    }
+    permute_refusal(len, offset, extents, strides, order)?;
+    reorder(extents, strides, order);
+    Ok(order.len())
 }
 
 impl Layout {

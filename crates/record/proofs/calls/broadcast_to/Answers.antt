@@ -9,5 +9,5 @@ pub returns : goal.returns
 returns c =
     let a = c.args in
     c.broadcast.ensures
-    ∙ ap (broadcast (modelOf a.layout)) (c.targets_of-targets.ensures ∙ ap (λ (n : ℕ). take n a.arguments.now) c.at_most_17-count.ensures)
+    ∙ ap (broadcast (modelOf a.layout)) (c.targets_of-targets.ensures ∙ ap (λ (n : ℕ). take n a.arguments.now) c.min-count.ensures)
     ∙ broadcast-first-17 (modelOf a.layout) a.arguments.now

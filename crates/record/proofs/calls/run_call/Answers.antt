@@ -1,17 +1,20 @@
 -- `run_call`: each kind is its call.
-use mathlib.Core.Path.{◌∙◌}
-use borrow.Author.Tests.{eq-eqb, ne_eqb}
+use Rattle.std.proofs.Common.{◌∙◌, ◌≢◌, arith}
+use borrow.Author.Tests.{ne_eqb}
 use Rattle.specification.specs.Calls.{after_call}
 use Rattle.record.proofs.calls.run_call.Goals as goal
 
-pub returns-then-kind-eq1 : goal.returns-then-kind-eq1
+pub returns-in-1 : goal.returns-in-1
 unfolding after_call
-returns-then-kind-eq1 c = c.permute.ensures ∙ rw (eq-eqb _ _ c.if-kind-eq1.true)
+returns-in-1 c = c.permute.ensures ∙ rw c.in-1.is
 
-pub returns-then-kind-eq2 : goal.returns-then-kind-eq2
+pub returns-in-2 : goal.returns-in-2
 unfolding after_call
-returns-then-kind-eq2 c = c.diagonal_by_numbers.ensures ∙ rw (ne_eqb _ _ c.if-kind-eq1.false, eq-eqb _ _ c.if-kind-eq2.true)
+returns-in-2 c = c.diagonal_by_numbers.ensures ∙ rw c.in-2.is
 
-pub returns : goal.returns
+pub returns-in_default : goal.returns-in_default
 unfolding after_call
-returns c = c.broadcast_to.ensures ∙ rw (ne_eqb _ _ c.if-kind-eq1.false, ne_eqb _ _ c.if-kind-eq2.false)
+returns-in_default c =
+    let one : c.args.kind ≢ 1 = omega arith in
+    let two : c.args.kind ≢ 2 = omega arith in
+    c.broadcast_to.ensures ∙ rw (ne_eqb _ _ one, ne_eqb _ _ two)

@@ -18,7 +18,7 @@ loop-at-preserved c =
     let k = call-stands o l.at (sym c.is_call_at.ensures ∙ c.if-not-is_call_at.false) in
     let e : l.at + 2 + get_or o (l.at + 1) 0 - (l.at + 2) ≡ get_or o (l.at + 1) 0 = omega arith in
     running_more l.invariant (omega arith) k.kind-least k.kind-most k.ends
-    (ap (λ (a : After). a.layout) c.run_call-view.ensures
+    (ap (λ (a : After). a.layout) c.run_call.ensures
     ∙ ap (λ (n : ℕ). (after_call (modelOf l.current) (call_of (get_or o l.at 0) (take n (drop (l.at + 2) o)))).layout) e)
 
 pub returns : goal.returns

@@ -10,5 +10,5 @@ pub returns : goal.returns
 returns c =
     let a = c.args in
     c.put_u64_at-2.ensures
-    ∙ rw (c.twos_complement-bits.ensures, to_z-of_z w64 a.stride c.ranges.stride, c.put_u64_at.ensures)
+    ∙ rw (c.twos_complement.ensures, to_z-of_z w64 a.stride c.ranges.stride, c.put_u64_at.ensures)
     (two-numbers a.out.now (bigEndian 8 a.extent) (bigEndian 8 (twos a.stride)) a.at.0 (omega arith) (length-bigEndian 8 a.extent))

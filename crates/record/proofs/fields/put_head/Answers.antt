@@ -8,5 +8,5 @@ pub returns : goal.returns
 returns c =
     let a = c.args in
     c.put_u64_at.ensures
-    ∙ rw (c.twos_complement-bits.ensures, to_z-of_z w64 a.offset.0 (search rules), c.put_five.ensures)
+    ∙ rw (c.twos_complement.ensures, to_z-of_z w64 a.offset.0 (search rules), c.put_five.ensures)
     (head_bytes a.rank a.verdict a.offset.0 a.out.now)

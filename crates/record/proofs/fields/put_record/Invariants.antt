@@ -1,11 +1,11 @@
 -- `put_record`: behind the head stand the axes written so far, then what was there.
-use Rattle.std.proofs.Common.{◌≤◌, ◌-◌, ◌+◌, ◌*◌, length}
+use Rattle.std.proofs.Common.{◌≤◌, ◌+◌, ◌*◌, length}
 use Rattle.view.specs.Model.{axesIn}
 use Rattle.record.proofs.FieldLaws.{Written}
 use Rattle.record.proofs.fields.put_record.Given as goal
 
 abbrev pub invariant-loop-i : goal.invariant-loop-i
-invariant-loop-i l = (l.i ≤ l.rank) × (13 + 16 * l.rank ≤ length l.initial.out) × Written l.initial.out (axesIn l.layout.extents l.layout.strides l.i) l.i l.out
-
-abbrev pub decreases-loop-i : goal.decreases-loop-i
-decreases-loop-i l = l.rank - l.i
+invariant-loop-i l = record {
+  room : 13 + 16 * l.layout.rank ≤ length l.initial.out;
+  written : Written l.initial.out (axesIn l.layout.extents l.layout.strides l.i) l.i l.out;
+}

@@ -8,7 +8,7 @@ use Rattle.record.proofs.FormTested.{not-between, longest-between, buffer-betwee
 use Rattle.record.proofs.form.buffer_length.Goals as goal
 
 pub returns-in_default : goal.returns-in_default
-returns-in_default c = sym (buffer-empty (modelOf c.args.layout) c.requires.1 c.longest_reach.ensures (not-between c.longest_reach.result c.in_default.not-Between))
+returns-in_default c = sym (buffer-empty (modelOf c.args.layout) c.requires.normal c.longest_reach.ensures (not-between c.longest_reach.result c.in_default.not-Between))
 
 pub overflow_cast-result : goal.overflow_cast-result
 overflow_cast-result c =

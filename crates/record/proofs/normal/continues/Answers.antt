@@ -10,10 +10,10 @@ pub returns-in-None : goal.returns-in-None
 returns-in-None c =
     let a = c.args in
     sym (over-differs a.next (a.extent · a.stride) c.ranges.next
-    (over-arm (a.extent · a.stride) (checked-mul-is a.extent a.stride c.ranges.stride c.checked_mul-product.ensures) c.in-None.is))
+    (over-arm (a.extent · a.stride) (checked-mul-is a.extent a.stride c.ranges.stride c.checked_mul.ensures) c.in-None.is))
 
 pub returns-in-Some : goal.returns-in-Some
 returns-in-Some c =
     let a = c.args in
-    let w = fits-arm (a.extent · a.stride) (checked-mul-is a.extent a.stride c.ranges.stride c.checked_mul-product.ensures) c.in-Some.is in
+    let w = fits-arm (a.extent · a.stride) (checked-mul-is a.extent a.stride c.ranges.stride c.checked_mul.ensures) c.in-Some.is in
     rw w.value (equal-tested a.next (a.extent · a.stride) c.ranges.next w.in-range)

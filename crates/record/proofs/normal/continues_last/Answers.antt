@@ -4,8 +4,8 @@ use mir.ValLaws.{to_z-of_z}
 use Rattle.record.proofs.MergeLaws.{continues-last}
 use Rattle.record.proofs.normal.continues_last.Goals as goal
 
-pub returns : goal.returns
-returns c =
+pub returns-then-stored-ne0 : goal.returns-then-stored-ne0
+returns-then-stored-ne0 c =
     let a = c.args in
     c.continues.ensures
     ∙ rw (to_z-of_z w64 a.stride c.ranges.stride, to_z-of_z w64 (get_or a.layout.strides (a.stored - 1) (pos 0)) (search rules))

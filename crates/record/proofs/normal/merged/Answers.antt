@@ -1,5 +1,5 @@
 -- `merged`: each turn by what its axis is, dropped, merged or stored; at the end nothing is left, so the axes stored are the normal form's.
-use Rattle.std.proofs.Common.{◌≡◌, refl, sym, ap, ◌∙◌, arith, rules, ℕ, ℤ, Bool, [], ◌∷◌, ◌+◌, ◌-◌, ◌<◌, length, drop, w64, to_z, of_z, FitsSigned}
+use Rattle.std.proofs.Common.{◌≡◌, refl, sym, ap, ◌∙◌, arith, rules, ℕ, ℤ, Bool, [], ◌∷◌, ◌+◌, ◌<◌, drop, w64, to_z, of_z, FitsSigned}
 use lib.ListN.{length-set}
 use mir.ValLaws.{to_z-of_z}
 use Rattle.specification.specs.Normal.{normalAxes}
@@ -12,6 +12,7 @@ use Rattle.view.proofs.ModelLaws.{drop-axesIn}
 use Rattle.record.specs.Normal.{continuesLast}
 use Rattle.record.proofs.MergeLaws.{resume, resume-start, resume-dropped, resume-merged, resume-stored, resume-end, merged-fits, continued-some}
 use Rattle.record.proofs.normal.merged.Goals as goal
+use Rattle.record.proofs.normal.merged.Goals.{then-continues_last, else-continues_last}
 
 -- at a turn axis i is read, and those behind it are left
 axis-read : (next whole : Layout) (stored i : ℕ) → i < whole.rank → resume next.extents next.strides stored (drop i (modelOf whole).axes) ≡ start (modelOf whole).axes
@@ -24,7 +25,7 @@ axis-tested : (next : Layout) (stored : ℕ) (stride : ℤ) → FitsSigned w64 s
 axis-tested next stored stride f e q = ap (continuesLast next.extents next.strides stored) (sym (to_z-of_z w64 stride f)) ∙ sym e ∙ q
 
 pub loop-i-init : goal.loop-i-init
-loop-i-init c = (search rules, search rules, refl, refl, search rules, search rules, resume-start _ _ _)
+loop-i-init c = record { behind = search rules; same-length = refl; same-offset = refl; sixteen-extents = search rules; sixteen-strides = search rules; resumed = resume-start _ _ _ }
 
 pub loop-i-preserved-then-extent-eq1 : goal.loop-i-preserved-then-extent-eq1
 loop-i-preserved-then-extent-eq1 c =
@@ -32,8 +33,15 @@ loop-i-preserved-then-extent-eq1 c =
     let w = c.args.layout in
     let read = axisOf w.extents w.strides l.i in
     let left = drop (l.i + 1) (modelOf w).axes in
-    let turned = axis-read l.next w l.stored l.i (search rules) l.invariant.6 in
-    (search rules, search rules, l.invariant.2, l.invariant.3, l.invariant.4, l.invariant.5, sym (resume-dropped l.next.extents l.next.strides read left l.stored c.if-extent-eq1.true) ∙ turned)
+    let turned = axis-read l.next w l.stored l.i (search rules) l.invariant.resumed in
+    record {
+      behind = search rules;
+      same-length = l.invariant.same-length;
+      same-offset = l.invariant.same-offset;
+      sixteen-extents = l.invariant.sixteen-extents;
+      sixteen-strides = l.invariant.sixteen-strides;
+      resumed = sym (resume-dropped l.next.extents l.next.strides read left l.stored c.if-extent-eq1.true) ∙ turned;
+    }
 
 pub overflow_mul-next : goal.overflow_mul-next
 overflow_mul-next c =
@@ -41,28 +49,10 @@ overflow_mul-next c =
     let w = c.args.layout in
     let read = axisOf w.extents w.strides l.i in
     let left = drop (l.i + 1) (modelOf w).axes in
-    let turned = axis-read l.next w l.stored l.i (search rules) l.invariant.6 in
+    let turned = axis-read l.next w l.stored l.i (search rules) l.invariant.resumed in
     let tested = axis-tested l.next l.stored read.stride (search rules) c.continues_last.ensures c.if-continues_last.true in
     let some_stored = continued-some l.next.extents l.next.strides l.stored read.stride tested in
-    omega (arith, merged-fits l.next.extents l.next.strides l.stored read left (modelOf w).axes c.requires.1 c.requires.2 some_stored turned)
-
-pub loop-i-preserved-then-continues_last : goal.loop-i-preserved-then-continues_last
-loop-i-preserved-then-continues_last c =
-    let l = c.loop-i in
-    let w = c.args.layout in
-    let read = axisOf w.extents w.strides l.i in
-    let left = drop (l.i + 1) (modelOf w).axes in
-    let turned = axis-read l.next w l.stored l.i (search rules) l.invariant.6 in
-    let tested = axis-tested l.next l.stored read.stride (search rules) c.continues_last.ensures c.if-continues_last.true in
-    let last : l.stored - 1 < length l.next.extents = omega arith in (
-      search rules,
-      search rules,
-      l.invariant.2,
-      l.invariant.3,
-      simp length-set l.invariant.4,
-      l.invariant.5,
-      sym (resume-merged l.next.extents l.next.strides read left l.stored c.if-extent-eq1.false last tested) ∙ turned,
-    )
+    omega (arith, merged-fits l.next.extents l.next.strides l.stored read left (modelOf w).axes c.requires.full c.requires.within some_stored turned)
 
 pub loop-i-preserved : goal.loop-i-preserved
 loop-i-preserved c =
@@ -70,18 +60,30 @@ loop-i-preserved c =
     let w = c.args.layout in
     let read = axisOf w.extents w.strides l.i in
     let left = drop (l.i + 1) (modelOf w).axes in
-    let turned = axis-read l.next w l.stored l.i (search rules) l.invariant.6 in
-    let tested = axis-tested l.next l.stored read.stride (search rules) c.continues_last.ensures c.if-continues_last.false in
-    let room : l.stored < 16 = omega arith in (
-      search rules,
-      search rules,
-      l.invariant.2,
-      l.invariant.3,
-      simp length-set l.invariant.4,
-      simp length-set l.invariant.5,
-      rw (to_z-of_z w64 read.stride (search rules))
-          (sym (resume-stored l.next.extents l.next.strides read left l.stored c.if-extent-eq1.false (omega arith) (omega arith) tested) ∙ turned),
-    )
+    let turned = axis-read l.next w l.stored l.i (search rules) l.invariant.resumed in
+    elim c.if-continues_last.branch [
+      | then-continues_last b ↦
+          let tested = axis-tested l.next l.stored read.stride (search rules) c.continues_last.ensures b.if-continues_last.true in
+          rw (b.next-is, b.stored-is) record {
+            behind = omega arith;
+            same-length = l.invariant.same-length;
+            same-offset = l.invariant.same-offset;
+            sixteen-extents = simp length-set l.invariant.sixteen-extents;
+            sixteen-strides = l.invariant.sixteen-strides;
+            resumed = sym (resume-merged l.next.extents l.next.strides read left l.stored c.if-extent-eq1.false (omega arith) tested) ∙ turned;
+          }
+      | else-continues_last b ↦
+          let tested = axis-tested l.next l.stored read.stride (search rules) c.continues_last.ensures b.if-continues_last.false in
+          rw (b.next-is, b.stored-is) record {
+            behind = omega arith;
+            same-length = l.invariant.same-length;
+            same-offset = l.invariant.same-offset;
+            sixteen-extents = simp length-set l.invariant.sixteen-extents;
+            sixteen-strides = simp length-set l.invariant.sixteen-strides;
+            resumed = rw (to_z-of_z w64 read.stride (search rules))
+                (sym (resume-stored l.next.extents l.next.strides read left l.stored c.if-extent-eq1.false (omega arith) (omega arith) tested) ∙ turned);
+          }
+    ]
 
 pub returns : goal.returns
 returns c =
@@ -91,5 +93,5 @@ returns c =
     let none : drop l.i axes ≡ [] = drop-table-end _ w.rank l.i (search rules) in
     let e : axesIn l.next.extents l.next.strides l.stored ≡ normalAxes axes =
     sym (resume-end l.next.extents l.next.strides l.stored) ∙ ap (resume l.next.extents l.next.strides l.stored) (sym none)
-    ∙ l.invariant.6 ∙ scan-is-normal axes (full-pos axes c.requires.1) in
-    rw (l.invariant.2, l.invariant.3, e) (sym (normal-of-full (modelOf w) c.requires.1))
+    ∙ l.invariant.resumed ∙ scan-is-normal axes (full-pos axes c.requires.full) in
+    rw (l.invariant.same-length, l.invariant.same-offset, e) (sym (normal-of-full (modelOf w) c.requires.full))

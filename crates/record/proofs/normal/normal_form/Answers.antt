@@ -10,11 +10,11 @@ use Rattle.record.proofs.normal.normal_form.Goals as goal
 pub counted_form-requires : goal.counted_form-requires
 counted_form-requires c =
     let l = c.args.layout in
-    let told = sym (c.handed_refusal-answer.ensures [] refl) ∙ ap outcomeOf c.in-Ok.is in
+    let told = sym (c.handed_refusal.ensures [] refl) ∙ ap outcomeOf c.in-Ok.is in
     omega (arith, rank-modelOf l, (handed-passed (modelOf l) [] told).0)
 
 pub returns-in-Err : goal.returns-in-Err
-returns-in-Err c = sym (form-refused (modelOf c.args.layout) (sym (c.handed_refusal-answer.ensures [] refl) ∙ ap outcomeOf c.in-Err.is))
+returns-in-Err c = sym (form-refused (modelOf c.args.layout) (sym (c.handed_refusal.ensures [] refl) ∙ ap outcomeOf c.in-Err.is))
 
 pub returns-in-Ok : goal.returns-in-Ok
-returns-in-Ok c = c.counted_form.ensures ∙ sym (form-passed (modelOf c.args.layout) (sym (c.handed_refusal-answer.ensures [] refl) ∙ ap outcomeOf c.in-Ok.is))
+returns-in-Ok c = c.counted_form.ensures ∙ sym (form-passed (modelOf c.args.layout) (sym (c.handed_refusal.ensures [] refl) ∙ ap outcomeOf c.in-Ok.is))

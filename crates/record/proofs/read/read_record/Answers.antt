@@ -38,18 +38,18 @@ returns-in-Err-judge_layout c =
     reading-unjudged b c.args.scratch.now (is_front b f c.read_front-front.ensures c.in_default.is)
     (refusal-told _ _ c.in-Err-judge_layout.ensures.told) c.judge_layout.ensures.scratch c.not_read-in-Err-judge_layout.ensures
 
-pub returns-in-Ok : goal.returns-in-Ok
-returns-in-Ok c =
+pub returns-else-not-confirmed : goal.returns-else-not-confirmed
+returns-else-not-confirmed c =
     let b = c.args.bytes.now in
     let f = c.read_front-front.result in
     let w = byte-told _ _ c.in-Ok.ensures.told in
     reading-true b c.args.scratch.now (is_front b f c.read_front-front.ensures c.in_default.is) w.is
-    (w.byte-is ∙ sym c.verdict_byte.ensures ∙ c.if-verdict_byte-front.true) c.judge_layout.ensures.scratch refl
+    (w.byte-is ∙ sym c.verdict_byte.ensures ∙ c.if-not-confirmed.false) c.judge_layout.ensures.scratch refl
 
-pub returns-in-Ok-2 : goal.returns-in-Ok-2
-returns-in-Ok-2 c =
+pub returns-then-not-confirmed : goal.returns-then-not-confirmed
+returns-then-not-confirmed c =
     let b = c.args.bytes.now in
     let f = c.read_front-front.result in
     let w = byte-told _ _ c.in-Ok.ensures.told in
     reading-false b c.args.scratch.now (is_front b f c.read_front-front.ensures c.in_default.is) w.is
-    (λ q. c.if-verdict_byte-front.false (c.verdict_byte.ensures ∙ sym w.byte-is ∙ q)) c.judge_layout.ensures.scratch c.not_read-in-Ok-2.ensures
+    (λ q. c.if-not-confirmed.true (c.verdict_byte.ensures ∙ sym w.byte-is ∙ q)) c.judge_layout.ensures.scratch c.not_read-then-not-confirmed.ensures

@@ -19,7 +19,7 @@ pub returns-then-not-fields_right : goal.returns-then-not-fields_right
 returns-then-not-fields_right c = c.no_record.ensures ∙ sym (ap frontAfter (front-wrong c.args.bytes.now (sym c.fields_right.ensures ∙ c.if-not-fields_right.true)))
 
 pub axes_from-layout-requires : goal.axes_from-layout-requires
-axes_from-layout-requires c = let f = fields-tested c.args.bytes.now (sym c.fields_right.ensures ∙ c.if-not-fields_right.false) in (f.rank-small, f.whole-there)
+axes_from-layout-requires c = let f = fields-tested c.args.bytes.now (sym c.fields_right.ensures ∙ c.if-not-fields_right.false) in record { few = f.rank-small; whole = f.whole-there }
 
 pub is_normal-requires : goal.is_normal-requires
 is_normal-requires c = few c.args.bytes.now c.axes_from-layout.result (sym c.fields_right.ensures ∙ c.if-not-fields_right.false) c.axes_from-layout.ensures
@@ -30,9 +30,12 @@ returns-then-not-is_normal c =
     let told = ap isNormal (sym c.axes_from-layout.ensures) ∙ sym c.is_normal.ensures ∙ c.if-not-is_normal.true in
     c.no_record-then-not-is_normal.ensures ∙ sym (ap frontAfter (front-unnormal c.args.bytes.now fields told))
 
-pub buffer_length-len-requires : goal.buffer_length-len-requires
-buffer_length-len-requires c =
-    (few c.args.bytes.now c.axes_from-layout.result (sym c.fields_right.ensures ∙ c.if-not-fields_right.false) c.axes_from-layout.ensures, sym c.is_normal.ensures ∙ c.if-not-is_normal.false)
+pub buffer_length-requires : goal.buffer_length-requires
+buffer_length-requires c =
+    record {
+      few = few c.args.bytes.now c.axes_from-layout.result (sym c.fields_right.ensures ∙ c.if-not-fields_right.false) c.axes_from-layout.ensures;
+      normal = sym c.is_normal.ensures ∙ c.if-not-is_normal.false;
+    }
 
 pub bounds-bytes-3 : goal.bounds-bytes-3
 bounds-bytes-3 c = omega (arith, (fields-tested c.args.bytes.now (sym c.fields_right.ensures ∙ c.if-not-fields_right.false)).front-there)
@@ -43,7 +46,7 @@ returns c =
     let l = c.axes_from-layout.result in
     let fields = sym c.fields_right.ensures ∙ c.if-not-fields_right.false in
     let told = ap isNormal (sym c.axes_from-layout.ensures) ∙ sym c.is_normal.ensures ∙ c.if-not-is_normal.false in
-    let same : record { buffer = c.buffer_length-len.result; offset = l.offset.0; axes = (modelOf l).axes } ≡ layoutFrom b
-    = rw c.buffer_length-len.ensures (told-filled b (modelOf l) c.axes_from-layout.ensures) in
+    let same : record { buffer = c.buffer_length.result; offset = l.offset.0; axes = (modelOf l).axes } ≡ layoutFrom b
+    = rw c.buffer_length.ensures (told-filled b (modelOf l) c.axes_from-layout.ensures) in
     ap (λ (m : LayoutM). record { answer = pass; front = record { layout = m; verdict = get_or b 3 0 } }) same
     ∙ sym (ap frontAfter (front-whole b fields told))

@@ -1,7 +1,7 @@
 -- `write_record`: the normal form, the room, the verdict, each in its turn; then the record.
 use Rattle.std.specs.Prelude.{Ok}
 use Rattle.std.proofs.lemmas.Result.{err_from_is_err_and}
-use Rattle.std.proofs.Common.{◌≡◌, sym, ap, ◌∙◌, arith, rules, ◌≤◌}
+use Rattle.std.proofs.Common.{◌≡◌, ap, ◌∙◌, arith, rules, ◌≤◌}
 use Rattle.specification.specs.Outcome.{done}
 use Rattle.specification.specs.Normal.{normalForm}
 use Rattle.view.specs.Answers.{outcomeOf}
@@ -37,11 +37,11 @@ overflow_add-size c =
     let e = formed-as c.args.layout c.normal_form-viewed.result c.normal_form-viewed.ensures c.in_ok-viewed.was in
     omega (arith, few c.args.layout c.normal_form-viewed.result.layout e)
 
-pub returns-then-out-size : goal.returns-then-out-size
-returns-then-out-size c =
+pub returns-then-short : goal.returns-then-short
+returns-then-short c =
     let form = c.normal_form-viewed.result.layout in
     let e = formed-as c.args.layout c.normal_form-viewed.result c.normal_form-viewed.ensures c.in_ok-viewed.was in
-    rw (← rank-modelOf form) (writing-short (modelOf c.args.layout) _ _ e (rw (rank-modelOf form) c.if-out-size.true))
+    rw (← rank-modelOf form) (writing-short (modelOf c.args.layout) _ _ e (rw (rank-modelOf form) c.if-short.true))
 
 pub judge_layout-requires : goal.judge_layout-requires
 judge_layout-requires c =
@@ -52,12 +52,15 @@ returns-in_err-judged c =
     let form = c.normal_form-viewed.result.layout in
     let e = formed-as c.args.layout c.normal_form-viewed.result c.normal_form-viewed.ensures c.in_ok-viewed.was in
     let p = err_from_is_err_and c.from_residual-in_err-judged.result c.from_residual-in_err-judged.ensures.1 in
-    rw (p.1, p.2) (writing-unjudged (modelOf c.args.layout) _ _ e (rw (rank-modelOf form) c.if-out-size.false)
+    rw (p.1, p.2) (writing-unjudged (modelOf c.args.layout) _ _ e (rw (rank-modelOf form) c.if-short.false)
     (refusal-told _ _ c.in_err-judged.ensures.told) c.judge_layout.ensures.scratch)
 
 pub put_record-requires : goal.put_record-requires
 put_record-requires c =
-    (few c.args.layout c.normal_form-viewed.result.layout (formed-as c.args.layout c.normal_form-viewed.result c.normal_form-viewed.ensures c.in_ok-viewed.was), search rules)
+    record {
+      few = few c.args.layout c.normal_form-viewed.result.layout (formed-as c.args.layout c.normal_form-viewed.result c.normal_form-viewed.ensures c.in_ok-viewed.was);
+      room = search rules;
+    }
 
 pub returns : goal.returns
 returns c =
@@ -65,5 +68,5 @@ returns c =
     let e = formed-as c.args.layout c.normal_form-viewed.result c.normal_form-viewed.ensures c.in_ok-viewed.was in
     let w = byte-told _ _ c.in_ok-judged.ensures.told in
     rw (← rank-modelOf form)
-    (writing-made (modelOf c.args.layout) _ _ e (rw (rank-modelOf form) c.if-out-size.false) w.is c.judge_layout.ensures.scratch
+    (writing-made (modelOf c.args.layout) _ _ e (rw (rank-modelOf form) c.if-short.false) w.is c.judge_layout.ensures.scratch
     (c.put_record.ensures ∙ rw (w.byte-is, c.verdict_byte.ensures, rank-modelOf form)))

@@ -1,9 +1,14 @@
 -- `strided_step`: the rest is a part at the end, so its length tells where it begins.
-use Rattle.strided.proofs.StepLaws.{behind, rest-fits}
+use Rattle.std.proofs.Common.{arith}
+use Rattle.std.proofs.lemmas.List.{length-drop}
+use Rattle.std.proofs.Math.ListN.{drop_of_length-le}
+use Rattle.specification.specs.Record.{rest_of}
 use Rattle.strided.proofs.records.strided_step.Goals as goal
 
 pub overflow_sub-result : goal.overflow_sub-result
-overflow_sub-result c = rw c.step_over-rest.ensures (rest-fits c.args.bytes.now)
+unfolding rest_of
+overflow_sub-result c = grind (arith, length-drop)
 
 pub returns : goal.returns
-returns c = behind c.args.bytes.now c.step_over-rest.result.now c.step_over-rest.ensures
+unfolding rest_of
+returns c = grind (arith, length-drop, drop_of_length-le)

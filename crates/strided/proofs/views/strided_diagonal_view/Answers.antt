@@ -5,11 +5,11 @@ use Rattle.specification.specs.Views.{diagonalView, pairsOf}
 use Rattle.strided.proofs.InPlaceLaws.{viewed-too-many, viewed-in-place}
 use Rattle.strided.proofs.views.strided_diagonal_view.Goals as goal
 
-pub returns-then-rank-gt16 : goal.returns-then-rank-gt16
+pub returns-then-rank-gt-MOST_AXES : goal.returns-then-rank-gt-MOST_AXES
 unfolding diagonalView
-returns-then-rank-gt16 c = viewed-too-many (sym c.if-not-holds_view.ensures) [] _ _ c.if-rank-gt16.true
+returns-then-rank-gt-MOST_AXES c = rw c.number.ensures (viewed-too-many (sym c.if-not-holds_view.ensures) [] _ _ c.if-rank-gt-MOST_AXES.true)
 
 pub returns : goal.returns
 returns c =
     let made = c.diagonal_in_place-after in
-    viewed-in-place (λ l. diagonalView l (pairsOf c.args.pairs.now)) (sym c.if-not-holds_view.ensures) c.if-rank-gt16.false (to_z-of_z w64 _ (search rules)) made.auto.extents made.auto.strides made.ensures c.answer_in_place.ensures
+    viewed-in-place (λ l. diagonalView l (pairsOf c.args.pairs.now)) (sym c.if-not-holds_view.ensures) c.if-rank-gt-MOST_AXES.false (to_z-of_z w64 _ (search rules)) made.auto.extents made.auto.strides made.ensures c.answer_in_place.ensures

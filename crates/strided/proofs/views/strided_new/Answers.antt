@@ -1,14 +1,10 @@
 -- `strided_new`: no room, or check-in's outcome.
-use Rattle.std.proofs.Common.{refl, sym, to_z-of_z}
+use Rattle.std.proofs.Common.{refl, sym, to_z-of_z, arith}
 use Rattle.view.proofs.CheckInLaws.{checked-done}
-use Rattle.strided.proofs.RoomLaws.{layout-room}
 use Rattle.strided.proofs.views.strided_new.Goals as goal
 
 pub store_lists-requires : goal.store_lists-requires
-store_lists-requires c =
-    let room = layout-room _ _ (sym c.if-not-holds_layout.ensures) in
-    let passed = checked-done _ _ _ _ (sym c.in-Ok.ensures) in
-    (room.0, room.1, passed.0, sym passed.1)
+store_lists-requires c = grind (arith, checked-done _ _ _ _ (sym c.in-Ok.ensures))
 
 pub returns-in-Ok : goal.returns-in-Ok
 returns-in-Ok c =

@@ -1,4 +1,5 @@
 -- `broadcast_in_place`: the refusal and the lists as they were, or the stretched axes in them.
+use Rattle.std.proofs.lemmas.Result.{err_from_is_err_and}
 use Rattle.std.proofs.Common.{◌≡◌, ◌∙◌, refl, sym, ap, ℕ, List, length, arith}
 use lib.IntN.{ℤ}
 use Rattle.specification.specs.Outcome.{pass}
@@ -18,21 +19,23 @@ targeted len offset es ss targets h e = (listed-passed (modelFrom len offset es 
 pub stretch-requires : goal.stretch-requires
 stretch-requires c =
     let a = c.args in
-    record { alike = c.requires.0; targeted = targeted a.len a.offset.0 a.extents.now a.strides.now a.targets.now c.requires.0 (sym c.broadcast_refusal-answer.ensures ∙ ap outcomeOf c.in-Ok.is) }
+    record { alike = c.requires.0; targeted = targeted a.len a.offset.0 a.extents.now a.strides.now a.targets.now c.requires.0 (sym c.broadcast_refusal.ensures ∙ ap outcomeOf c.in_ok-broadcast_refusal.was) }
 
-pub returns-in-Err : goal.returns-in-Err
+pub returns-in_err-broadcast_refusal : goal.returns-in_err-broadcast_refusal
 unfolding broadcast unlessRefused
-returns-in-Err c = record { after_is = rw (← c.broadcast_refusal-answer.ensures, c.in-Err.is); kept_in = (refl, refl) }
+returns-in_err-broadcast_refusal c =
+    let p = err_from_is_err_and c.from_residual.result c.from_residual.ensures.1 in
+    rw (p.1, p.2) (record { after_is = rw (← c.broadcast_refusal.ensures, c.in_err-broadcast_refusal.was); kept_in = (refl, refl) })
 
-pub returns-in-Ok : goal.returns-in-Ok
+pub returns : goal.returns
 unfolding broadcast unlessRefused
-returns-in-Ok c =
+returns c =
     let a = c.args in
     let t = c.stretch in
-    let n = targeted a.len a.offset.0 a.extents.now a.strides.now a.targets.now c.requires.0 (sym c.broadcast_refusal-answer.ensures ∙ ap outcomeOf c.in-Ok.is) in
+    let n = targeted a.len a.offset.0 a.extents.now a.strides.now a.targets.now c.requires.0 (sym c.broadcast_refusal.ensures ∙ ap outcomeOf c.in_ok-broadcast_refusal.was) in
     let h : length t.new.extents ≡ length a.targets.now = omega arith in
     let k : length t.new.strides ≡ length a.targets.now = omega arith in
     record {
-      after_is = rw (← c.broadcast_refusal-answer.ensures, c.in-Ok.is, axesIn-axesOf t.new.extents t.new.strides (length a.targets.now) h k, t.ensures);
+      after_is = rw (← c.broadcast_refusal.ensures, c.in_ok-broadcast_refusal.was, axesIn-axesOf t.new.extents t.new.strides (length a.targets.now) h k, t.ensures);
       kept_in = omega arith;
     }

@@ -1,5 +1,6 @@
 -- `tied_in_place`: the rules in the order of the definition; the fused axes stand in arrays of their own until their bounds are looked at.
 use Rattle.std.specs.Prelude.{Err, Ok, Result}
+use Rattle.std.proofs.lemmas.Result.{err_from_is_err_and}
 use Rattle.std.proofs.Common.{◌≡◌, ℕ, ◌≤◌, Bool, List, [], length, take, refl, sym, ap, subst, ◌∙◌, arith}
 use lib.Count.{ones}
 use lib.IntN.{ℤ}
@@ -72,46 +73,52 @@ module _ (n : ℕ) (fused-extents : List ℕ) (fused-strides : List ℤ) (few : 
       → told ≡ bounds (withAxes l (axesOf (take n fused-extents) (take n fused-strides))) → bounds (withAxes l (diagonalAxes l pairs)) ≡ told
   bounds-told l pairs e t = ap (λ (axes : List Axis). bounds (withAxes l axes)) (sym (first-axes l pairs e)) ∙ sym t
 
-pub returns-in-Err : goal.returns-in-Err
-returns-in-Err c pairs of =
+pub returns-in_err-handed_lists : goal.returns-in_err-handed_lists
+returns-in_err-handed_lists c pairs of =
     let a = c.args in
     let m : LayoutM = modelFrom a.len a.offset.0 a.extents.now a.strides.now in
-    stays a.len a.offset.0 a.extents.now a.strides.now c.requires.alike pairs of c.in-Err.why
-    (handed-refused m pairs (sym (c.handed_lists-first.ensures [] refl) ∙ ap outcomeOf c.in-Err.is))
+    let p = err_from_is_err_and c.from_residual.result c.from_residual.ensures.1 in
+    rw (p.1, p.2)
+    (stays a.len a.offset.0 a.extents.now a.strides.now c.requires.alike pairs of c.in_err-handed_lists.field-0.0
+    (handed-refused m pairs (sym (c.handed_lists.ensures [] refl) ∙ ap outcomeOf c.in_err-handed_lists.was)))
 
-pub returns-in-Err-ties : goal.returns-in-Err-ties
-returns-in-Err-ties c pairs of =
+pub returns-in_err-ties : goal.returns-in_err-ties
+returns-in_err-ties c pairs of =
     let a = c.args in
     let m : LayoutM = modelFrom a.len a.offset.0 a.extents.now a.strides.now in
-    stays a.len a.offset.0 a.extents.now a.strides.now c.requires.alike pairs of c.in-Err-ties.why
-    (pair-refused m pairs (sym (c.handed_lists-first.ensures [] refl) ∙ ap outcomeOf c.in_default.is)
-    (pairs-told a.len a.offset.0 a.extents.now a.strides.now c.requires.alike pairs of c.in-Err-ties.is))
+    let p = err_from_is_err_and c.from_residual-in_err-ties.result c.from_residual-in_err-ties.ensures.1 in
+    rw (p.1, p.2)
+    (stays a.len a.offset.0 a.extents.now a.strides.now c.requires.alike pairs of c.in_err-ties.field-0.0
+    (pair-refused m pairs (sym (c.handed_lists.ensures [] refl) ∙ ap outcomeOf c.in_ok-handed_lists.was)
+    (pairs-told a.len a.offset.0 a.extents.now a.strides.now c.requires.alike pairs of c.in_err-ties.was)))
 
 pub returns-then-not-fuse : goal.returns-then-not-fuse
 returns-then-not-fuse c pairs of =
     let a = c.args in
     let m : LayoutM = modelFrom a.len a.offset.0 a.extents.now a.strides.now in
     let f = c.fuse.new in
-    let first : handed m [] ≡ pass = sym (c.handed_lists-first.ensures [] refl) ∙ ap outcomeOf c.in_default.is in
-    let done = c.in_default-ties.is in
+    let first : handed m [] ≡ pass = sym (c.handed_lists.ensures [] refl) ∙ ap outcomeOf c.in_ok-handed_lists.was in
+    let done = c.in_ok-ties.was in
     let told = c.fuse.ensures pairs (of-done a.len a.offset.0 a.extents.now a.strides.now c.requires.alike pairs of first done) m refl in
     sum-stays a.len a.offset.0 a.extents.now a.strides.now c.requires.alike pairs of first done OutOfRange
     (subst (λ (t : Bool). FusedInto m pairs (ones c.root_mask-mask.result) f.fused_extents f.fused_strides t) c.if-not-fuse.true told)
 
-pub returns-in-Err-last : goal.returns-in-Err-last
-returns-in-Err-last c pairs of =
+pub returns-in_err-bounds_refusal : goal.returns-in_err-bounds_refusal
+returns-in_err-bounds_refusal c pairs of =
     let a = c.args in
     let m : LayoutM = modelFrom a.len a.offset.0 a.extents.now a.strides.now in
     let f = c.fuse.new in
     let n : ℕ = ones c.root_mask-mask.result in
     let few : n ≤ 16 = omega (arith, roots_few a.roots.now (length a.extents.now) c.root_mask-mask.ensures, of.few) in
-    let first : handed m [] ≡ pass = sym (c.handed_lists-first.ensures [] refl) ∙ ap outcomeOf c.in_default.is in
-    let done = c.in_default-ties.is in
+    let first : handed m [] ≡ pass = sym (c.handed_lists.ensures [] refl) ∙ ap outcomeOf c.in_ok-handed_lists.was in
+    let done = c.in_ok-ties.was in
     let told = c.fuse.ensures pairs (of-done a.len a.offset.0 a.extents.now a.strides.now c.requires.alike pairs of first done) m refl in
     let fused = subst (λ (t : Bool). FusedInto m pairs n f.fused_extents f.fused_strides t) c.if-not-fuse.false told in
-    stays a.len a.offset.0 a.extents.now a.strides.now c.requires.alike pairs of c.in-Err-last.why
+    let p = err_from_is_err_and c.from_residual-in_err-bounds_refusal.result c.from_residual-in_err-bounds_refusal.ensures.1 in
+    rw (p.1, p.2)
+    (stays a.len a.offset.0 a.extents.now a.strides.now c.requires.alike pairs of c.in_err-bounds_refusal.field-0.0
     (bounds-refused m pairs first (pairs-told a.len a.offset.0 a.extents.now a.strides.now c.requires.alike pairs of done) fused.0
-    (bounds-told n f.fused_extents f.fused_strides few c.fuse.array_long c.fuse.array_long2 m pairs fused.1 (sym (ap outcomeOf c.in-Err-last.is) ∙ c.bounds_refusal-last.ensures)))
+    (bounds-told n f.fused_extents f.fused_strides few c.fuse.array_long c.fuse.array_long2 m pairs fused.1 (sym (ap outcomeOf c.in_err-bounds_refusal.was) ∙ c.bounds_refusal.ensures))))
 
 pub copy_axes-requires : goal.copy_axes-requires
 copy_axes-requires c =
@@ -131,8 +138,8 @@ returns c pairs of =
     let n : ℕ = ones c.root_mask-mask.result in
     let within : n ≤ length a.extents.now = roots_few a.roots.now (length a.extents.now) c.root_mask-mask.ensures in
     let few : n ≤ 16 = omega (arith, of.few) in
-    let first : handed m [] ≡ pass = sym (c.handed_lists-first.ensures [] refl) ∙ ap outcomeOf c.in_default.is in
-    let done = c.in_default-ties.is in
+    let first : handed m [] ≡ pass = sym (c.handed_lists.ensures [] refl) ∙ ap outcomeOf c.in_ok-handed_lists.was in
+    let done = c.in_ok-ties.was in
     let told = c.fuse.ensures pairs (of-done a.len a.offset.0 a.extents.now a.strides.now c.requires.alike pairs of first done) m refl in
     let fused = subst (λ (t : Bool). FusedInto m pairs n f.fused_extents f.fused_strides t) c.if-not-fuse.false told in
     let t = extents-taken n f.fused_extents f.fused_strides few c.fuse.array_long c.fuse.array_long2 in
@@ -142,6 +149,6 @@ returns c pairs of =
       after_is =
           ap (λ (axes : List Axis). record { answer = pass; layout = withAxes m axes }) held
           ∙ sym (none-refused m pairs first (pairs-told a.len a.offset.0 a.extents.now a.strides.now c.requires.alike pairs of done) fused.0
-          (bounds-told n f.fused_extents f.fused_strides few c.fuse.array_long c.fuse.array_long2 m pairs fused.1 (sym (ap outcomeOf c.in_default-last.is) ∙ c.bounds_refusal-last.ensures)));
+          (bounds-told n f.fused_extents f.fused_strides few c.fuse.array_long c.fuse.array_long2 m pairs fused.1 (sym (ap outcomeOf c.in_ok-bounds_refusal.was) ∙ c.bounds_refusal.ensures)));
       kept_in = omega (arith, c.copy_axes.auto.copied_extents);
     }

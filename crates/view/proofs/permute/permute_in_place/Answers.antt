@@ -1,4 +1,5 @@
 -- `permute_in_place`: the refusal and the lists as they were, or the axes in the new order.
+use Rattle.std.proofs.lemmas.Result.{err_from_is_err_and}
 use Rattle.std.proofs.Common.{◌≡◌, ◌∙◌, refl, sym, ap, [], ℕ, List, length, arith}
 use lib.IntN.{ℤ}
 use Rattle.specification.specs.Layout.{rank}
@@ -24,22 +25,24 @@ ordered len offset es ss order h e =
 pub reorder-requires : goal.reorder-requires
 reorder-requires c =
     let a = c.args in
-    let o = ordered a.len a.offset.0 a.extents.now a.strides.now a.order.now c.requires.0 (sym c.permute_refusal-answer.ensures ∙ ap outcomeOf c.in-Ok.is) in
+    let o = ordered a.len a.offset.0 a.extents.now a.strides.now a.order.now c.requires.0 (sym c.permute_refusal.ensures ∙ ap outcomeOf c.in_ok-permute_refusal.was) in
     record { alike = c.requires.0; few = c.requires.1; listed = o.0; below = o.1 }
 
-pub returns-in-Err : goal.returns-in-Err
+pub returns-in_err-permute_refusal : goal.returns-in_err-permute_refusal
 unfolding permute unlessRefused
-returns-in-Err c = record { after_is = rw (← c.permute_refusal-answer.ensures, c.in-Err.is); kept_in = (refl, refl) }
+returns-in_err-permute_refusal c =
+    let p = err_from_is_err_and c.from_residual.result c.from_residual.ensures.1 in
+    rw (p.1, p.2) (record { after_is = rw (← c.permute_refusal.ensures, c.in_err-permute_refusal.was); kept_in = (refl, refl) })
 
-pub returns-in-Ok : goal.returns-in-Ok
+pub returns : goal.returns
 unfolding permute unlessRefused
-returns-in-Ok c =
+returns c =
     let a = c.args in
     let t = c.reorder in
-    let o = ordered a.len a.offset.0 a.extents.now a.strides.now a.order.now c.requires.0 (sym c.permute_refusal-answer.ensures ∙ ap outcomeOf c.in-Ok.is) in
+    let o = ordered a.len a.offset.0 a.extents.now a.strides.now a.order.now c.requires.0 (sym c.permute_refusal.ensures ∙ ap outcomeOf c.in_ok-permute_refusal.was) in
     let h : length t.new.extents ≡ length a.order.now = omega (arith, o.0) in
     let k : length t.new.strides ≡ length a.order.now = omega (arith, o.0) in
     record {
-      after_is = rw (← c.permute_refusal-answer.ensures, c.in-Ok.is, axesIn-axesOf t.new.extents t.new.strides (length a.order.now) h k, t.ensures);
+      after_is = rw (← c.permute_refusal.ensures, c.in_ok-permute_refusal.was, axesIn-axesOf t.new.extents t.new.strides (length a.order.now) h k, t.ensures);
       kept_in = omega arith;
     }

@@ -1,4 +1,5 @@
 -- `permute_refusal` tests in the order of the definition.
+use Rattle.std.proofs.lemmas.Result.{err_from_is_err_and}
 use Rattle.std.proofs.Common.{◌≡◌, ◌∙◌, refl, sym, ap, [], ℕ}
 use Rattle.specification.specs.Layout.{handed}
 use Rattle.specification.specs.Outcome.{pass}
@@ -9,19 +10,20 @@ use Rattle.view.proofs.ListedLaws.{listed-refused, listed-wrong, listed_next}
 use Rattle.view.proofs.ModelLaws.{length-axesOf}
 use Rattle.view.proofs.permute.permute_refusal.Goals as goal
 
-pub returns-in-Err : goal.returns-in-Err
-returns-in-Err c =
+pub returns-in_err-handed_lists : goal.returns-in_err-handed_lists
+returns-in_err-handed_lists c =
     let a = c.args in
     let model = modelFrom a.len a.offset.0 a.extents.now a.strides.now in
-    let told : handed model a.order.now ≡ outcomeOf c.handed_lists-first.result = sym (c.handed_lists-first.ensures a.order.now refl) in
-    ap outcomeOf c.in-Err.is ∙ sym (listed-refused model a.order.now _ _ (told ∙ ap outcomeOf c.in-Err.is))
+    let told : handed model a.order.now ≡ outcomeOf c.handed_lists.result = sym (c.handed_lists.ensures a.order.now refl) in
+    let p = err_from_is_err_and c.from_residual.result c.from_residual.ensures.1 in
+    rw (p.1, p.2) (sym (listed-refused model a.order.now _ _ (told ∙ ap outcomeOf c.in_err-handed_lists.was)))
 
 pub returns-then-order-extents : goal.returns-then-order-extents
 returns-then-order-extents c =
     let a = c.args in
     let model = modelFrom a.len a.offset.0 a.extents.now a.strides.now in
     let n = length-axesOf a.extents.now a.strides.now c.requires.alike in
-    let passed : handed model a.order.now ≡ pass = sym (c.handed_lists-first.ensures a.order.now refl) ∙ ap outcomeOf c.in_default.is in
+    let passed : handed model a.order.now ≡ pass = sym (c.handed_lists.ensures a.order.now refl) ∙ ap outcomeOf c.in_ok-handed_lists.was in
     sym (listed-wrong model a.order.now _ _ passed (λ e. c.if-order-extents.true (e ∙ n)) ∙ rw n)
 
 pub returns : goal.returns
@@ -29,6 +31,6 @@ returns c =
     let a = c.args in
     let model = modelFrom a.len a.offset.0 a.extents.now a.strides.now in
     let n = length-axesOf a.extents.now a.strides.now c.requires.alike in
-    let passed : handed model a.order.now ≡ pass = sym (c.handed_lists-first.ensures a.order.now refl) ∙ ap outcomeOf c.in_default.is in
+    let passed : handed model a.order.now ≡ pass = sym (c.handed_lists.ensures a.order.now refl) ∙ ap outcomeOf c.in_ok-handed_lists.was in
     c.order_fault.ensures ∙ ap (λ (r : ℕ). orderFault r [] a.order.now) (sym n)
     ∙ sym (listed_next model a.order.now _ _ passed (c.if-order-extents.false ∙ sym n))

@@ -1,7 +1,7 @@
--- `not_read`: the one axis of the layout beside it is the first of each array.
+-- `no_layout`: its one axis is the first entry of each array.
 use Rattle.std.proofs.Common.{refl}
 use Rattle.lists.specs.Table.{table}
-use Rattle.record.proofs.read.not_read.Goals as goal
+use Rattle.record.proofs.reader.no_layout.Goals as goal
 
 pub returns : goal.returns
 unfolding table

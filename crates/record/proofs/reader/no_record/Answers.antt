@@ -1,8 +1,0 @@
--- `no_record`: the one axis of the layout beside it is the first of each array.
-use Rattle.std.proofs.Common.{refl}
-use Rattle.lists.specs.Table.{table}
-use Rattle.record.proofs.reader.no_record.Goals as goal
-
-pub returns : goal.returns
-unfolding table
-returns c = refl
