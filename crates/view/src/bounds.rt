@@ -114,13 +114,16 @@ fn small_spans(extents: &[u64], strides: &[i64], above: u64, below: u64) -> Opti
             return None;
         }
         let stride = strides[i];
-        let room = if stride < 0 { below - down } else { above - up };
-        let Some(more) = small_product(*extent - 1, stride.unsigned_abs(), room) else {
-            return None;
-        };
+        let size = stride.unsigned_abs();
         if stride < 0 {
+            let Some(more) = small_product(*extent - 1, size, below - down) else {
+                return None;
+            };
             down += more;
         } else {
+            let Some(more) = small_product(*extent - 1, size, above - up) else {
+                return None;
+            };
             up += more;
         }
     }

@@ -8,7 +8,7 @@ use Rattle.specification.proofs.SomeLaws.{some-behind, some_end}
 use Rattle.view.proofs.BoundsLaws.{narrow-extent}
 use Rattle.view.proofs.SpanLaws.{falling-turn, rising-turn, spans-end}
 use Rattle.view.proofs.bounds.small_spans.Goals as goal
-use Rattle.view.proofs.bounds.small_spans.Goals.{then-stride-lt0, else-stride-lt0, then-stride-lt0-2, else-stride-lt0-2}
+use Rattle.view.proofs.bounds.small_spans.Goals.{then-stride-lt0+in-Some, else-stride-lt0+in-Some-small_product}
 
 pub loop-i-preserved : goal.loop-i-preserved
 loop-i-preserved c =
@@ -16,32 +16,28 @@ loop-i-preserved c =
     let es = c.args.extents.now in
     let ss = c.args.strides.now in
     let k : l.i < length ss = omega arith in
-    let more = c.in-Some.ensures in
     let zeros = l.invariant.none_zero ∙ some-behind (λ n. eqb n 0) 0 es l.i (omega arith) (ne_eqb _ _ c.if-extent-eq0.false) in
-    let wides = l.invariant.none_wide ∙ some-behind tooWideExtent 0 es l.i (omega arith) (narrow-extent (get_or es l.i 0) (omega arith)) in
-    elim c.if-stride-lt0-2.branch [
-      | then-stride-lt0-2 v ↦ elim c.if-stride-lt0.branch [
-        | then-stride-lt0 w ↦ record {
-          up_most = omega arith;
-          down_most = omega arith;
-          left = rw (v.up-is, v.down-is, more.0) (falling-turn es ss l.i l.up l.down _ c.unsigned_abs.result
-              l.invariant.left (omega arith) k refl (search rules) v.if-stride-lt0-2.true c.unsigned_abs.ensures.value);
-          none_zero = zeros;
-          none_wide = wides;
-        }
-        | else-stride-lt0 w ↦ cc
-      ]
-      | else-stride-lt0-2 v ↦ elim c.if-stride-lt0.branch [
-        | then-stride-lt0 w ↦ cc
-        | else-stride-lt0 w ↦ record {
-          up_most = omega arith;
-          down_most = omega arith;
-          left = rw (v.up-is, v.down-is, more.0) (rising-turn es ss l.i l.up l.down _ c.unsigned_abs.result
-              l.invariant.left (omega arith) k refl (search rules) v.if-stride-lt0-2.false c.unsigned_abs.ensures.value);
-          none_zero = zeros;
-          none_wide = wides;
-        }
-      ]
+    elim c.if-stride-lt0.branch [
+      | then-stride-lt0+in-Some w ↦
+          let more = w.in-Some.ensures in
+          record {
+            up_most = omega arith;
+            down_most = omega arith;
+            left = rw (w.up-is, w.down-is, more.0) (falling-turn es ss l.i l.up l.down _ c.unsigned_abs-size.result
+                l.invariant.left (omega arith) k refl (search rules) w.if-stride-lt0.true c.unsigned_abs-size.ensures.value);
+            none_zero = zeros;
+            none_wide = l.invariant.none_wide ∙ some-behind tooWideExtent 0 es l.i (omega arith) (narrow-extent (get_or es l.i 0) (omega arith));
+          }
+      | else-stride-lt0+in-Some-small_product w ↦
+          let more = w.in-Some-small_product.ensures in
+          record {
+            up_most = omega arith;
+            down_most = omega arith;
+            left = rw (w.up-is, w.down-is, more.0) (rising-turn es ss l.i l.up l.down _ c.unsigned_abs-size.result
+                l.invariant.left (omega arith) k refl (search rules) w.if-stride-lt0.false c.unsigned_abs-size.ensures.value);
+            none_zero = zeros;
+            none_wide = l.invariant.none_wide ∙ some-behind tooWideExtent 0 es l.i (omega arith) (narrow-extent (get_or es l.i 0) (omega arith));
+          }
     ]
 
 pub returns : goal.returns
