@@ -106,7 +106,7 @@ pub fn order(alloc: Global, strides: Word<'_>, places: Word<'_>) -> Result<Reply
 }
 
 // The strides of an extent list by a rule, by column or by row.
-pub fn dense<F: FnOnce(&[u64]) -> Dense>(
+pub(crate) fn dense<F: FnOnce(&[u64]) -> Dense>(
     alloc: Global,
     extents: Word<'_>,
     strides_of: F,
