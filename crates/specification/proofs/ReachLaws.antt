@@ -134,13 +134,13 @@ pub and-true : (x y : Bool) → (x && y) ≡ true → (x ≡ true) × (y ≡ tru
 and-true true y e = (refl, e)
 and-true false y e = absurd (subst T (sym e) tt)
 
-tests : (l : LayoutM) → (le_z (pos 0) (lowest l) && le_z (highest l) (pos mostSigned) && lt_z (highest l) (pos l.buffer)) ≡ true → Within l
+pub tests : (l : LayoutM) → (le_z (pos 0) (lowest l) && le_z (highest l) (pos mostSigned) && lt_z (highest l) (pos l.buffer)) ≡ true → Within l
 tests l e =
     let w = and-true (le_z (pos 0) (lowest l) && le_z (highest l) (pos mostSigned)) (lt_z (highest l) (pos l.buffer)) e in
     let v = and-true (le_z (pos 0) (lowest l)) (le_z (highest l) (pos mostSigned)) w.0 in
     record { w-low = omega (arith, leZ-true (pos 0) (lowest l) v.0); w-most = omega (arith, leZ-true (highest l) (pos mostSigned) v.1); w-in = omega (arith, ltZ-true (highest l) (pos l.buffer) w.1) }
 
-untests : (l : LayoutM) → Within l → (le_z (pos 0) (lowest l) && le_z (highest l) (pos mostSigned) && lt_z (highest l) (pos l.buffer)) ≡ true
+pub untests : (l : LayoutM) → Within l → (le_z (pos 0) (lowest l) && le_z (highest l) (pos mostSigned) && lt_z (highest l) (pos l.buffer)) ≡ true
 untests l w = rw (le-leZ (pos 0) (lowest l) (omega (arith, w.w-low)), le-leZ (highest l) (pos mostSigned) (omega (arith, w.w-most)), lt-ltZ (highest l) (pos l.buffer) (omega (arith, w.w-in)))
 
 pub accepted-within : (l : LayoutM) → is_empty l.axes ≡ false → Accepted l → Within l

@@ -3,11 +3,8 @@ use Rattle.std.specs.Prelude.{Bool, List, [], ◌∷◌, ◌≡◌, ◌≢◌, �
 use Rattle.integer.specs.Multiple.{◌·◌}
 use Rattle.integer.specs.Parts.{posPart, negPart}
 use Rattle.specification.specs.Tests.{some}
-
--- an axis: an extent, and a stride counted in readings
-pub record Axis : Type 0 where
-  pub extent : ℕ
-  pub stride : ℤ
+-- an axis, as the code declares it: an extent, and a stride counted in readings
+pub use Rattle.axis.specs.declared.Axis.{Axis}
 
 -- the extents of axes, in their order
 abbrev pub extents : List Axis → List ℕ
