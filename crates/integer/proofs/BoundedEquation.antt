@@ -7,12 +7,13 @@ use Prim.Native.Nat.{◌%◌, ◌*◌, ◌+◌, ◌-◌, ◌/◌, ◌<◌, ◌�
 use native.Mathlib.Decide.{ℕ_discrete}
 use native.Mathlib.Nat.{div-add-mod', div-lt_iff_lt-mul, div-mul_cancel, dvd-mul_left, le_of_mul-le-mul_right, mod-eq-zero_of_dvd, mod-le, mod-lt, mul-div_cancel, mul-le-mul_right, zero-mod}
 use native.Mathlib.Omega.{arith}
-use lib.Dec.{T, T_not, eqb, eqb_refl, eqb→eq, leb, leb→le, le→leb}
+use lib.Dec.{T, T_not, eqb, eqb_refl, eqb→eq, leb}
 use Rattle.integer.proofs.Congruence.{coefficient, congruent-by-inverse, congruent-mul, congruent-sym, congruent-trans, coefficient-inverse, mod-of-congruent, root, root_is}
 use Rattle.integer.proofs.Decide.{and_both, both-and, byTest, find}
 use Rattle.integer.proofs.GcdLaws.{gcd-divides-left, gcd-divides-right, gcd-pos}
 use Rattle.integer.specs.Congruence.{Congruent}
 use Rattle.integer.specs.Gcd.{gcd}
+use Rattle.std.proofs.lemmas.Int.{ints}
 
 -- The first number from lo on that is u₀ modulo b.
 unfoldable pub firstFrom : ℕ → ℕ → ℕ → ℕ
@@ -110,24 +111,15 @@ fitsTest a b mu mv c u₀ = leb (firstFrom b (lowest a b mv c) u₀) mu && leb (
 
 fitsTest-yes : (a b mu mv c u₀ : ℕ) → T (fitsTest a b mu mv c u₀) → FirstFits a b mu mv c u₀
 unfolding fitsTest FirstFits
-fitsTest-yes a b mu mv c u₀ t =
-    let u = firstFrom b (lowest a b mv c) u₀ in
-    let w = and_both (leb u mu) (leb (u * a) c) t in
-    (leb→le u mu w.0, leb→le (u * a) c w.1)
+fitsTest-yes a b mu mv c u₀ h-6 = grind (arith, ints)
 
 fitsTest-of : (a b mu mv c u₀ : ℕ) → FirstFits a b mu mv c u₀ → T (fitsTest a b mu mv c u₀)
 unfolding fitsTest FirstFits
-fitsTest-of a b mu mv c u₀ f =
-    let u = firstFrom b (lowest a b mv c) u₀ in
-    both-and (leb u mu) (leb (u * a) c) (le→leb u mu f.0) (le→leb (u * a) c f.1)
+fitsTest-of a b mu mv c u₀ h-6 = grind (arith, ints)
 
 -- A factor of a positive number is positive.
 quotient-pos : (a g : ℕ) → a / g * g ≡ a → 0 < a → 0 < a / g
-quotient-pos a g e h = go (a / g) e
-  where
-    go : (x : ℕ) → x * g ≡ a → 0 < x
-    go zero e = absurd (omega arith)
-    go (suc x) e = omega arith
+quotient-pos a g h-2 h-3 = grind (arith, ints)
 
 -- Whether there is a solution, for positive a and b: the greatest common divisor divides c, and the root of the divided equation fits.
 unfoldable pub solvable : ℕ → ℕ → ℕ → ℕ → ℕ → Bool

@@ -6,6 +6,7 @@ use Prim.Native.Nat.{◌<◌, suc, zero, ℕ}
 use native.Mathlib.Decide.{ℕ_discrete}
 use native.Mathlib.Omega.{arith}
 use lib.Dec.{T}
+use Rattle.std.proofs.lemmas.Int.{ints}
 
 -- A test that decides, with what it says where it holds and where it does not.
 unfoldable pub byTest : {P : Type 0} → (t : Bool) → (T t → P) → (T (not t) → P → ⊥) → Dec P
@@ -14,12 +15,10 @@ byTest false f g = no (λ p. g tt p)
 
 -- Two tests that both hold.
 pub and_both : (x y : Bool) → T (x && y) → T x × T y
-and_both true y t = (tt, t)
-and_both false y t = absurd t
+and_both x y h-2 = grind (arith, ints)
 
 pub both-and : (x y : Bool) → T x → T y → T (x && y)
-both-and true y s t = t
-both-and false y s t = absurd s
+both-and x y h-2 h-3 = grind (arith, ints)
 
 -- A bounded search: the greatest number below n that has the property, or that none has it.
 pub find : (P : ℕ → Type 0) → ((i : ℕ) → Dec (P i)) → (n : ℕ) → ((i : ℕ) × (i < n) × P i) ⊎ ((i : ℕ) → i < n → ¬ (P i))

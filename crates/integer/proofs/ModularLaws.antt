@@ -2,27 +2,17 @@
 use mathlib.Core.Bool.{Bool, false, not, true}
 use mathlib.Core.Path.{◌∙◌, ◌≡◌, ap, sym}
 use Prim.Native.Nat.{◌%◌, ◌*◌, ◌+◌, ◌-◌, ◌/◌, ◌<◌, ◌≤◌, ℕ}
-use native.Mathlib.Nat.{div-add-mod', mod-eq_of_lt, mod-lt, mul-le-mul_left, mul-le-mul_right}
+use native.Mathlib.Nat.{div-add-mod', mod-lt, mul-le-mul_left}
 use native.Mathlib.Omega.{arith}
-use Rattle.integer.proofs.Congruence.{congruent-mul, congruent-of-equal, congruent-sym, congruent-trans, equal-of-congruent, mod-congruent}
+use Rattle.integer.proofs.Congruence.{congruent-mul, congruent-of-equal, congruent-sym, congruent-trans, mod-congruent}
 use Rattle.integer.proofs.GcdLaws.{gcd-step, gcd-zero}
 use Rattle.integer.specs.Congruence.{Congruent, IsGcdInverse}
 use Rattle.integer.specs.Gcd.{gcd}
-
--- A sum that reaches m, less m: where x is at least m - y.
-pub sum-less-m : (x y m : ℕ) → x < m → y < m → m - y ≤ x → (x - (m - y) < m) × (x - (m - y) ≡ (x + y) % m)
-sum-less-m x y m hx hy h = (omega arith, equal-of-congruent m (x - (m - y)) (x + y) (omega arith) (record { p = 1; q = 0; eq = omega arith }))
-
--- A sum that stays below m.
-pub sum-below-m : (x y m : ℕ) → x < m → y < m → x < m - y → (x + y < m) × (x + y ≡ (x + y) % m)
-sum-below-m x y m hx hy h = let l : x + y < m = omega arith in (l, sym (mod-eq_of_lt l))
+use Rattle.std.proofs.lemmas.Int.{ints}
 
 -- Two numbers below 2^32 have a product below 2^64.
 pub product-fits : (x y m : ℕ) → x < m → y < m → m ≤ 4294967296 → x * y < 18446744073709551616
-product-fits x y m hx hy h =
-    let a : x ≤ 4294967295 = omega arith in
-    let b : y ≤ 4294967295 = omega arith in
-    omega (arith, mul-le-mul_right y a, b)
+product-fits x y m h-3 h-4 h-5 = grind (arith, ints)
 
 -- The product by doubling: what is summed up and what is left to add make the product.
 pub record Doubling (x y m sum base left : ℕ) : Type 0 where
@@ -31,7 +21,7 @@ pub record Doubling (x y m sum base left : ℕ) : Type 0 where
   pub whole : Congruent m (sum + base * left) (x * y)
 
 -- One bit of `left` goes into the sum, and the base is doubled.
-pub doubling-next : (x y m sum base left s b : ℕ) → Doubling x y m sum base left → s < m → Congruent m s (sum + left % 2 * base)
+doubling-next : (x y m sum base left s b : ℕ) → Doubling x y m sum base left → s < m → Congruent m s (sum + left % 2 * base)
     → b < m → b ≡ (base + base) % m → Doubling x y m s b (left / 2)
 doubling-next x y m sum base left s b d hs cs hb eb = record {
   sum_below = hs;
@@ -42,6 +32,21 @@ doubling-next x y m sum base left s b d hs cs hb eb = record {
       let o = d.whole in
       record { p = cs.p + k.p + o.p; q = cs.q + k.q + o.q; eq = omega (arith, cs.eq, k.eq, o.eq) };
 }
+
+-- An odd `left` puts the base into the sum.
+pub doubling-odd : (x y m sum base left s b : ℕ) → Doubling x y m sum base left → left % 2 ≡ 1 → s < m → s ≡ (sum + base) % m
+    → b < m → b ≡ (base + base) % m → Doubling x y m s b (left / 2)
+doubling-odd x y m sum base left s b d odd hs es =
+    let k = congruent-of-equal m s (sum + base) es in
+    let times = ap (λ (z : ℕ). z * base) odd in
+    doubling-next x y m sum base left s b d hs (record { p = k.p; q = k.q; eq = omega (arith, k.eq, times) })
+
+-- An even one leaves the sum as it is.
+pub doubling-even : (x y m sum base left b : ℕ) → Doubling x y m sum base left → left % 2 ≡ 0
+    → b < m → b ≡ (base + base) % m → Doubling x y m sum b (left / 2)
+doubling-even x y m sum base left b d even =
+    let times = ap (λ (z : ℕ). z * base) even in
+    doubling-next x y m sum base left sum b d d.sum_below (record { p = 0; q = 0; eq = omega (arith, times) })
 
 -- r is t times a modulo b, or minus t times a.
 abbrev pub SignedMultiple : Bool → ℕ → ℕ → ℕ → ℕ → Type 0
@@ -66,12 +71,6 @@ euclid-start a b h = record {
   first = record { p = 0; q = 1; eq = omega arith };
   second = let c = mod-congruent b a in record { p = c.p; q = c.q; eq = omega (arith, c.eq) };
 }
-
--- The next multiple is at most b too.
-pub multiple-at-most : (t0 t1 r0 r1 b : ℕ) → t0 * r1 + t1 * r0 ≡ b → 0 < r1 → t0 + r0 / r1 * t1 ≤ b
-multiple-at-most t0 t1 r0 r1 b e h =
-    let k : r0 / r1 * r1 ≤ r0 = omega (arith, div-add-mod' r0 r1) in
-    omega (arith, e, mul-le-mul_left t1 k, mul-le-mul_left (t0 + r0 / r1 * t1) h)
 
 signed-multiple-next : (positive : Bool) (b a r0 r1 t0 t1 : ℕ) → SignedMultiple positive b a r0 t0 → SignedMultiple (not positive) b a r1 t1
     → (q r2 : ℕ) → q * r1 + r2 ≡ r0 → SignedMultiple (not (not positive)) b a r2 (t0 + q * t1)

@@ -4,13 +4,10 @@
 --     prove_le (int a ⊕ int c) (int b) (omega (arith, use-le (int a) (int b ⊖ int c) h))      an order, from a hypothesis h
 --     prove-fits p (omega ..) (omega ..)      that an i64 holds the value
 use mathlib.Core.Path.{◌≡◌, ap}
-use Prim.Native.Nat.{◌*◌, ◌+◌, ◌<◌, ◌^◌, ◌≤◌, ℕ}
+use Prim.Native.Nat.{◌*◌, ◌+◌, ℕ}
 use native.Mathlib.Omega.{arith}
 use lib.IntN.{◌*ℤ◌, ◌+ℤ◌, ◌-ℤ◌, neg_ℤ, pos, ℤ}
-use lib.Signed.{◌≤ℤ◌}
-use mir.Syntax.{w64}
-use mir.Val.{SFits}
-use Rattle.integer.proofs.PartLaws.{le_parts, negPart-neg, parts_add, parts-eq, parts-ext, parts-fit, parts-le, parts-minus, parts-mul, posPart-neg}
+use Rattle.integer.proofs.PartLaws.{negPart-neg, parts_add, parts-eq, parts-ext, parts-minus, parts-mul, posPart-neg}
 use Rattle.integer.specs.Multiple.{◌·◌}
 use Rattle.integer.specs.Parts.{negPart, posPart}
 
@@ -73,15 +70,6 @@ value-is (neg a) = omega (arith, value-is a, posPart-neg (value a), negPart-neg 
 pub prove-eq : (a b : Polynomial) → plus a + minus b ≡ plus b + minus a → value a ≡ value b
 prove-eq a b e = parts-ext (omega (arith, value-is a, value-is b))
 
-pub prove_le : (a b : Polynomial) → plus a + minus b ≤ plus b + minus a → value a ≤ℤ value b
-prove_le a b h = parts-le (omega (arith, value-is a, value-is b))
-
-pub prove-fits : (a : Polynomial) → plus a < 2 ^ 63 + minus a → minus a ≤ 2 ^ 63 + plus a → SFits w64 (value a)
-prove-fits a p q = parts-fit (omega (arith, value-is a)) (omega (arith, value-is a))
-
 -- A hypothesis of ℤ as a fact for `omega`'s list.
 pub use-eq : (a b : Polynomial) → value a ≡ value b → plus a + minus b ≡ plus b + minus a
 use-eq a b e = omega (arith, value-is a, value-is b, parts-eq e)
-
-pub use-le : (a b : Polynomial) → value a ≤ℤ value b → plus a + minus b ≤ plus b + minus a
-use-le a b h = omega (arith, value-is a, value-is b, le_parts h)

@@ -8,11 +8,11 @@ use Rattle.integer.proofs.BoundedEquation.{Solution}
 use Rattle.integer.proofs.PartLaws.{natAbs-parts, parts-minus}
 use Rattle.integer.proofs.Polynomial.{Polynomial, ◌⊕◌, ◌⊖◌, ◌⊗◌, int, nat, prove-eq, use-eq}
 use Rattle.integer.specs.Parts.{negPart, posPart}
+use Rattle.std.proofs.lemmas.Int.{ints}
 
 -- An integer u - m with u ≤ 2 m has a magnitude of at most m.
 pub natAbs-of-shifted : (z : ℤ) (u m : ℕ) → posPart z + m ≡ u + negPart z → u ≤ 2 * m → nat_abs z < suc m
-natAbs-of-shifted (pos n) u m e h = omega arith
-natAbs-of-shifted (negsuc n) u m e h = omega arith
+natAbs-of-shifted z u m h-3 h-4 = grind (arith, ints)
 
 -- Neither part is above the magnitude.
 pub negPart-of-natAbs : (z : ℤ) (m : ℕ) → nat_abs z < suc m → negPart z ≤ m

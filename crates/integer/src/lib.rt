@@ -1,18 +1,11 @@
-// Integers in words of 64 bits: the smaller of two, the greatest common divisor, arithmetic modulo a word, signed arithmetic that refuses on overflow.
+// Integers in words of 64 bits: the greatest common divisor, arithmetic modulo a word, signed arithmetic that refuses on overflow.
 #![tactic(auto)]
 
-ghost use Rattle.std.specs.Prelude.{◌≡◌, ◌%◌, ◌≤◌, ◌<◌, min};
+ghost use Rattle.std.specs.Prelude.{◌≡◌, ◌%◌, ◌<◌};
 ghost use Rattle.integer.specs.Gcd.{gcd};
 
 pub mod modular;
 pub mod signed;
-
-// The smaller of two numbers.
-pub fn least(a: usize, b: usize) -> usize
-    ensures { (result ≤ a) × (result ≤ b) × (result ≡ min a b) }
-{
-    if a < b { a } else { b }
-}
 
 // a modulo b. A quotient of 0 or 1, which most of Euclid's are, needs no division.
 fn remainder(a: u64, b: u64) -> u64
@@ -29,7 +22,7 @@ fn remainder(a: u64, b: u64) -> u64
     less % b
 }
 
-// The greatest common divisor, by Euclid's remainders.
+/// The greatest common divisor, by Euclid's remainders.
 pub fn gcd(a: u64, b: u64) -> u64
     ensures { result ≡ gcd a b }
 {

@@ -2,14 +2,17 @@
 ghost use Rattle.std.specs.Prelude.{◌≡◌, ◌+◌, ◌*◌, ◌%◌, ◌<◌};
 ghost use Rattle.integer.specs.Congruence.{Congruent, IsGcdInverse};
 
-// A greatest common divisor of two numbers, and an inverse of the first modulo the second, up to that divisor.
+// 2^32: two numbers below it have a product that fits a word.
+const HALF_WORD: u64 = 0x1_0000_0000;
+
+/// A greatest common divisor of two numbers, and an inverse of the first modulo the second, up to that divisor.
 #[derive(Clone, Copy)]
 pub struct GcdInverse {
     pub gcd: u64,
     pub inverse: u64,
 }
 
-// x + y modulo m. The sum itself may pass 2^64, so m - y is compared first.
+/// x + y modulo m. The sum itself may pass 2^64, so m - y is compared first.
 pub fn add_mod(x: u64, y: u64, m: u64) -> u64
     requires { (x < m) × (y < m) }
     ensures { (result < m) × (result ≡ (x + y) % m) }
@@ -18,7 +21,7 @@ pub fn add_mod(x: u64, y: u64, m: u64) -> u64
     if x >= c { x - c } else { x + y }
 }
 
-// -x modulo m.
+/// -x modulo m.
 pub fn neg_mod(x: u64, m: u64) -> u64
     requires { x < m }
     ensures { (result < m) × Congruent m (result + x) 0 }
@@ -26,44 +29,41 @@ pub fn neg_mod(x: u64, m: u64) -> u64
     if x == 0 { 0 } else { m - x }
 }
 
-// x + bit * y modulo m, for a bit of 0 or 1.
-fn add_if(bit: u64, x: u64, y: u64, m: u64) -> u64
-    requires { (x < m) × (y < m) × (bit < 2) }
-    ensures { (result < m) × Congruent m result (x + bit * y) }
-{
-    if bit == 0 { x } else { add_mod(x, y, m) }
-}
-
 // x * y modulo m, with one doubling for each bit of y.
 fn by_doubling(x: u64, y: u64, m: u64) -> u64
-    requires { (x < m) × (y < m) }
-    ensures { (result < m) × Congruent m result (x * y) }
+    requires x_below { x < m }
+    requires y_below { y < m }
+    ensures below { result < m }
+    ensures product { Congruent m result (x * y) }
 {
     let mut sum: u64 = 0;
     let mut base = x;
     let mut left = y;
     while left > 0 {
-        sum = add_if(left % 2, sum, base, m);
+        if left % 2 == 1 {
+            sum = add_mod(sum, base, m);
+        }
         base = add_mod(base, base, m);
-        left = left / 2;
+        left /= 2;
     }
     sum
 }
 
-// x * y modulo m. Below 2^32 the product itself fits a word; else the smaller factor is the one whose bits are doubled for.
+/// x * y modulo m. Below 2^32 the product itself fits a word; else the smaller factor is the one whose bits are doubled for.
 pub fn mul_mod(x: u64, y: u64, m: u64) -> u64
     requires { (x < m) × (y < m) }
     ensures { result ≡ x * y % m }
 {
-    if m <= 0x1_0000_0000 {
-        return x * y % m;
+    if m <= HALF_WORD {
+        x * y % m
+    } else if x < y {
+        by_doubling(y, x, m)
+    } else {
+        by_doubling(x, y, m)
     }
-    if x < y {
-        return by_doubling(y, x, m);
-    }
-    by_doubling(x, y, m)
 }
 
+/// The greatest common divisor of a and b, and an inverse of a modulo b.
 // Euclid's remainders of b and a, each as a multiple of a modulo b: r0 is t0 times a where `positive`, else minus that, and
 // r1 is t1 times a with the other sign. The magnitudes stay at most b, and the signs turn at every step.
 pub fn gcd_and_inverse(a: u64, b: u64) -> GcdInverse
@@ -77,22 +77,12 @@ pub fn gcd_and_inverse(a: u64, b: u64) -> GcdInverse
     let mut positive = false;
     while r1 > 0 {
         let q = r0 / r1;
-        let r2 = r0 % r1;
-        let t2 = t0 + q * t1;
-        r0 = r1;
-        r1 = r2;
-        t0 = t1;
-        t1 = t2;
+        (r0, r1) = (r1, r0 % r1);
+        (t0, t1) = (t1, t0 + q * t1);
         positive = !positive;
-    }
-    if positive {
-        return GcdInverse {
-            gcd: r0,
-            inverse: t0 % b,
-        };
     }
     GcdInverse {
         gcd: r0,
-        inverse: (b - t0) % b,
+        inverse: if positive { t0 % b } else { (b - t0) % b },
     }
 }

@@ -3,68 +3,42 @@ ghost use Rattle.std.specs.Prelude.{◌≡◌, ◌+ℤ◌, nat_abs, neg_ℤ, pos
 ghost use Rattle.integer.specs.Multiple.{◌·◌};
 ghost use Rattle.integer.specs.Range.{checkedOf};
 
-// |s|, of -2^63 too: the complement of a negative s is |s| - 1, which an i64 holds.
+/// |s|, of -2^63 too.
 pub fn magnitude(s: i64) -> u64
     ensures { result ≡ nat_abs s }
 {
-    if s < 0 { (!s as u64) + 1 } else { s as u64 }
+    s.unsigned_abs()
 }
 
-// m, where an i64 holds it: to 2^63 - 1.
+/// m, where an i64 holds it: to 2^63 - 1.
 pub fn checked_positive(m: u64) -> Option<i64>
     ensures { result ≡ checkedOf (pos m) }
 {
-    if m <= 9223372036854775807 {
-        Some(m as i64)
-    } else {
-        None
-    }
+    0i64.checked_add_unsigned(m)
 }
 
-// -m, where an i64 holds it: for m to 2^63.
+/// -m, where an i64 holds it: for m to 2^63.
 pub fn checked_negative(m: u64) -> Option<i64>
     ensures { result ≡ checkedOf (neg_ℤ (pos m)) }
 {
-    if m == 0 {
-        Some(0)
-    } else if m <= 9223372036854775808 {
-        Some(!((m - 1) as i64))
-    } else {
-        None
-    }
+    0i64.checked_sub_unsigned(m)
 }
 
-// last times stride, where an i64 holds it. A product of magnitudes that passes 2^64 is told by a division, before it is made.
+/// last times stride, where an i64 holds it.
 pub fn checked_mul(stride: i64, last: u64) -> Option<i64>
     ensures { result ≡ checkedOf (last · stride) }
 {
-    let m = magnitude(stride);
-    if m == 0 {
-        return Some(0);
-    }
-    if 0xffff_ffff_ffff_ffff / m < last {
-        return None;
-    }
+    let size = stride.unsigned_abs().checked_mul(last)?;
     if stride < 0 {
-        checked_negative(last * m)
+        0i64.checked_sub_unsigned(size)
     } else {
-        checked_positive(last * m)
+        0i64.checked_add_unsigned(size)
     }
 }
 
-// a + b, where an i64 holds it: a is compared with what b leaves of the range.
+/// a + b, where an i64 holds it.
 pub fn checked_add(a: i64, b: i64) -> Option<i64>
     ensures { result ≡ checkedOf (a +ℤ b) }
 {
-    if b < 0 {
-        if a < -9223372036854775808 - b {
-            None
-        } else {
-            Some(a + b)
-        }
-    } else if 9223372036854775807 - b < a {
-        None
-    } else {
-        Some(a + b)
-    }
+    a.checked_add(b)
 }

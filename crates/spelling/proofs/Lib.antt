@@ -1,3 +1,1 @@
-pub mod HexadecimalLaws
 pub mod NumberLaws
-pub mod SomeLaws

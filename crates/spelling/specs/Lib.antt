@@ -1,4 +1,2 @@
-pub mod Front
-pub mod Hexadecimal
+-- What bytes spell.
 pub mod Number
-pub mod Line

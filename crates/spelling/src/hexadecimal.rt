@@ -1,43 +1,39 @@
 // Bytes written as pairs of hexadecimal digits.
-ghost use Rattle.std.specs.Prelude.{◌≡◌};
-ghost use Rattle.specification.specs.Tests.{some};
-ghost use Rattle.spelling.specs.Front.{Front};
-ghost use Rattle.spelling.specs.Hexadecimal.{digitOf, notHexadecimal, byte_of, BytesPut};
+ghost use Rattle.std.specs.Prelude.{◌≡◌, ◌↔◌, ◌%◌, Ok, Err, IfOk, false, length};
+ghost use Rattle.std.specs.List.{list_all};
+ghost use Rattle.hex.specs.Hex.{decode_of, is_hex_digit};
+ghost use Rattle.spelling.specs.declared.hexadecimal.HexadecimalError.TheVariants.{BadDigit, OddDigits};
 
-// The value of a digit in either case, or 16 for a byte that is none.
-#[tactic(auto, unfolding(crate::specs::Hexadecimal::digitOf))]
-pub fn digit_value(byte: u8) -> u8
-    ensures { result ≡ digitOf byte }
+use hex::FromHexError;
+use std::alloc::Global;
+
+/// Why a text writes no bytes.
+#[derive(Clone, Copy)]
+pub enum HexadecimalError {
+    BadDigit,
+    OddDigits,
+    OutOfMemory,
+}
+
+// Whether each byte is a hexadecimal digit, in either case.
+fn are_digits(text: &[u8]) -> bool
+    ensures { result ≡ list_all is_hex_digit text.now }
 {
-    match byte {
-        b'0'..=b'9' => byte - b'0',
-        b'A'..=b'F' => byte - b'A' + 10,
-        b'a'..=b'f' => byte - b'a' + 10,
-        _ => 16,
+    text.iter().all(|byte| byte.is_ascii_hexdigit())
+}
+
+/// The bytes that the pairs write. A byte that is no digit is told before an odd number of digits.
+pub fn read_bytes(alloc: Global, text: &[u8]) -> Result<Vec<u8>, HexadecimalError>
+    ensures bytes { IfOk result (λ v. decode_of text.now ≡ Ok v.items) }
+    ensures bad_digit { (result ≡ Err BadDigit) ↔ (list_all is_hex_digit text.now ≡ false) }
+    ensures odd_digits { result ≡ Err OddDigits → length text.now % 2 ≡ 1 }
+{
+    if !are_digits(text) {
+        return Err(HexadecimalError::BadDigit);
     }
-}
-
-// Whether some byte is no hexadecimal digit.
-pub fn some_not_hexadecimal(text: &[u8]) -> bool
-    ensures { result ≡ some notHexadecimal text.now }
-{
-    text.iter().any(|&byte| digit_value(byte) == 16)
-}
-
-// The byte of two digits.
-fn pair_value(high: u8, low: u8) -> u8
-    ensures { result ≡ byte_of high low }
-{
-    (digit_value(high) % 16) * 16 + digit_value(low) % 16
-}
-
-// Puts the bytes that the pairs write to the front, as many as there is room for, and answers how many.
-pub fn byte_list(text: &[u8], out: &mut [u8]) -> usize
-    ensures { Front result out.new × BytesPut text.now out.old out.new result }
-{
-    let count = (text.len() / 2).min(out.len());
-    for i in 0..count {
-        out[i] = pair_value(text[2 * i], text[2 * i + 1]);
+    match hex::decode(alloc, text) {
+        Ok(bytes) => Ok(bytes),
+        Err(FromHexError::OutOfMemory) => Err(HexadecimalError::OutOfMemory),
+        Err(_) => Err(HexadecimalError::OddDigits),
     }
-    count
 }

@@ -2,5 +2,4 @@
 #![tactic(auto)]
 
 pub mod hexadecimal;
-pub mod line;
 pub mod number;

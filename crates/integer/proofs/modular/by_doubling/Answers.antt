@@ -1,27 +1,16 @@
-use mathlib.Core.Path.{◌≡◌, ap}
-use Prim.Native.Nat.{ℕ, ◌*◌}
-use native.Mathlib.Omega.{arith}
-use Rattle.integer.proofs.ModularLaws.{doubling-next}
+-- An odd `left` puts the base into the sum, an even one leaves the sum as it is.
+use Rattle.std.proofs.Common.{arith}
+use Rattle.integer.proofs.ModularLaws.{doubling-even, doubling-odd}
+use Rattle.integer.proofs.modular.by_doubling.Goals.{then-left-eq1, else-left-eq1}
 use Rattle.integer.proofs.modular.by_doubling.Goals as goal
-
-pub loop-left-init : goal.loop-left-init
-loop-left-init c = record { sum_below = omega (arith, c.requires.0); base-below = c.requires.0; whole = record { p = 0; q = 0; eq = omega arith } }
-
-pub add_if-sum-requires : goal.add_if-sum-requires
-add_if-sum-requires c = let i = c.loop-left.invariant in (i.sum_below, i.base-below, omega arith)
-
-pub add_mod-base-requires : goal.add_mod-base-requires
-add_mod-base-requires c = let i = c.loop-left.invariant in (i.base-below, i.base-below)
 
 pub loop-left-preserved : goal.loop-left-preserved
 loop-left-preserved c =
-    let sum = c.add_if-sum.ensures in
+    let d = c.loop-left.invariant in
     let base = c.add_mod-base.ensures in
-    doubling-next _ _ _ _ _ _ _ _ c.loop-left.invariant sum.0 sum.1 base.0 base.1
-
-pub returns : goal.returns
-returns c =
-    let l = c.loop-left in
-    let k = l.invariant.whole in
-    let none : l.left ≡ 0 = omega (arith, c.loop-left-test.false) in
-    (l.invariant.sum_below, record { p = k.p; q = k.q; eq = omega (arith, k.eq, ap (λ (z : ℕ). l.base * z) none) })
+    elim c.if-left-eq1.branch [
+      | then-left-eq1 w ↦
+          let sum = w.add_mod-sum.ensures in
+          rw w.sum-is (doubling-odd _ _ _ _ _ _ _ _ d w.if-left-eq1.true sum.0 sum.1 base.0 base.1)
+      | else-left-eq1 w ↦ rw w.sum-is (doubling-even _ _ _ _ _ _ _ d (omega (arith, w.if-left-eq1.false)) base.0 base.1)
+    ]
