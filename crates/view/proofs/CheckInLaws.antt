@@ -1,26 +1,25 @@
--- What check-in's answer says of the lists and of the layout.
-use mathlib.Core.Path.{◌≡◌, refl, sym, ◌∙◌}
+-- What check-in answers by the lengths of its lists and the bounds.
+use mathlib.Core.Path.{◌≡◌, refl, sym, ap, ◌∙◌}
 use mathlib.Core.Bool.{not, ◌||◌}
 use mathlib.Core.List.{List, []}
-use Prim.Native.Nat.{ℕ, ◌≤◌}
+use Prim.Native.Nat.{ℕ, ◌≤◌, ◌<◌}
 use lib.Dec.{eqb}
 use lib.IntN.{ℤ}
 use lib.ListN.{length}
-use borrow.Author.Tests.{eqb-true, ltb-false}
-use Rattle.specification.specs.Outcome.{Outcome, Check, done, refused, pass, ◌>>◌}
-use Rattle.specification.specs.Layout.{tooLong}
+use borrow.Author.Tests.{eq-eqb, ne_eqb, lt-ltb, le-ltb}
+use Rattle.specification.specs.Axis.{axesOf}
 use Rattle.specification.specs.CheckIn.{bounds, checkIn}
+use Rattle.specification.specs.Outcome.{Outcome, Check, done, refused, pass, refuseIf, ◌>>◌}
+use Rattle.specification.specs.Layout.{LayoutM, tooLong}
 use Rattle.specification.proofs.OutcomeLaws.{clash, passed, passed-check}
-use Rattle.specification.proofs.ReachLaws.{or-false}
-use Rattle.specification.proofs.AcceptedLaws.{not-false}
 use Rattle.view.specs.Answers.{answer_of}
-use Rattle.view.specs.Model.{modelFrom}
+use Rattle.view.specs.Model.{modelFrom, checked_into}
 
 -- the last of a chain of rules hands over a result; its answer is that of the rules before
-pub answerOf-then : {A : Type 0} (c : Check) (a : A) → answer_of (c >> done a) ≡ c
+answer-then : {A : Type 0} (c : Check) (a : A) → answer_of (c >> done a) ≡ c
 unfolding ◌>>◌
-answerOf-then (done u) a = refl
-answerOf-then (refused number values) a = refl
+answer-then (done u) a = refl
+answer-then (refused number values) a = refl
 
 -- an outcome, by its answer
 answer-done : {A : Type 0} (o : Outcome A) → answer_of o ≡ pass → (a : A) × (o ≡ done a)
@@ -32,20 +31,35 @@ answer-refused (done a) e = absurd (clash e)
 answer-refused (refused number values) e = cc
 
 module _ (buffer : ℕ) (offset : ℤ) (es : List ℕ) (ss : List ℤ) where
-  -- let pass: at most 16 extents, as many strides, and the layout is that of the lists
-  pub checked-done : answer_of (checkIn buffer offset es ss) ≡ pass
-      → (length es ≤ 16) × (length es ≡ length ss) × (checkIn buffer offset es ss ≡ done (modelFrom buffer offset es ss))
+  abbrev listed : LayoutM
+  listed = modelFrom buffer offset (axesOf es ss)
+
+  pub many_extents : 16 < length es → answer_of (checkIn buffer offset es ss) ≡ refused 1 []
+  unfolding checkIn refuseIf ◌>>◌
+  many_extents h = rw (lt-ltb 16 (length es) h)
+
+  pub many_strides : length es ≤ 16 → 16 < length ss → answer_of (checkIn buffer offset es ss) ≡ refused 1 []
+  unfolding checkIn refuseIf ◌>>◌
+  many_strides h k = rw (le-ltb 16 (length es) h, lt-ltb 16 (length ss) k)
+
+  pub lengths_differ : length es ≤ 16 → length ss ≤ 16 → (length es ≡ length ss → ⊥) → answer_of (checkIn buffer offset es ss) ≡ refused 2 []
+  unfolding checkIn refuseIf ◌>>◌
+  lengths_differ h k n = rw (le-ltb 16 (length es) h, le-ltb 16 (length ss) k, ne_eqb (length es) (length ss) n)
+
+  pub bounds_answered : length es ≤ 16 → length ss ≤ 16 → length es ≡ length ss → answer_of (checkIn buffer offset es ss) ≡ bounds listed
+  unfolding checkIn refuseIf ◌>>◌
+  bounds_answered h k e = rw (le-ltb 16 (length es) h, le-ltb 16 (length ss) k, eq-eqb (length es) (length ss) e) (answer-then (bounds listed) listed)
+
+  -- the answer told, and what check-in leaves
+  pub checked_refused : (old : LayoutM) (number : ℕ) (values : List ℕ) → answer_of (checkIn buffer offset es ss) ≡ refused number values
+      → checked_into old (checkIn buffer offset es ss) ≡ record { answer = refused number values; layout = old }
+  checked_refused old number values e = ap (checked_into old) (answer-refused (checkIn buffer offset es ss) e)
+
+  pub checked_done : (old : LayoutM) → answer_of (checkIn buffer offset es ss) ≡ pass → checked_into old (checkIn buffer offset es ss) ≡ record { answer = pass; layout = listed }
   unfolding checkIn
-  checked-done e =
+  checked_done old e =
       let d = answer-done (checkIn buffer offset es ss) e in
       let p = passed (tooLong es || tooLong ss) 1 [] d.1 in
       let q = passed (not (eqb (length es) (length ss))) 2 [] p.1 in
-      let r = passed-check (bounds (modelFrom buffer offset es ss)) q.1 in (
-        ltb-false 16 (length es) (or-false (tooLong es) (tooLong ss) p.0).0,
-        eqb-true (length es) (length ss) (not-false (eqb (length es) (length ss)) q.0),
-        d.1 ∙ sym r.1,
-      )
-
-  pub checked_refused : {number : ℕ} {values : List ℕ} → answer_of (checkIn buffer offset es ss) ≡ refused number values
-      → checkIn buffer offset es ss ≡ refused number values
-  checked_refused e = answer-refused (checkIn buffer offset es ss) e
+      let r = passed-check (bounds listed) q.1 in
+      ap (checked_into old) (d.1 ∙ sym r.1)

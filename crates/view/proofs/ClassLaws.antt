@@ -7,12 +7,11 @@ use native.Mathlib.Omega.{arith}
 use lib.Dec.{eqb, ltb}
 use borrow.Author.Tests.{lt-ltb, le-ltb, eqb-true, eqb-false}
 use Rattle.specification.specs.Tests.{is_yes, some}
-use Rattle.specification.specs.Outcome.{pass}
 use Rattle.specification.specs.Tied.{Tied, turned}
 use Rattle.specification.specs.TiedDecided.{tied?}
-use Rattle.specification.specs.Views.{pairFault, class_of, kept}
-use Rattle.view.specs.Ties.{rootAt, isRoot, TiesOf}
-use Rattle.view.specs.declared.diagonal.Ties.{Ties}
+use Rattle.specification.specs.Views.{class_of, kept}
+use Rattle.view.specs.Ties.{rootAt, isRoot, Rooted}
+use Rattle.view.proofs.TieLaws.{RootsOf}
 use Rattle.view.proofs.RangeLaws.{passing, passing-ext, some-none, some_one}
 
 decided-yes : {P : Type 0} (d : Dec P) → P → is_yes d ≡ true
@@ -23,13 +22,13 @@ decided-no : {P : Type 0} (d : Dec P) → (P → ⊥) → is_yes d ≡ false
 decided-no (yes p) n = absurd (n p)
 decided-no (no n) m = refl
 
-module _ {rank : ℕ} {pairs : List (ℕ × ℕ)} {t : Ties} (of : TiesOf rank pairs t) (none : pairFault rank pairs ≡ pass) where
+module _ {rank : ℕ} {pairs : List (ℕ × ℕ)} {roots : List ℕ} (few : rank ≤ 16) (of : RootsOf pairs roots) where
   abbrev root : ℕ → ℕ
-  root = rootAt t.roots
+  root = rootAt roots
 
   -- a root is its own root
-  pub root-of-root : (a : ℕ) → a < rank → root (root a) ≡ root a
-  root-of-root a h = of.alike none (root a) a (turned (of.tied a (omega (arith, of.few))))
+  root-of-root : (a : ℕ) → a < rank → root (root a) ≡ root a
+  root-of-root a h = of.alike (root a) a (turned (of.tied a (omega arith)))
 
   -- the axes with root a
   abbrev withRoot : ℕ → ℕ → Bool
@@ -40,25 +39,28 @@ module _ {rank : ℕ} {pairs : List (ℕ × ℕ)} {t : Ties} (of : TiesOf rank p
   class-of-root a own = passing-ext (λ b. is_yes (tied? pairs a b)) (withRoot a) rank (λ b h. by b h (withRoot a b) refl)
     where
       by : (b : ℕ) → b < rank → (s : Bool) → withRoot a b ≡ s → is_yes (tied? pairs a b) ≡ s
-      by b h true e = decided-yes (tied? pairs a b) (turned (subst (Tied pairs b) (eqb-true (root b) a e) (of.tied b (omega (arith, of.few)))))
-      by b h false e = decided-no (tied? pairs a b) (λ w. eqb-false (root b) a e (sym (of.alike none a b w) ∙ own))
+      by b h true e = decided-yes (tied? pairs a b) (turned (subst (Tied pairs b) (eqb-true (root b) a e) (of.tied b (omega arith))))
+      by b h false e = decided-no (tied? pairs a b) (λ w. eqb-false (root b) a e (sym (of.alike a b w) ∙ own))
 
   -- no lower axis is tied to a root
   root-lowest : (a : ℕ) → root a ≡ a → some (λ b. ltb b a) (class_of pairs rank a) ≡ false
-  root-lowest a own = rw (class-of-root a own) (some-none (λ b. ltb b a) (withRoot a) rank (λ b h e. le-ltb b a (omega (arith, eqb-true (root b) a e, of.low b (omega (arith, of.few))))))
+  root-lowest a own = rw (class-of-root a own) (some-none (λ b. ltb b a) (withRoot a) rank (λ b h e. le-ltb b a (omega (arith, eqb-true (root b) a e, of.low b (omega arith)))))
 
   -- to another axis its root is
   other-lower : (a : ℕ) → a < rank → (root a ≡ a → ⊥) → some (λ b. ltb b a) (class_of pairs rank a) ≡ true
   unfolding class_of
   other-lower a h n =
-      let below : root a ≤ a = of.low a (omega (arith, of.few)) in
+      let below : root a ≤ a = of.low a (omega arith) in
       let less : root a < a = omega arith in
-      some_one (λ b. ltb b a) (λ b. is_yes (tied? pairs a b)) rank (root a) (omega arith) (decided-yes (tied? pairs a (root a)) (of.tied a (omega (arith, of.few)))) (lt-ltb (root a) a less)
+      some_one (λ b. ltb b a) (λ b. is_yes (tied? pairs a b)) rank (root a) (omega arith) (decided-yes (tied? pairs a (root a)) (of.tied a (omega arith))) (lt-ltb (root a) a less)
 
-  pub kept-are-roots : kept pairs rank ≡ passing (isRoot t.roots) rank
+  pub kept-are-roots : kept pairs rank ≡ passing (isRoot roots) rank
   unfolding kept
-  kept-are-roots = passing-ext (λ a. not (some (λ b. ltb b a) (class_of pairs rank a))) (isRoot t.roots) rank (λ a h. by a h (isRoot t.roots a) refl)
+  kept-are-roots = passing-ext (λ a. not (some (λ b. ltb b a) (class_of pairs rank a))) (isRoot roots) rank (λ a h. by a h (isRoot roots a) refl)
     where
-      by : (a : ℕ) → a < rank → (s : Bool) → isRoot t.roots a ≡ s → not (some (λ b. ltb b a) (class_of pairs rank a)) ≡ s
+      by : (a : ℕ) → a < rank → (s : Bool) → isRoot roots a ≡ s → not (some (λ b. ltb b a) (class_of pairs rank a)) ≡ s
       by a h true e = rw (root-lowest a (eqb-true (root a) a e))
       by a h false e = rw (other-lower a h (eqb-false (root a) a e))
+
+  pub rooted : Rooted rank roots
+  rooted = record { low = λ a h. of.low a (omega arith); own = root-of-root }

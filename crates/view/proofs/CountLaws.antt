@@ -2,7 +2,7 @@
 use Rattle.std.specs.Prelude.{if◌then◌else◌, Err, Ok, Result}
 use mathlib.Core.Path.{◌≡◌, refl, sym, ap, subst, ◌∙◌}
 use mathlib.Core.Bool.{Bool, true, false, not, ◌&&◌, ◌||◌, and-false}
-use mathlib.Core.List.{List, [], ◌∷◌}
+use mathlib.Core.List.{List, [], ◌∷◌, map}
 use Prim.Native.Nat.{ℕ, zero, suc, ◌+◌, ◌*◌, ◌≤◌, ◌<◌}
 use native.Mathlib.Nat.{zero-mul, mul-zero, mul-suc, mul-pos, mul_assoc}
 use native.Mathlib.Numerals.{add-one}
@@ -10,6 +10,7 @@ use native.Mathlib.Omega.{arith}
 use lib.Dec.{T, eqb, ltb}
 use lib.ListN.{length, drop, get_or, drop_of_length-le}
 use lib.Seq.{drop-cons}
+use Rattle.std.proofs.lemmas.List.{length-map, get_or-map}
 use borrow.Author.Tests.{eqb-true, eqb-false, lt-ltb, le-ltb}
 use Rattle.integer.specs.Range.{mostUnsigned}
 use Rattle.specification.specs.Tests.{some}
@@ -18,6 +19,7 @@ use Rattle.specification.specs.Axis.{Axis, extents, product, positions, is_empty
 use Rattle.specification.specs.Beside.{zeroAmong}
 use Rattle.specification.specs.Normal.{overfull}
 use Rattle.specification.proofs.OutcomeLaws.{clash, passed, done_inj, refused-inj}
+use Rattle.specification.specs.Views.{axisAt}
 use Rattle.view.specs.Answers.{number_of, values_of, outcomeOf}
 use Rattle.view.specs.Count.{elementCount, count_of}
 use Rattle.view.specs.declared.layout.Refusal.{Refusal}
@@ -62,10 +64,10 @@ factor-below factor (suc rest) whole most e h k = omega (arith, mul-suc factor r
 
 -- ---- the number of positions
 
-empty-extents : (axes : List Axis) → is_empty axes ≡ zeroAmong (extents axes)
+pub empty_extents : (axes : List Axis) → is_empty axes ≡ zeroAmong (extents axes)
 unfolding is_empty some
-empty-extents [] = refl
-empty-extents (a ∷ rest) = rw (empty-extents rest)
+empty_extents [] = refl
+empty_extents (a ∷ rest) = rw (empty_extents rest)
 
 -- what the extents come to at each end of the count
 module _ (es : List ℕ) where
@@ -96,7 +98,7 @@ length-extents (a ∷ rest) = rw (length-extents rest)
 pub element-count-of-axes : (axes : List Axis) → length axes ≤ 16 → elementCount (extents axes) ≡ count_of axes
 unfolding elementCount count_of overfull refuseIf ◌>>◌
 element-count-of-axes axes few =
-    rw (le-ltb 16 (length (extents axes)) (omega (arith, length-extents axes)), empty-extents axes) (by (zeroAmong (extents axes)) (ltb mostUnsigned (positions axes)))
+    rw (le-ltb 16 (length (extents axes)) (omega (arith, length-extents axes)), empty_extents axes) (by (zeroAmong (extents axes)) (ltb mostUnsigned (positions axes)))
   where
     by : (s t : Bool) → refuseIf (not s && t) 8 [] >> done (positions axes) ≡ refuseIf (if s then false else t) 8 [] >> done (positions axes)
     by true t = refl
@@ -115,3 +117,31 @@ module _ (axes : List Axis) {r : Result ℕ Refusal} (told : outcomeOf r ≡ cou
   pub counted_is : {n : ℕ} → r ≡ Ok n → (overfull axes ≡ false) × (positions axes ≡ n)
   unfolding count_of
   counted_is q = let p = passed (overfull axes) 8 [] (sym told ∙ ap outcomeOf q) in (p.0, done_inj p.1)
+
+-- a test of what a list is mapped to
+pub some-map : {A B : Type 0} (test : B → Bool) (f : A → B) (list : List A) → some (λ a. test (f a)) list ≡ some test (map f list)
+unfolding some
+some-map test f [] = refl
+some-map test f (a ∷ list) = rw (some-map test f list)
+
+-- what a list is mapped to is as long
+pub length-each : {A : Type 0} (f : A → ℕ) (list : List A) (es : List ℕ) → es ≡ map f list → length es ≡ length list
+length-each f list es e = ap length e ∙ length-map list f
+
+-- and what stands at place i is of what stood there
+pub extent-here : {A : Type 0} (f : A → ℕ) (list : List A) (es : List ℕ) (i : ℕ) (a : A) → es ≡ map f list → i < length list → a ≡ get_or list i a → get_or es i 0 ≡ f a
+extent-here f list es i a e h k = ap (λ (m : List ℕ). get_or m i 0) e ∙ get_or-map f list i a 0 h ∙ ap f (sym k)
+
+-- ---- the extents of axes, as a list of entries has them
+
+extent-at : (axes : List Axis) (i : ℕ) → get_or (extents axes) i 0 ≡ (axisAt axes i).extent
+extent-at [] i = refl
+extent-at (a ∷ rest) zero = refl
+extent-at (a ∷ rest) (suc i) = extent-at rest i
+
+module _ {A : Type 0} (f : A → ℕ) (list : List A) (axes : List Axis) (es : List ℕ) (each : es ≡ map f list) (given : es ≡ extents axes) where
+  pub entry-length : length axes ≡ length list
+  entry-length = sym (length-extents axes) ∙ ap length (sym given) ∙ length-each f list es each
+
+  pub entry-extent : (i : ℕ) (a : A) → i < length list → a ≡ get_or list i a → f a ≡ (axisAt axes i).extent
+  entry-extent i a h k = sym (extent-here f list es i a each h k) ∙ ap (λ (m : List ℕ). get_or m i 0) given ∙ extent-at axes i

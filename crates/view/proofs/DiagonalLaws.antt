@@ -1,79 +1,97 @@
--- diagonal_view at its end: the arrays hold the axes of the diagonal, whose sums are refused where one was over; and which rule refuses.
-use mathlib.Core.Path.{◌≡◌, sym, ap, ◌∙◌}
+-- diagonal_view by its pairs is the view by the roots that they leave; and which rule refuses.
+use mathlib.Core.Path.{◌≡◌, refl, sym, ap, subst, ◌∙◌}
 use mathlib.Core.List.{List, [], map}
-use Prim.Native.Nat.{ℕ, ◌<◌}
-use lib.IntN.{ℤ, pos}
-use borrow.Author.Tests.{eq-eqb, eqb-true}
+use Prim.Native.Nat.{ℕ, ◌≤◌}
+use native.Mathlib.Omega.{arith}
+use lib.IntN.{pos}
+use borrow.Author.Tests.{eqb-true}
 use Rattle.specification.specs.Axis.{Axis}
 use Rattle.specification.specs.Layout.{LayoutM, rank, handed}
 use Rattle.specification.specs.Outcome.{Check, refused, pass, ◌>>◌}
 use Rattle.specification.specs.CheckIn.{bounds}
-use Rattle.specification.specs.Views.{After, unlessRefused, withAxes, axisAt, pairFault, kept, leastExtent, strideSum, strideFault, members, fused, diagonalAxes, sumFaults, diagonalView}
-use Rattle.view.specs.Model.{axesIn, axisOf}
-use Rattle.view.specs.Ties.{rootAt, isRoot, TiesOf}
-use Rattle.view.specs.declared.diagonal.Ties.{Ties}
-use Rattle.view.proofs.RangeLaws.{count, table-passing}
-use Rattle.view.proofs.ClassLaws.{class-of-root, kept-are-roots}
-use Rattle.view.proofs.StrideSumLaws.{sums-pass, sums-refused}
-use Rattle.view.proofs.FusedLaws.{membersBelow, faultBelow, Stored}
+use Rattle.specification.specs.Views.{unlessRefused, withAxes, axisAt, pairFault, kept, leastExtent, strideSum, members, fused, diagonalAxes, sumFaults, diagonalView}
+use Rattle.view.specs.Model.{modelOf}
+use Rattle.view.specs.Reach.{handed_with}
+use Rattle.view.specs.declared.layout.Layout.{Layout}
+use Rattle.view.specs.Ties.{rootAt, isRoot, own_roots, joined_all, Rooted, rooted_at, roots_below, fused_at, fused_axes, fused_fault, fused_view}
+use Rattle.view.proofs.RangeLaws.{map-passing}
+use Rattle.view.proofs.TieLaws.{RootsOf, roots-of}
+use Rattle.view.proofs.ClassLaws.{class-of-root, kept-are-roots, rooted}
+use Rattle.view.proofs.StrideSumLaws.{faults-same}
+use Rattle.view.proofs.ListedLaws.{rank-model_of}
 
-module _ (l : LayoutM) {pairs : List (ℕ × ℕ)} {t : Ties} (of : TiesOf (rank l) pairs t) (none : pairFault (rank l) pairs ≡ pass) where
-  members-are : (r : ℕ) → rootAt t.roots r ≡ r → members l pairs r ≡ membersBelow l.axes t.roots (rank l) r
-  members-are r own = ap (map (axisAt l.axes)) (class-of-root of none r own)
+module _ (l : LayoutM) (pairs : List (ℕ × ℕ)) (few : rank l ≤ 16) (none : pairFault (rank l) pairs ≡ pass) where
+  abbrev roots : List ℕ
+  roots = joined_all own_roots pairs
 
-  pub sums-over : (r : ℕ) → r < rank l → rootAt t.roots r ≡ r → faultBelow l.axes t.roots (rank l) r ≡ refused 3 []
-      → sumFaults l pairs (kept pairs (rank l)) ≡ refused 3 []
-  sums-over r h own f =
-      rw (kept-are-roots of none)
-      (sums-refused l pairs (isRoot t.roots) (rank l) r h (eq-eqb (rootAt t.roots r) r own) (ap (strideFault (pos 0)) (members-are r own) ∙ f))
+  abbrev of : RootsOf pairs roots
+  of = roots-of (rank l) pairs few none
 
-  module _ {es : List ℕ} {ss : List ℤ} (stored : Stored l.axes t.roots (rank l) es ss) where
-    pub sums_none : sumFaults l pairs (kept pairs (rank l)) ≡ pass
-    sums_none =
-        rw (kept-are-roots of none)
-        (sums-pass l pairs (isRoot t.roots) (rank l) (λ r h e.
-        let own = eqb-true (rootAt t.roots r) r e in
-        ap (strideFault (pos 0)) (members-are r own) ∙ stored.sums-fit r h own))
+  members-are : (r : ℕ) → rootAt roots r ≡ r → members l pairs r ≡ rooted_at l.axes roots r
+  members-are r own = ap (map (axisAt l.axes)) (class-of-root few of r own)
 
-    pub axes-stored : axesIn es ss (count (isRoot t.roots) (rank l)) ≡ diagonalAxes l pairs
-    unfolding diagonalAxes fused
-    axes-stored =
-        rw (kept-are-roots of none)
-        (table-passing (isRoot t.roots) (axisOf es ss) (fused l pairs) (rank l) (λ r h e.
-        let own = eqb-true (rootAt t.roots r) r e in
-        stored.axis-is r h own ∙ sym (ap (λ (m : List Axis). record { extent = leastExtent m; stride = strideSum (pos 0) m }) (members-are r own))))
+  sums-are : sumFaults l pairs (kept pairs (rank l)) ≡ fused_fault l.axes roots (roots_below roots (rank l))
+  sums-are = rw (kept-are-roots few of) (faults-same l pairs roots (isRoot roots) (rank l) (λ r h e. members-are r (eqb-true (rootAt roots r) r e)))
 
--- ---- the answer, by the rule that refuses
+  axes-are : diagonalAxes l pairs ≡ fused_axes l.axes roots
+  unfolding diagonalAxes fused
+  axes-are =
+      rw (kept-are-roots few of)
+      (map-passing (isRoot roots) (fused l pairs) (fused_at l.axes roots) (rank l) (λ r h e.
+      ap (λ (m : List Axis). record { extent = leastExtent m; stride = strideSum (pos 0) m }) (members-are r (eqb-true (rootAt roots r) r e))))
 
-module _ (l : LayoutM) (pairs : List (ℕ × ℕ)) where
-  -- the layout as it was, and the refusal
-  abbrev stays : ℕ → List ℕ → After
-  stays number values = record { answer = refused number values; layout = l }
+  pub ties-rooted : Rooted (rank l) roots
+  ties-rooted = rooted few of
 
-  abbrev sums : Check
-  sums = sumFaults l pairs (kept pairs (rank l))
+  -- where neither the layout nor a pair is refused
+  pub by-roots : handed l [] ≡ pass → fused_view l roots ≡ diagonalView l pairs
+  unfolding fused_view diagonalView ◌>>◌
+  by-roots first = rw (first, none, sums-are, axes-are)
 
-  abbrev new : LayoutM
-  new = withAxes l (diagonalAxes l pairs)
+-- ---- the answer of a layout, by the rule that refuses
 
-  pub handed-refused : {number : ℕ} {values : List ℕ} → handed l [] ≡ refused number values → diagonalView l pairs ≡ stays number values
+-- a call that takes no list
+handed_none : (l : LayoutM) → handed l [] ≡ handed_with l 0
+unfolding handed
+handed_none l = refl
+
+module _ (s : Layout) (pairs : List (ℕ × ℕ)) where
+  abbrev l : LayoutM
+  l = modelOf s
+
+  faults : {c : Check} → c ≡ pairFault s.rank pairs → pairFault (rank l) pairs ≡ c
+  faults e = ap (λ (n : ℕ). pairFault n pairs) (rank-model_of s) ∙ sym e
+
+  pub diagonal_handed : (number : ℕ) (values : List ℕ) → refused number values ≡ handed_with l 0 → record { answer = refused number values; layout = l } ≡ diagonalView l pairs
   unfolding diagonalView unlessRefused ◌>>◌
-  handed-refused e = rw e
+  diagonal_handed number values e = rw (handed_none l, ← e)
 
-  module _ (first : handed l [] ≡ pass) where
-    pub pair-refused : {number : ℕ} {values : List ℕ} → pairFault (rank l) pairs ≡ refused number values → diagonalView l pairs ≡ stays number values
+  module _ (first : pass ≡ handed_with l 0) where
+    pub diagonal_paired : (number : ℕ) (values : List ℕ) → refused number values ≡ pairFault s.rank pairs → record { answer = refused number values; layout = l } ≡ diagonalView l pairs
     unfolding diagonalView unlessRefused ◌>>◌
-    pair-refused e = rw (first, e)
+    diagonal_paired number values e = rw (handed_none l, ← first, faults e)
 
-    module _ (second : pairFault (rank l) pairs ≡ pass) where
-      pub sum-refused : {number : ℕ} {values : List ℕ} → sums ≡ refused number values → diagonalView l pairs ≡ stays number values
-      unfolding diagonalView unlessRefused ◌>>◌
-      sum-refused e = rw (first, second, e)
+    pub diagonal_fused : s.rank ≤ 16 → pass ≡ pairFault s.rank pairs → fused_view l (joined_all own_roots pairs) ≡ diagonalView l pairs
+    diagonal_fused few e = by-roots l pairs (omega (arith, rank-model_of s)) (faults e) (handed_none l ∙ sym first)
 
-      pub bounds-refused : {number : ℕ} {values : List ℕ} → sums ≡ pass → bounds new ≡ refused number values → diagonalView l pairs ≡ stays number values
-      unfolding diagonalView unlessRefused ◌>>◌
-      bounds-refused third e = rw (first, second, third, e)
+  pub diagonal_rooted : s.rank ≤ 16 → pass ≡ pairFault s.rank pairs → Rooted s.rank (joined_all own_roots pairs)
+  diagonal_rooted few e =
+      subst (λ (n : ℕ). Rooted n (joined_all own_roots pairs)) (rank-model_of s) (ties-rooted l pairs (omega (arith, rank-model_of s)) (faults e))
 
-      pub none-refused : sums ≡ pass → bounds new ≡ pass → diagonalView l pairs ≡ record { answer = pass; layout = new }
-      unfolding diagonalView unlessRefused ◌>>◌
-      none-refused third e = rw (first, second, third, e)
+-- ---- the view by roots
+
+module _ (l : LayoutM) (roots : List ℕ) where
+  pub sum_refused : (number : ℕ) (values : List ℕ) → fused_fault l.axes roots (roots_below roots (rank l)) ≡ refused number values
+      → record { answer = refused number values; layout = l } ≡ fused_view l roots
+  unfolding fused_view unlessRefused ◌>>◌
+  sum_refused number values e = rw e
+
+  module _ (fits : fused_fault l.axes roots (roots_below roots (rank l)) ≡ pass) where
+    pub bounds_refused : (number : ℕ) (values : List ℕ) → bounds (withAxes l (fused_axes l.axes roots)) ≡ refused number values
+        → record { answer = refused number values; layout = l } ≡ fused_view l roots
+    unfolding fused_view unlessRefused ◌>>◌
+    bounds_refused number values e = rw (fits, e)
+
+    pub none_refused : bounds (withAxes l (fused_axes l.axes roots)) ≡ pass → record { answer = pass; layout = withAxes l (fused_axes l.axes roots) } ≡ fused_view l roots
+    unfolding fused_view unlessRefused ◌>>◌
+    none_refused e = rw (fits, e)

@@ -1,22 +1,22 @@
--- The axes of classes, taken in one axis of the layout after another: what two arrays hold at the places of the roots passed.
-use mathlib.Core.Path.{◌≡◌, refl, sym, ap, ◌∙◌}
+-- The axes of classes, taken in one axis of the layout after another: what an array holds at the places of the roots passed.
+use mathlib.Core.Path.{◌≡◌, refl, sym, ap, subst, ◌∙◌}
 use mathlib.Core.Bool.{Bool, true, false}
 use mathlib.Core.List.{List, [], ◌∷◌, ◌++◌, map, map-append}
-use Prim.Native.Nat.{ℕ, zero, suc, ◌+◌, ◌≤◌, ◌<◌, min}
+use Prim.Native.Nat.{ℕ, zero, suc, ◌+◌, ◌-◌, ◌≤◌, ◌<◌, min}
 use native.Mathlib.Omega.{arith}
 use lib.Dec.{eqb, ltb}
 use lib.IntN.{ℤ, pos, ◌+ℤ◌, +ℤ_idl}
-use lib.ListN.{length, get_or, set, length-map}
+use lib.ListN.{length, set, length-map}
 use lib.Seq.{get_or-set_same, get_or-set_other}
 use borrow.Author.Tests.{eq-eqb, ne_eqb, eqb-true, eqb-false, ltb-true, ltb-false}
 use Rattle.integer.specs.Range.{fits}
 use Rattle.specification.specs.Axis.{Axis}
 use Rattle.specification.specs.Outcome.{Check, refused, pass, refuseIf, ◌>>◌}
 use Rattle.specification.specs.Views.{axisAt, leastExtent, strideSum, strideFault}
-use Rattle.view.specs.Model.{axisOf}
-use Rattle.view.specs.Ties.{rootAt, isRoot}
-use Rattle.view.proofs.RangeLaws.{passing, passing-zero, passing-yes, passing-no, count, count-lt}
-use Rattle.view.proofs.StrideSumLaws.{least-last, sum-last, fault-fits, fault-over, over-stays}
+use Rattle.view.specs.Model.{first_axes}
+use Rattle.view.specs.Ties.{rootAt, isRoot, roots_below, fused_at, fused_axes, fused_fault}
+use Rattle.view.proofs.RangeLaws.{passing, passing-zero, passing-yes, passing-no, count, count-lt, table-passing}
+use Rattle.view.proofs.StrideSumLaws.{least-last, sum-last, fault-fits, fault-over, over-stays, sums-pass, sums-refused}
 
 module _ (axes : List Axis) (roots : List ℕ) where
   -- the axes below n with root r
@@ -61,13 +61,13 @@ module _ (axes : List Axis) (roots : List ℕ) where
 
   -- ---- what is stored
 
-  -- the two arrays hold the axis of each class below n, and no sum left 64 bits
-  pub record Stored (n : ℕ) (es : List ℕ) (ss : List ℤ) : Type 0 where
-    pub axis-is : (r : ℕ) → r < n → rootAt roots r ≡ r → axisOf es ss (placeOfRoot r) ≡ fusedBelow n r
+  -- an array holds the axis of each class below n, and no sum left 64 bits
+  pub record Stored (n : ℕ) (fused : List Axis) : Type 0 where
+    pub axis-is : (r : ℕ) → r < n → rootAt roots r ≡ r → axisAt fused (placeOfRoot r) ≡ fusedBelow n r
     pub sums-fit : (r : ℕ) → r < n → rootAt roots r ≡ r → faultBelow n r ≡ pass
 
-  pub stored-none : (es : List ℕ) (ss : List ℤ) → Stored 0 es ss
-  stored-none es ss = record { axis-is = λ r h. absurd (omega arith); sums-fit = λ r h. absurd (omega arith) }
+  pub stored-none : (fused : List Axis) → Stored 0 fused
+  stored-none fused = record { axis-is = λ r h. absurd (omega arith); sums-fit = λ r h. absurd (omega arith) }
 
   -- two roots have two places
   places-apart : (q r : ℕ) → rootAt roots q ≡ q → rootAt roots r ≡ r → (q ≡ r → ⊥) → placeOfRoot q ≡ placeOfRoot r → ⊥
@@ -80,11 +80,9 @@ module _ (axes : List Axis) (roots : List ℕ) where
           omega (arith, count-lt (isRoot roots) r q (omega arith) (eq-eqb (rootAt roots r) r f))
 
   -- the axis of a class changes and the others stay
-  stored_at : (n : ℕ) {es : List ℕ} {ss : List ℤ} → Stored n es ss → (r : ℕ) → rootAt roots n ≡ r → rootAt roots r ≡ r
-      → placeOfRoot r < length es → placeOfRoot r < length ss
-      → (e : ℕ) (s : ℤ) → record { extent = e; stride = s } ≡ fusedBelow (n + 1) r → faultBelow (n + 1) r ≡ pass
-      → Stored (n + 1) (set es (placeOfRoot r) e) (set ss (placeOfRoot r) s)
-  stored_at n {es} {ss} stored r is own fits-es fits-ss e s new fine = record {
+  stored_at : (n : ℕ) {fused : List Axis} → Stored n fused → (r : ℕ) → rootAt roots n ≡ r → rootAt roots r ≡ r → placeOfRoot r < length fused
+      → (a : Axis) → a ≡ fusedBelow (n + 1) r → faultBelow (n + 1) r ≡ pass → Stored (n + 1) (set fused (placeOfRoot r) a)
+  stored_at n {fused} stored r is own fits-in a new fine = record {
     axis-is = λ q h o. axis-of q h o (eqb q r) refl;
     sums-fit = λ q h o. sums-of q h o (eqb q r) refl;
   }
@@ -96,14 +94,12 @@ module _ (axes : List Axis) (roots : List ℕ) where
       same : (q : ℕ) → (q ≡ r → ⊥) → membersBelow (n + 1) q ≡ membersBelow n q
       same q ne = members-same n q (λ w. ne (sym w ∙ is))
 
-      axis-of : (q : ℕ) → q < n + 1 → rootAt roots q ≡ q → (t : Bool) → eqb q r ≡ t
-          → axisOf (set es (placeOfRoot r) e) (set ss (placeOfRoot r) s) (placeOfRoot q) ≡ fusedBelow (n + 1) q
-      axis-of q h o true w = rw (eqb-true q r w, get_or-set_same es (placeOfRoot r) e 0 fits-es, get_or-set_same ss (placeOfRoot r) s (pos 0) fits-ss) new
+      axis-of : (q : ℕ) → q < n + 1 → rootAt roots q ≡ q → (t : Bool) → eqb q r ≡ t → axisAt (set fused (placeOfRoot r) a) (placeOfRoot q) ≡ fusedBelow (n + 1) q
+      axis-of q h o true w = rw (eqb-true q r w, get_or-set_same fused (placeOfRoot r) a _ fits-in) new
       axis-of q h o false w =
           let ne : q ≡ r → ⊥ = eqb-false q r w in
           let apart : placeOfRoot q ≡ placeOfRoot r → ⊥ = places-apart q r o own ne in
-          rw (get_or-set_other es (placeOfRoot r) (placeOfRoot q) e 0 apart, get_or-set_other ss (placeOfRoot r) (placeOfRoot q) s (pos 0) apart, same q ne)
-          (stored.axis-is q (before q h o ne (eqb q n) refl) o)
+          rw (get_or-set_other fused (placeOfRoot r) (placeOfRoot q) a _ apart, same q ne) (stored.axis-is q (before q h o ne (eqb q n) refl) o)
 
       sums-of : (q : ℕ) → q < n + 1 → rootAt roots q ≡ q → (t : Bool) → eqb q r ≡ t → faultBelow (n + 1) q ≡ pass
       sums-of q h o true w = rw (eqb-true q r w) fine
@@ -111,43 +107,42 @@ module _ (axes : List Axis) (roots : List ℕ) where
           let ne : q ≡ r → ⊥ = eqb-false q r w in
           rw (same q ne) (stored.sums-fit q (before q h o ne (eqb q n) refl) o)
 
-  -- ---- axis n, with its extent and its stride, taken in at place `at`
+  -- ---- axis n, taken in at place `at`
 
-  module _ (n : ℕ) {es : List ℕ} {ss : List ℤ} (stored : Stored n es ss) (e : ℕ) (s : ℤ) (axis-n : axisAt axes n ≡ record { extent = e; stride = s }) (at : ℕ) where
+  module _ (n : ℕ) {fused : List Axis} (stored : Stored n fused) (at : ℕ) where
     -- as the first of its class
-    pub stored-first : rootAt roots n ≡ n → at ≡ placeOfRoot n → ((b : ℕ) → b < n → rootAt roots b ≤ b) → fits s ≡ true → at < length es → at < length ss
-        → (stride : ℤ) → stride ≡ s → Stored (n + 1) (set es at e) (set ss at stride)
+    pub stored-first : rootAt roots n ≡ n → at ≡ placeOfRoot n → ((b : ℕ) → b < n → rootAt roots b ≤ b) → fits (axisAt axes n).stride ≡ true → at < length fused
+        → (a : Axis) → a ≡ axisAt axes n → Stored (n + 1) (set fused at a)
     unfolding leastExtent strideSum strideFault refuseIf ◌>>◌
-    stored-first own at-is low f fits-es fits-ss stride stride-is =
-        rw (at-is, stride-is) (stored_at n stored n own own (rw (← at-is) fits-es) (rw (← at-is) fits-ss) e s (rw (alone, +ℤ_idl)) (rw (alone, +ℤ_idl, f)))
+    stored-first own at-is low f fits-in a is =
+        rw (at-is, is) (stored_at n stored n own own (rw (← at-is) fits-in) (axisAt axes n) (rw (alone, +ℤ_idl)) (rw (alone, +ℤ_idl, f)))
       where
-        alone : membersBelow (n + 1) n ≡ record { extent = e; stride = s } ∷ []
+        alone : membersBelow (n + 1) n ≡ axisAt axes n ∷ []
         alone =
             members-more n n own
             ∙ ap (λ (m : List Axis). m ++ (axisAt axes n ∷ [])) (members-none n n (λ b h w. omega (arith, low b h)))
-            ∙ ap (λ (a : Axis). a ∷ []) axis-n
 
     -- as a later one
     module _ (r : ℕ) (is : rootAt roots n ≡ r) (low : r < n) (own : rootAt roots r ≡ r) (at-is : at ≡ placeOfRoot r) where
-      least-is : get_or es at 0 ≡ leastExtent (membersBelow n r)
+      least-is : (axisAt fused at).extent ≡ leastExtent (membersBelow n r)
       least-is = rw at-is (ap (λ (a : Axis). a.extent) (stored.axis-is r low own))
 
-      sum_is : get_or ss at (pos 0) ≡ strideSum (pos 0) (membersBelow n r)
+      sum_is : (axisAt fused at).stride ≡ strideSum (pos 0) (membersBelow n r)
       sum_is = rw at-is (ap (λ (a : Axis). a.stride) (stored.axis-is r low own))
 
-      with-n : membersBelow (n + 1) r ≡ membersBelow n r ++ (record { extent = e; stride = s } ∷ [])
-      with-n = members-more n r is ∙ rw axis-n
+      with-n : membersBelow (n + 1) r ≡ membersBelow n r ++ (axisAt axes n ∷ [])
+      with-n = members-more n r is
 
-      pub stored-later : fits (get_or ss at (pos 0) +ℤ s) ≡ true → at < length es → at < length ss
-          → (extent : ℕ) → extent ≡ min (get_or es at 0) e → (stride : ℤ) → stride ≡ get_or ss at (pos 0) +ℤ s
-          → Stored (n + 1) (set es at extent) (set ss at stride)
-      stored-later f fits-es fits-ss extent extent-is stride stride-is =
+      pub stored-later : fits ((axisAt fused at).stride +ℤ (axisAt axes n).stride) ≡ true → at < length fused
+          → (extent : ℕ) → extent ≡ min (axisAt fused at).extent (axisAt axes n).extent → (stride : ℤ) → stride ≡ (axisAt fused at).stride +ℤ (axisAt axes n).stride
+          → Stored (n + 1) (set fused at (record { extent = extent; stride = stride }))
+      stored-later f fits-in extent extent-is stride stride-is =
           rw at-is
-          (stored_at n stored r is own (rw (← at-is) fits-es) (rw (← at-is) fits-ss) extent stride
+          (stored_at n stored r is own (rw (← at-is) fits-in) (record { extent = extent; stride = stride })
           (rw (with-n, least-last (membersBelow n r) _ (members-some n r low own), sum-last (pos 0) (membersBelow n r), extent-is, stride-is, least-is, sum_is))
           (rw with-n (fault-fits (pos 0) (membersBelow n r) _ (stored.sums-fit r low own) (rw (← sum_is) f))))
 
-      pub over-here : fits (get_or ss at (pos 0) +ℤ s) ≡ false → faultBelow (n + 1) r ≡ refused 3 []
+      pub over-here : fits ((axisAt fused at).stride +ℤ (axisAt axes n).stride) ≡ false → faultBelow (n + 1) r ≡ refused 3 []
       over-here f = rw with-n (fault-over (pos 0) (membersBelow n r) _ (stored.sums-fit r low own) (rw (← sum_is) f))
 
   -- a sum that left 64 bits has left them with more axes
@@ -158,3 +153,21 @@ module _ (axes : List Axis) (roots : List ℕ) where
       by : (t : Bool) → eqb (rootAt roots (n + d)) r ≡ t → faultBelow (n + d) r ≡ refused 3 [] → faultBelow (n + d + 1) r ≡ refused 3 []
       by true w ih = rw (members-more (n + d) r (eqb-true (rootAt roots (n + d)) r w)) (over-stays (pos 0) (membersBelow (n + d) r) (axisAt axes (n + d)) ih)
       by false w ih = rw (members-same (n + d) r (eqb-false (rootAt roots (n + d)) r w)) ih
+
+-- ---- at the end
+
+module _ (axes : List Axis) (roots : List ℕ) where
+  -- a class whose sum was over is refused
+  pub sums-over : (n r : ℕ) → n ≤ length axes → r < length axes → rootAt roots r ≡ r → faultBelow axes roots n r ≡ refused 3 []
+      → fused_fault axes roots (roots_below roots (length axes)) ≡ refused 3 []
+  sums-over n r within low own here =
+      let e : n + (length axes - n) ≡ length axes = omega arith in
+      sums-refused axes roots (isRoot roots) (length axes) r low (eq-eqb (rootAt roots r) r own)
+      (subst (λ (k : ℕ). faultBelow axes roots k r ≡ refused 3 []) e (over-later axes roots n (length axes - n) r here))
+
+  module _ {fused : List Axis} (stored : Stored axes roots (length axes) fused) where
+    pub sums_none : fused_fault axes roots (roots_below roots (length axes)) ≡ pass
+    sums_none = sums-pass axes roots (isRoot roots) (length axes) (λ r h e. stored.sums-fit r h (eqb-true (rootAt roots r) r e))
+
+    pub axes-stored : first_axes fused (count (isRoot roots) (length axes)) ≡ fused_axes axes roots
+    axes-stored = table-passing (isRoot roots) (axisAt fused) (fused_at axes roots) (length axes) (λ r h e. stored.axis-is r h (eqb-true (rootAt roots r) r e))

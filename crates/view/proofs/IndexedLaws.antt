@@ -1,20 +1,22 @@
 -- The sum of index × stride, axis by axis.
-use mathlib.Core.Path.{◌≡◌, refl}
+use mathlib.Core.Path.{◌≡◌, sym}
 use mathlib.Core.Bool.{Bool, true, false, not, ◌||◌}
 use mathlib.Core.List.{List, [], ◌∷◌}
-use Prim.Native.Nat.{ℕ, ◌+◌, ◌≤◌, ◌<◌}
+use Prim.Native.Nat.{ℕ, suc, ◌+◌, ◌≤◌, ◌<◌}
 use native.Mathlib.Numerals.{add-one}
+use native.Mathlib.Omega.{arith}
 use lib.Dec.{ltb}
-use lib.IntN.{ℤ, ◌+ℤ◌}
-use lib.ListN.{length, drop, get_or}
+use lib.IntN.{ℤ, pos, ◌+ℤ◌}
+use lib.ListN.{length, drop, get_or, drop_of_length-le}
 use lib.Seq.{drop-cons}
 use borrow.Author.Tests.{lt-ltb, le-ltb, le-leb, lt-leb}
 use Rattle.integer.specs.Multiple.{◌·◌}
 use Rattle.integer.specs.Range.{fits, mostSigned}
-use Rattle.specification.specs.Outcome.{done, refused, refuseIf, ◌>>◌}
+use Rattle.specification.specs.Outcome.{Outcome, done, refused, refuseIf, ◌>>◌}
 use Rattle.specification.specs.Axis.{Axis}
 use Rattle.specification.specs.Beside.{sumIndexed}
-use Rattle.specification.proofs.OutcomeLaws.{clash, passed, done_inj}
+use Rattle.specification.specs.Views.{axisAt}
+use Rattle.specification.proofs.OutcomeLaws.{clash, passed, done_inj, refused-inj}
 use Rattle.view.specs.Indexed.{addedOf}
 
 module _ (sum : ℤ) (index : ℕ) (stride : ℤ) where
@@ -37,30 +39,43 @@ module _ (sum : ℤ) (index : ℕ) (stride : ℤ) where
 
 -- ---- the axes and the index vector from i on
 
-module _ (i : ℕ) (sum : ℤ) (a : Axis) (rest : List Axis) (x : ℕ) (index : List ℕ) where
+module _ (axes : List Axis) (index : List ℕ) (i : ℕ) (sum : ℤ) (h : i < length index) (n : length index ≡ length axes) where
+  abbrev here : Axis
+  here = axisAt axes i
+
+  abbrev at_here : ℕ
+  at_here = get_or index i 0
+
+  abbrev left : Outcome ℤ
+  left = sumIndexed i sum (drop i axes) (drop i index)
+
   -- the test of refusal 3
   abbrev outOfRange : Bool
-  outOfRange = ltb mostSigned x || not (fits (x · a.stride)) || not (fits (sum +ℤ x · a.stride))
+  outOfRange = ltb mostSigned at_here || not (fits (at_here · here.stride)) || not (fits (sum +ℤ at_here · here.stride))
 
-  pub indexed-bad : a.extent ≤ x → sumIndexed i sum (a ∷ rest) (x ∷ index) ≡ refused 7 (i ∷ [])
+  axis-here : drop i axes ≡ here ∷ drop (i + 1) axes
+  axis-here = rw (add-one, drop-cons axes i (record { extent = 0; stride = pos 0 }) (omega arith))
+
+  index-here : drop i index ≡ at_here ∷ drop (i + 1) index
+  index-here = rw (add-one, drop-cons index i 0 h)
+
+  pub indexed-bad : here.extent ≤ at_here → left ≡ refused 7 (i ∷ [])
   unfolding sumIndexed refuseIf ◌>>◌
-  indexed-bad h = rw (le-leb a.extent x h)
+  indexed-bad k = rw (axis-here, index-here, le-leb here.extent at_here k)
 
-  pub indexed-over : {number : ℕ} {values : List ℕ} → x < a.extent → addedOf sum x a.stride ≡ refused number values → sumIndexed i sum (a ∷ rest) (x ∷ index) ≡ refused 3 []
+  pub indexed-over : {number : ℕ} {values : List ℕ} → at_here < here.extent → refused number values ≡ addedOf sum at_here here.stride → left ≡ refused number values
   unfolding addedOf sumIndexed refuseIf ◌>>◌
-  indexed-over {number} {values} h e = rw (lt-leb a.extent x h, by outOfRange e)
+  indexed-over {number} {values} k e = rw (axis-here, index-here, lt-leb here.extent at_here k) (by outOfRange e)
     where
-      by : (t : Bool) → refuseIf t 3 [] >> done (sum +ℤ x · a.stride) ≡ refused number values → t ≡ true
-      by true e = refl
-      by false e = absurd (clash e)
+      by : (t : Bool) → refused number values ≡ (refuseIf t 3 [] >> done (sum +ℤ at_here · here.stride))
+          → (refuseIf t 3 [] >> sumIndexed (suc i) (sum +ℤ at_here · here.stride) (drop (i + 1) axes) (drop (i + 1) index)) ≡ refused number values
+      by true e = let w = refused-inj e in rw (w.0, w.1)
+      by false e = absurd (clash (sym e))
 
-  pub indexed-on : (next : ℤ) → x < a.extent → addedOf sum x a.stride ≡ done next → sumIndexed i sum (a ∷ rest) (x ∷ index) ≡ sumIndexed (i + 1) next rest index
+  pub indexed-on : (next : ℤ) → at_here < here.extent → done next ≡ addedOf sum at_here here.stride → left ≡ sumIndexed (i + 1) next (drop (i + 1) axes) (drop (i + 1) index)
   unfolding addedOf sumIndexed refuseIf ◌>>◌
-  indexed-on next h e = let p = passed outOfRange 3 [] e in rw (lt-leb a.extent x h, p.0, done_inj p.1, add-one)
+  indexed-on next k e = let p = passed outOfRange 3 [] (sym e) in rw (axis-here, index-here, lt-leb here.extent at_here k, p.0, done_inj p.1, add-one)
 
-pub indexed-end : (i : ℕ) (sum : ℤ) (index : List ℕ) → sumIndexed i sum [] index ≡ done sum
+pub indexed-end : (axes : List Axis) (index : List ℕ) (i : ℕ) (sum : ℤ) → length axes ≤ i → sumIndexed i sum (drop i axes) (drop i index) ≡ done sum
 unfolding sumIndexed
-indexed-end i sum index = refl
-
-pub index-here : (index : List ℕ) (i : ℕ) → i < length index → drop i index ≡ get_or index i 0 ∷ drop (i + 1) index
-index-here index i h = rw (add-one, drop-cons index i 0 h)
+indexed-end axes index i sum h = rw (drop_of_length-le axes h)

@@ -2,42 +2,34 @@
 use mathlib.Core.Path.{◌≡◌}
 use mathlib.Core.Bool.{not}
 use mathlib.Core.List.{List}
-use Prim.Native.Nat.{ℕ, ◌≤◌}
+use Prim.Native.Nat.{ℕ}
 use lib.Dec.{eqb}
 use lib.ListN.{length}
-use borrow.Author.Tests.{eq-eqb, ne_eqb, eqb-true}
-use Rattle.specification.specs.Outcome.{Check, refused, pass, refuseIf, ◌>>◌}
-use Rattle.specification.specs.Layout.{LayoutM, rank, handed}
-use Rattle.specification.proofs.OutcomeLaws.{passed, passed-check}
-use Rattle.specification.proofs.AcceptedLaws.{not-false}
+use borrow.Author.Tests.{eq-eqb, ne_eqb}
+use Rattle.specification.specs.Outcome.{Outcome, refused, pass, refuseIf, ◌>>◌}
+use Rattle.specification.specs.Layout.{rank, handed}
 use Rattle.view.specs.declared.layout.Layout.{Layout}
 use Rattle.view.specs.Model.{modelOf}
-use Rattle.view.proofs.HandedLaws.{handed-passed}
-use Rattle.view.proofs.ModelLaws.{length-axesIn}
+use Rattle.view.specs.Reach.{handed_with}
+use Rattle.view.proofs.AxesLaws.{length-first_axes}
 
 -- the rank of the model is the layout's
-pub rank-modelOf : (l : Layout) → rank (modelOf l) ≡ l.rank
-rank-modelOf l = length-axesIn l.extents l.strides l.rank
+pub rank-model_of : (l : Layout) → rank (modelOf l) ≡ l.rank
+rank-model_of l = length-first_axes l.axes l.rank
 
-module _ (l : LayoutM) (list values : List ℕ) (next : Check) where
+module _ {A : Type 0} (l : Layout) (list values : List ℕ) (next : Outcome A) where
   -- the chain of rules
-  abbrev listed : Check
-  listed = handed l list >> (refuseIf (not (eqb (length list) (rank l))) 4 values >> next)
+  abbrev listed : Outcome A
+  listed = handed (modelOf l) list >> (refuseIf (not (eqb (length list) (rank (modelOf l)))) 4 values >> next)
 
-  pub listed-refused : {number : ℕ} {given : List ℕ} → handed l list ≡ refused number given → listed ≡ refused number given
-  unfolding ◌>>◌
-  listed-refused e = rw e
+  pub listed_refused : {number : ℕ} {given : List ℕ} → refused number given ≡ handed_with (modelOf l) (length list) → listed ≡ refused number given
+  unfolding handed ◌>>◌
+  listed_refused e = rw (← e)
 
-  pub listed-wrong : handed l list ≡ pass → (length list ≡ rank l → ⊥) → listed ≡ refused 4 values
-  unfolding refuseIf ◌>>◌
-  listed-wrong e n = rw (e, ne_eqb (length list) (rank l) n)
+  pub listed_wrong : pass ≡ handed_with (modelOf l) (length list) → (length list ≡ l.rank → ⊥) → listed ≡ refused 4 values
+  unfolding handed refuseIf ◌>>◌
+  listed_wrong e n = rw (← e, rank-model_of l, ne_eqb (length list) l.rank n)
 
-  pub listed_next : handed l list ≡ pass → length list ≡ rank l → listed ≡ next
-  unfolding refuseIf ◌>>◌
-  listed_next e n = rw (e, eq-eqb (length list) (rank l) n)
-
-  pub listed-passed : listed ≡ pass → (rank l ≤ 16) × (length list ≡ rank l) × (next ≡ pass)
-  listed-passed e =
-      let p = passed-check (handed l list) e in
-      let q = passed (not (eqb (length list) (rank l))) 4 values p.1 in
-      ((handed-passed l list p.0).0, eqb-true (length list) (rank l) (not-false (eqb (length list) (rank l)) q.0), q.1)
+  pub listed_next : pass ≡ handed_with (modelOf l) (length list) → length list ≡ l.rank → listed ≡ next
+  unfolding handed refuseIf ◌>>◌
+  listed_next e n = rw (← e, rank-model_of l, eq-eqb (length list) l.rank n)

@@ -106,6 +106,15 @@ table-passing test f g (suc n) h = let e : suc n ≡ n + 1 = omega arith in rw e
     by true e ih = rw (count_yes test n e, passing-yes test n e, map-append g (passing test n) (n ∷ []), table-suc f (count test n), ih, h n (omega arith) e)
     by false e ih = rw (count_no test n e, passing-no test n e) ih
 
+-- functions that agree where the test passes
+pub map-passing : {A : Type 0} (test : ℕ → Bool) (f g : ℕ → A) (n : ℕ) → ((k : ℕ) → k < n → test k ≡ true → f k ≡ g k) → map f (passing test n) ≡ map g (passing test n)
+map-passing test f g zero h = rw (passing-zero test)
+map-passing test f g (suc n) h = let e : suc n ≡ n + 1 = omega arith in rw e (by (test n) refl (map-passing test f g n (λ k l. h k (omega arith))))
+  where
+    by : (t : Bool) → test n ≡ t → map f (passing test n) ≡ map g (passing test n) → map f (passing test (n + 1)) ≡ map g (passing test (n + 1))
+    by true e ih = rw (passing-yes test n e, map-append f (passing test n) (n ∷ []), map-append g (passing test n) (n ∷ []), ih, h n (omega arith) e)
+    by false e ih = rw (passing-no test n e) ih
+
 -- ---- some number below n that passes one test passes another
 
 pub some-none : (f g : ℕ → Bool) (n : ℕ) → ((k : ℕ) → k < n → g k ≡ true → f k ≡ false) → some f (passing g n) ≡ false

@@ -7,7 +7,7 @@ use Prim.Native.Nat.{ℕ, zero, suc, ◌+◌, ◌-◌, ◌*◌, ◌%◌, ◌^◌
 use native.Mathlib.Nat.{pow-suc, zero-add, suc-add, mod-eq_of_lt, add-mul-mod_self_right, one-mul}
 use native.Mathlib.Numerals.{add-one}
 use native.Mathlib.Omega.{arith}
-use lib.Bits.{bit_or, or_shifted_r}
+use lib.Bits.{and_mask, bit_and, bit_or, or_shifted_r}
 use lib.Count.{ones, ones_in, ones_cat}
 use lib.ListN.{take, drop}
 use lib.Pow.{pow-add}
@@ -24,6 +24,14 @@ relabelledFrom from to i roots = take i roots ++ map (renamed from to) (drop i r
 
 -- ---- the mask of roots
 
+-- `(1 << root) - 1` in 16 bits keeps the bits below the root
+pub bits_below : (mask root : ℕ) → root < 16 → bit_and mask ((1 * 2 ^ root) % 65536 - 1) ≡ mask % 2 ^ root
+bits_below mask root h = rw (shifted_one root h) (and_mask mask root)
+
+pub mask_none : (roots : List ℕ) → 0 ≡ mask_of roots 0
+unfolding mask_of
+mask_none roots = refl
+
 module _ (roots : List ℕ) where
   mask_fits : (n : ℕ) → mask_of roots n < 2 ^ n
   unfolding mask_of
@@ -35,15 +43,15 @@ module _ (roots : List ℕ) where
       by false ih = omega (arith, pow-suc 2 n)
 
   -- a root's bit is set, another's is not
-  pub mask-set : (n mask : ℕ) → n < 16 → rootAt roots n ≡ n → mask ≡ mask_of roots n → bit_or mask ((1 * 2 ^ n) % 65536) ≡ mask_of roots (n + 1)
+  pub mask_set : (n mask : ℕ) → n < 16 → rootAt roots n ≡ n → mask ≡ mask_of roots n → bit_or mask ((1 * 2 ^ n) % 65536) ≡ mask_of roots (n + 1)
   unfolding mask_of
-  mask-set n mask h e is =
+  mask_set n mask h e is =
       let s : (1 * 2 ^ n) % 65536 ≡ 1 * 2 ^ n = shifted_one n h ∙ sym (one-mul (2 ^ n)) in
       rw (s, is, or_shifted_r 1 n (mask_of roots n) (mask_fits n), add-one, mask_of, eq-eqb (rootAt roots n) n e)
 
-  pub mask-clear : (n : ℕ) → (rootAt roots n ≡ n → ⊥) → mask_of roots n ≡ mask_of roots (n + 1)
+  pub mask_clear : (n : ℕ) → (rootAt roots n ≡ n → ⊥) → mask_of roots n ≡ mask_of roots (n + 1)
   unfolding mask_of
-  mask-clear n e = rw (add-one, mask_of, ne_eqb (rootAt roots n) n e) (omega arith)
+  mask_clear n e = rw (add-one, mask_of, ne_eqb (rootAt roots n) n e) (omega arith)
 
   -- its ones are the roots
   pub mask-ones : (n : ℕ) → ones (mask_of roots n) ≡ count (isRoot roots) n

@@ -14,6 +14,7 @@ use Rattle.specification.specs.Axis.{Axis}
 use Rattle.specification.specs.Layout.{LayoutM}
 use Rattle.specification.specs.Outcome.{Check, refused, pass, refuseIf, ◌>>◌}
 use Rattle.specification.specs.Views.{leastExtent, strideSum, strideFault, members, sumFaults}
+use Rattle.view.specs.Ties.{rooted_at, fused_fault}
 use Rattle.view.proofs.ChainLaws.{then-pass, then-assoc}
 use Rattle.view.proofs.RangeLaws.{passing, passing-zero, passing-yes, passing-no}
 
@@ -76,46 +77,67 @@ unfolding strideFault
 three-stride z [] = inl refl
 three-stride z (a ∷ axes) = three-then (three-if (not (fits (z +ℤ a.stride)))) (three-stride (z +ℤ a.stride) axes)
 
-module _ (l : LayoutM) (pairs : List (ℕ × ℕ)) where
+module _ (axes : List Axis) (roots : List ℕ) where
   abbrev classFault : ℕ → Check
-  classFault a = strideFault (pos 0) (members l pairs a)
+  classFault a = strideFault (pos 0) (rooted_at axes roots a)
 
-  three-sums : (ks : List ℕ) → Three (sumFaults l pairs ks)
-  unfolding sumFaults
+  three-sums : (ks : List ℕ) → Three (fused_fault axes roots ks)
+  unfolding fused_fault
   three-sums [] = inl refl
-  three-sums (k ∷ ks) = three-then (three-stride (pos 0) (members l pairs k)) (three-sums ks)
+  three-sums (k ∷ ks) = three-then (three-stride (pos 0) (rooted_at axes roots k)) (three-sums ks)
 
-  sums-last : (ks : List ℕ) (k : ℕ) → sumFaults l pairs (ks ++ (k ∷ [])) ≡ (sumFaults l pairs ks >> classFault k)
-  unfolding sumFaults ◌>>◌
+  sums-last : (ks : List ℕ) (k : ℕ) → fused_fault axes roots (ks ++ (k ∷ [])) ≡ (fused_fault axes roots ks >> classFault k)
+  unfolding fused_fault ◌>>◌
   sums-last [] k = then-pass (classFault k)
-  sums-last (j ∷ ks) k = ap (λ (c : Check). classFault j >> c) (sums-last ks k) ∙ sym (then-assoc (classFault j) (sumFaults l pairs ks) (classFault k))
+  sums-last (j ∷ ks) k = ap (λ (c : Check). classFault j >> c) (sums-last ks k) ∙ sym (then-assoc (classFault j) (fused_fault axes roots ks) (classFault k))
 
-  pub sums-pass : (test : ℕ → Bool) (n : ℕ) → ((k : ℕ) → k < n → test k ≡ true → classFault k ≡ pass) → sumFaults l pairs (passing test n) ≡ pass
-  unfolding sumFaults ◌>>◌
+  pub sums-pass : (test : ℕ → Bool) (n : ℕ) → ((k : ℕ) → k < n → test k ≡ true → classFault k ≡ pass) → fused_fault axes roots (passing test n) ≡ pass
+  unfolding fused_fault ◌>>◌
   sums-pass test zero each = rw (passing-zero test)
   sums-pass test (suc n) each = let e : suc n ≡ n + 1 = omega arith in rw e (by (test n) refl (sums-pass test n (λ k h. each k (omega arith))))
     where
-      by : (s : Bool) → test n ≡ s → sumFaults l pairs (passing test n) ≡ pass → sumFaults l pairs (passing test (n + 1)) ≡ pass
+      by : (s : Bool) → test n ≡ s → fused_fault axes roots (passing test n) ≡ pass → fused_fault axes roots (passing test (n + 1)) ≡ pass
       by true e ih = rw (passing-yes test n e, sums-last (passing test n) n, ih) (each n (omega arith) e)
       by false e ih = rw (passing-no test n e) ih
 
-  pub sums-refused : (test : ℕ → Bool) (n k : ℕ) → k < n → test k ≡ true → classFault k ≡ refused 3 [] → sumFaults l pairs (passing test n) ≡ refused 3 []
+  pub sums-refused : (test : ℕ → Bool) (n k : ℕ) → k < n → test k ≡ true → classFault k ≡ refused 3 [] → fused_fault axes roots (passing test n) ≡ refused 3 []
   unfolding ◌>>◌
   sums-refused test zero k h e f = absurd (omega arith)
   sums-refused test (suc n) k h e f = let q : suc n ≡ n + 1 = omega arith in rw q (by (eqb k n) refl (λ r. sums-refused test n k r e f))
     where
-      either : Three (sumFaults l pairs (passing test n)) → ◌≡◌ {A = Check} (sumFaults l pairs (passing test n) >> refused 3 []) (refused 3 [])
+      either : Three (fused_fault axes roots (passing test n)) → ◌≡◌ {A = Check} (fused_fault axes roots (passing test n) >> refused 3 []) (refused 3 [])
       either (inl p) = rw p
       either (inr p) = rw p
 
-      further : (s : Bool) → test n ≡ s → sumFaults l pairs (passing test n) ≡ refused 3 [] → sumFaults l pairs (passing test (n + 1)) ≡ refused 3 []
+      further : (s : Bool) → test n ≡ s → fused_fault axes roots (passing test n) ≡ refused 3 [] → fused_fault axes roots (passing test (n + 1)) ≡ refused 3 []
       further true p ih = rw (passing-yes test n p, sums-last (passing test n) n, ih)
       further false p ih = rw (passing-no test n p) ih
 
-      by : (s : Bool) → eqb k n ≡ s → (k < n → sumFaults l pairs (passing test n) ≡ refused 3 []) → sumFaults l pairs (passing test (n + 1)) ≡ refused 3 []
+      by : (s : Bool) → eqb k n ≡ s → (k < n → fused_fault axes roots (passing test n) ≡ refused 3 []) → fused_fault axes roots (passing test (n + 1)) ≡ refused 3 []
       by true p ih =
           let r : n ≡ k = sym (eqb-true k n p) in
           rw (passing-yes test n (ap test r ∙ e), sums-last (passing test n) n, ap classFault r ∙ f) (either (three-sums (passing test n)))
       by false p ih =
           let r : k ≡ n → ⊥ = eqb-false k n p in
           further (test n) refl (ih (omega arith))
+
+-- ---- the refusals by pairs are those by roots, where the classes are
+
+module _ (l : LayoutM) (pairs : List (ℕ × ℕ)) (roots : List ℕ) where
+  faults-last : (ks : List ℕ) (k : ℕ) → sumFaults l pairs (ks ++ (k ∷ [])) ≡ (sumFaults l pairs ks >> strideFault (pos 0) (members l pairs k))
+  unfolding sumFaults ◌>>◌
+  faults-last [] k = then-pass (strideFault (pos 0) (members l pairs k))
+  faults-last (j ∷ ks) k =
+      let c = λ (a : ℕ). strideFault (pos 0) (members l pairs a) in
+      ap (λ (f : Check). c j >> f) (faults-last ks k) ∙ sym (then-assoc (c j) (sumFaults l pairs ks) (c k))
+
+  pub faults-same : (test : ℕ → Bool) (n : ℕ) → ((k : ℕ) → k < n → test k ≡ true → members l pairs k ≡ rooted_at l.axes roots k)
+      → sumFaults l pairs (passing test n) ≡ fused_fault l.axes roots (passing test n)
+  unfolding sumFaults fused_fault
+  faults-same test zero same = rw (passing-zero test)
+  faults-same test (suc n) same = let e : suc n ≡ n + 1 = omega arith in rw e (by (test n) refl (faults-same test n (λ k h. same k (omega arith))))
+    where
+      by : (s : Bool) → test n ≡ s → sumFaults l pairs (passing test n) ≡ fused_fault l.axes roots (passing test n)
+          → sumFaults l pairs (passing test (n + 1)) ≡ fused_fault l.axes roots (passing test (n + 1))
+      by true e ih = rw (passing-yes test n e, faults-last (passing test n) n, sums-last l.axes roots (passing test n) n, ih, same n (omega arith) e)
+      by false e ih = rw (passing-no test n e) ih

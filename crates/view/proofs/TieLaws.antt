@@ -1,73 +1,61 @@
--- Pairs one after another: what they refuse, what they tie, and the roots after one pair more.
-use Rattle.std.specs.Prelude.{if◌then◌else◌, Ok}
+-- Pairs one after another: what they refuse, what they tie, and what the roots say once they are tied.
+use Rattle.std.specs.Prelude.{if◌then◌else◌}
 use mathlib.Core.Path.{◌≡◌, refl, sym, ap, subst, ◌∙◌}
 use mathlib.Core.Bool.{Bool, true, false}
-use mathlib.Core.List.{List, [], ◌∷◌, ◌++◌, map}
+use mathlib.Core.List.{List, [], ◌∷◌, ◌++◌, append-nil, append_assoc}
 use mathlib.Core.Logic.{◌⊎◌, inl, inr}
 use Prim.Native.Nat.{ℕ, zero, suc, ◌+◌, ◌≤◌, ◌<◌, max, min}
 use native.Mathlib.Decide.{dec_le}
 use native.Mathlib.Omega.{arith}
 use lib.Dec.{eqb, leb}
-use lib.ListN.{length, get_or}
+use lib.ListN.{length, length-map}
+use Rattle.std.proofs.lemmas.List.{get_or-map}
 use borrow.Author.Tests.{le-leb, lt-leb, eq-eqb, ne_eqb, leb-false, eqb-true, eqb-false}
 use Rattle.specification.specs.Tests.{up_from}
-use Rattle.specification.specs.Outcome.{Check, refused, pass, refuseIf, ◌>>◌}
+use Rattle.specification.specs.Outcome.{refused, pass, refuseIf, ◌>>◌}
 use Rattle.specification.specs.Tied.{Among, Tied, itself, pair, turned, chain}
 use Rattle.specification.specs.Views.{pairFault}
 use Rattle.specification.proofs.OutcomeLaws.{clash, passed}
-use Rattle.view.specs.Answers.{outcomeOf}
-use Rattle.view.specs.Ties.{rootAt, TiesOf, renamed}
+use Rattle.view.specs.Ties.{rootAt, own_roots, renamed, joined, joined_all}
 use Rattle.view.specs.declared.diagonal.Ties.{Ties}
-use Rattle.view.proofs.ChainLaws.{then-assoc}
 
 -- ---- what pairs refuse
 
-fault-append : (rank : ℕ) (ps qs : List (ℕ × ℕ)) → pairFault rank (ps ++ qs) ≡ (pairFault rank ps >> pairFault rank qs)
-unfolding pairFault ◌>>◌
-fault-append rank [] qs = refl
-fault-append rank (p ∷ ps) qs =
-    ap (λ (z : Check). first >> (second >> z)) (fault-append rank ps qs)
-    ∙ sym (then-assoc first (second >> pairFault rank ps) (pairFault rank qs) ∙ ap (λ (z : Check). first >> z) (then-assoc second (pairFault rank ps) (pairFault rank qs)))
-  where
-    first : Check
-    first = refuseIf (leb rank (max p.0 p.1)) 5 (max p.0 p.1 ∷ rank ∷ [])
-
-    second : Check
-    second = refuseIf (eqb p.0 p.1) 5 (p.0 ∷ rank ∷ [])
-
--- the pairs and one more
-abbrev more : List (ℕ × ℕ) → ℕ → ℕ → List (ℕ × ℕ)
-more ps a b = ps ++ ((a, b) ∷ [])
-
-module _ (rank : ℕ) (ps : List (ℕ × ℕ)) (a b : ℕ) where
-  pub fault-stays : {number : ℕ} {values : List ℕ} → pairFault rank ps ≡ refused number values → pairFault rank (more ps a b) ≡ refused number values
-  unfolding ◌>>◌
-  fault-stays e = fault-append rank ps ((a, b) ∷ []) ∙ rw e
-
-  pub fault-outside : pairFault rank ps ≡ pass → rank ≤ max a b → pairFault rank (more ps a b) ≡ refused 5 (max a b ∷ rank ∷ [])
+module _ (rank a b : ℕ) where
+  pub fault_outside : rank ≤ max a b → pairFault rank ((a, b) ∷ []) ≡ refused 5 (max a b ∷ rank ∷ [])
   unfolding pairFault refuseIf ◌>>◌
-  fault-outside e h = fault-append rank ps ((a, b) ∷ []) ∙ rw (e, le-leb rank (max a b) h)
+  fault_outside h = rw (le-leb rank (max a b) h)
 
-  pub fault-equal : pairFault rank ps ≡ pass → max a b < rank → a ≡ b → pairFault rank (more ps a b) ≡ refused 5 (a ∷ rank ∷ [])
+  pub fault_equal : max a b < rank → a ≡ b → pairFault rank ((a, b) ∷ []) ≡ refused 5 (a ∷ rank ∷ [])
   unfolding pairFault refuseIf ◌>>◌
-  fault-equal e h k = fault-append rank ps ((a, b) ∷ []) ∙ rw (e, lt-leb rank (max a b) h, eq-eqb a b k)
+  fault_equal h k = rw (lt-leb rank (max a b) h, eq-eqb a b k)
 
-  pub fault-none : pairFault rank ps ≡ pass → max a b < rank → (a ≡ b → ⊥) → pairFault rank (more ps a b) ≡ pass
+  pub fault_none : max a b < rank → (a ≡ b → ⊥) → pairFault rank ((a, b) ∷ []) ≡ pass
   unfolding pairFault refuseIf ◌>>◌
-  fault-none e h k = fault-append rank ps ((a, b) ∷ []) ∙ rw (e, lt-leb rank (max a b) h, ne_eqb a b k)
+  fault_none h k = rw (lt-leb rank (max a b) h, ne_eqb a b k)
 
--- pairs that are not refused are below the rank
-pair-below : (rank : ℕ) (ps : List (ℕ × ℕ)) → pairFault rank ps ≡ pass → (q : ℕ × ℕ) → Among q ps → (q.0 < rank) × (q.1 < rank)
+-- a first pair that is let pass, and one that is not
+module _ {rank same : ℕ} (e : same ≡ rank) (p : ℕ × ℕ) (rest : List (ℕ × ℕ)) where
+  pub fault-next : pass ≡ pairFault same (p ∷ []) → pairFault rank (p ∷ rest) ≡ pairFault rank rest
+  unfolding pairFault refuseIf ◌>>◌
+  fault-next f =
+      let x = passed (leb rank (max p.0 p.1)) 5 (max p.0 p.1 ∷ rank ∷ []) (ap (λ (n : ℕ). pairFault n (p ∷ [])) (sym e) ∙ sym f) in
+      let y = passed (eqb p.0 p.1) 5 (p.0 ∷ rank ∷ []) x.1 in
+      rw (x.0, y.0)
+
+  pub fault-here : {number : ℕ} {values : List ℕ} → refused number values ≡ pairFault same (p ∷ []) → pairFault rank (p ∷ rest) ≡ refused number values
+  unfolding pairFault ◌>>◌ refuseIf
+  fault-here f = by (leb rank (max p.0 p.1)) (eqb p.0 p.1) (ap (λ (n : ℕ). pairFault n (p ∷ [])) (sym e) ∙ sym f)
+    where
+      by : {number : ℕ} {values : List ℕ} (t u : Bool) → (refuseIf t 5 (max p.0 p.1 ∷ rank ∷ []) >> (refuseIf u 5 (p.0 ∷ rank ∷ []) >> pass)) ≡ refused number values
+          → (refuseIf t 5 (max p.0 p.1 ∷ rank ∷ []) >> (refuseIf u 5 (p.0 ∷ rank ∷ []) >> pairFault rank rest)) ≡ refused number values
+      by true u e = e
+      by false true e = e
+      by false false e = absurd (clash e)
+
+pub fault-empty : (rank : ℕ) → pairFault rank [] ≡ pass
 unfolding pairFault
-pair-below rank [] e q m = absurd m
-pair-below rank (p ∷ ps) e q m =
-    let x = passed (leb rank (max p.0 p.1)) 5 (max p.0 p.1 ∷ rank ∷ []) e in
-    let y = passed (eqb p.0 p.1) 5 (p.0 ∷ rank ∷ []) x.1 in
-    by m (leb-false rank (max p.0 p.1) x.0) (pair-below rank ps y.1 q)
-  where
-    by : Among q (p ∷ ps) → max p.0 p.1 < rank → (Among q ps → (q.0 < rank) × (q.1 < rank)) → (q.0 < rank) × (q.1 < rank)
-    by (inl is) h rest = rw is (omega arith)
-    by (inr n) h rest = rest n
+fault-empty rank = refl
 
 -- ---- what pairs tie
 
@@ -103,6 +91,17 @@ tied-alike roots each (pair q m) = each q m
 tied-alike roots each (turned t) = sym (tied-alike roots each t)
 tied-alike roots each (chain t u) = tied-alike roots each t ∙ tied-alike roots each u
 
+-- ---- what roots say
+
+-- of the classes of these pairs: the axes of each pair are below 16; a root for each axis, which is not above the axis and is tied to it;
+-- and one root for all axes that are tied, so that it is the lowest of them
+pub record RootsOf (pairs : List (ℕ × ℕ)) (roots : List ℕ) : Type 0 where
+  pub long : length roots ≡ 16
+  pub below : (q : ℕ × ℕ) → Among q pairs → (q.0 < 16) × (q.1 < 16)
+  pub low : (a : ℕ) → a < 16 → rootAt roots a ≤ a
+  pub tied : (a : ℕ) → a < 16 → Tied pairs a (rootAt roots a)
+  pub alike : (a b : ℕ) → Tied pairs a b → rootAt roots a ≡ rootAt roots b
+
 -- ---- no pair
 
 root-upFrom : (k n a : ℕ) → a < n → rootAt (up_from k n) a ≡ k + a
@@ -111,46 +110,32 @@ root-upFrom k zero a h = absurd (omega arith)
 root-upFrom k (suc n) zero h = omega arith
 root-upFrom k (suc n) (suc a) h = root-upFrom (suc k) n a (omega arith) ∙ omega arith
 
+length-own : length own_roots ≡ 16
+unfolding up_from
+length-own = refl
+
 -- each axis is its own root
-pub ties-none : (rank : ℕ) (u : Ties) → rank ≤ 16 → u.rank ≡ rank → u.answer ≡ (Ok tt) → u.roots ≡ up_from 0 16 → TiesOf rank [] u
-unfolding pairFault
-ties-none rank u few same_rank e own = record {
-  few = few;
-  rank_is = same_rank;
-  answer-is = ap outcomeOf e;
+roots-none : RootsOf [] own_roots
+roots-none = record {
+  long = length-own;
+  below = λ q m. absurd m;
   low = λ a h. omega (arith, root a h);
   tied = λ a h. rw (root a h) itself;
-  alike = λ p a b. tied-alike u.roots (λ q m. absurd m);
+  alike = λ a b. tied-alike own_roots (λ q m. absurd m);
 }
   where
-    root : (a : ℕ) → a < 16 → rootAt u.roots a ≡ a
-    root a h = ap (λ (l : List ℕ). rootAt l a) own ∙ root-upFrom 0 16 a h ∙ omega arith
-
--- ---- one pair more
-
-module _ {rank : ℕ} {ps : List (ℕ × ℕ)} {t : Ties} (of : TiesOf rank ps t) (a b : ℕ) (u : Ties) (same_rank : u.rank ≡ t.rank)
-    (answer : outcomeOf u.answer ≡ pairFault rank (more ps a b)) where
-  -- where a pair is refused the roots stay
-  pub ties-refused : u.roots ≡ t.roots → {number : ℕ} {values : List ℕ} → pairFault rank (more ps a b) ≡ refused number values → TiesOf rank (more ps a b) u
-  ties-refused same-roots e = record {
-    few = of.few;
-    rank_is = same_rank ∙ of.rank_is;
-    answer-is = answer;
-    low = rw same-roots of.low;
-    tied = rw same-roots (λ x h. tied-wider ((a, b) ∷ []) (of.tied x h));
-    alike = λ p. absurd (clash (sym p ∙ e));
-  }
+    root : (a : ℕ) → a < 16 → rootAt own_roots a ≡ a
+    root a h = root-upFrom 0 16 a h ∙ omega arith
 
 -- ---- two classes under the lower root
 
-get_d_map : (f : ℕ → ℕ) (l : List ℕ) (i : ℕ) → i < length l → get_or (map f l) i 0 ≡ f (get_or l i 0)
-get_d_map f [] i h = absurd (omega arith)
-get_d_map f (x ∷ l) zero h = refl
-get_d_map f (x ∷ l) (suc i) h = get_d_map f l i (omega arith)
+-- the pairs and one more
+abbrev more : List (ℕ × ℕ) → ℕ → ℕ → List (ℕ × ℕ)
+more ps a b = ps ++ ((a, b) ∷ [])
 
-module _ {rank : ℕ} {ps : List (ℕ × ℕ)} {t : Ties} (of : TiesOf rank ps t) (a b : ℕ) (in-rank : max a b < rank) (size : length t.roots ≡ 16) where
+module _ {ps : List (ℕ × ℕ)} {roots : List ℕ} (of : RootsOf ps roots) (a b : ℕ) (within : max a b < 16) where
   abbrev old : ℕ → ℕ
-  old = rootAt t.roots
+  old = rootAt roots
 
   abbrev higher : ℕ
   higher = max (old a) (old b)
@@ -158,13 +143,13 @@ module _ {rank : ℕ} {ps : List (ℕ × ℕ)} {t : Ties} (of : TiesOf rank ps t
   abbrev lower : ℕ
   lower = min (old a) (old b)
 
-  abbrev joined : List ℕ
-  joined = map (renamed higher lower) t.roots
+  abbrev new : List ℕ
+  new = joined roots (a, b)
 
-  joined_at : (x : ℕ) → x < 16 → rootAt joined x ≡ renamed higher lower (old x)
-  joined_at x h = get_d_map (renamed higher lower) t.roots x (omega arith)
+  joined_at : (x : ℕ) → x < 16 → rootAt new x ≡ renamed higher lower (old x)
+  joined_at x h = get_or-map (renamed higher lower) roots x 0 0 (omega (arith, of.long))
 
-  joined-low : (x : ℕ) → x < 16 → rootAt joined x ≤ x
+  joined-low : (x : ℕ) → x < 16 → rootAt new x ≤ x
   joined-low x h = rw (joined_at x h) (by (eqb (old x) higher) (eqb-true (old x) higher))
     where
       by : (s : Bool) → (s ≡ true → old x ≡ higher) → (if s then lower else old x) ≤ x
@@ -172,8 +157,8 @@ module _ {rank : ℕ} {ps : List (ℕ × ℕ)} {t : Ties} (of : TiesOf rank ps t
       by false e = of.low x h
 
   both_tied : Tied (more ps a b) (old a) (old b)
-  both_tied = chain (turned (tied-wider ((a, b) ∷ []) (of.tied a (omega (arith, of.few)))))
-      (chain (pair (a, b) (among-last ps (a, b))) (tied-wider ((a, b) ∷ []) (of.tied b (omega (arith, of.few)))))
+  both_tied = chain (turned (tied-wider ((a, b) ∷ []) (of.tied a (omega arith))))
+      (chain (pair (a, b) (among-last ps (a, b))) (tied-wider ((a, b) ∷ []) (of.tied b (omega arith))))
 
   higher-lower : Tied (more ps a b) higher lower
   higher-lower = by (dec_le (old a) (old b))
@@ -182,7 +167,7 @@ module _ {rank : ℕ} {ps : List (ℕ × ℕ)} {t : Ties} (of : TiesOf rank ps t
       by (yes h) = let p : higher ≡ old b = omega arith in let q : lower ≡ old a = omega arith in rw (p, q) (turned both_tied)
       by (no n) = let p : higher ≡ old a = omega arith in let q : lower ≡ old b = omega arith in rw (p, q) both_tied
 
-  joined-tied : (x : ℕ) → x < 16 → Tied (more ps a b) x (rootAt joined x)
+  joined-tied : (x : ℕ) → x < 16 → Tied (more ps a b) x (rootAt new x)
   joined-tied x h = rw (joined_at x h) (by (eqb (old x) higher) (eqb-true (old x) higher) (tied-wider ((a, b) ∷ []) (of.tied x h)))
     where
       by : (s : Bool) → (s ≡ true → old x ≡ higher) → Tied (more ps a b) x (old x) → Tied (more ps a b) x (if s then lower else old x)
@@ -201,21 +186,45 @@ module _ {rank : ℕ} {ps : List (ℕ × ℕ)} {t : Ties} (of : TiesOf rank ps t
       by true n = refl
       by false n = other w (n refl)
 
-  joined-each : pairFault rank ps ≡ pass → (q : ℕ × ℕ) → Among q (more ps a b) → rootAt joined q.0 ≡ rootAt joined q.1
-  joined-each p q m = by (among_cases q ps (a, b) m)
+  joined-each : (q : ℕ × ℕ) → Among q (more ps a b) → rootAt new q.0 ≡ rootAt new q.1
+  joined-each q m = by (among_cases q ps (a, b) m)
     where
-      by : Among q ps ⊎ (q ≡ (a, b)) → rootAt joined q.0 ≡ rootAt joined q.1
+      by : Among q ps ⊎ (q ≡ (a, b)) → rootAt new q.0 ≡ rootAt new q.1
       by (inl n) =
-          let w = pair-below rank ps p q n in
-          joined_at q.0 (omega (arith, of.few)) ∙ ap (renamed higher lower) (of.alike p q.0 q.1 (pair q n)) ∙ sym (joined_at q.1 (omega (arith, of.few)))
-      by (inr e) = rw e (joined_at a (omega (arith, of.few)) ∙ to-lower (old a) (inl refl) ∙ sym (joined_at b (omega (arith, of.few)) ∙ to-lower (old b) (inr refl)))
+          let w = of.below q n in
+          joined_at q.0 (omega arith) ∙ ap (renamed higher lower) (of.alike q.0 q.1 (pair q n)) ∙ sym (joined_at q.1 (omega arith))
+      by (inr e) = rw e (joined_at a (omega arith) ∙ to-lower (old a) (inl refl) ∙ sym (joined_at b (omega arith) ∙ to-lower (old b) (inr refl)))
 
-  pub ties-joined : (u : Ties) → u.rank ≡ t.rank → u.answer ≡ (Ok tt) → u.roots ≡ joined → pairFault rank ps ≡ pass → pairFault rank (more ps a b) ≡ pass → TiesOf rank (more ps a b) u
-  ties-joined u same_rank e new p q = record {
-    few = of.few;
-    rank_is = same_rank ∙ of.rank_is;
-    answer-is = ap outcomeOf e ∙ sym q;
-    low = rw new joined-low;
-    tied = rw new joined-tied;
-    alike = λ _ x y w. rw new (tied-alike joined (joined-each p) w);
+  roots-joined : RootsOf (more ps a b) new
+  roots-joined = record {
+    long = length-map roots (renamed higher lower) ∙ of.long;
+    below = λ q m. is-below q (among_cases q ps (a, b) m);
+    low = joined-low;
+    tied = joined-tied;
+    alike = λ x y w. tied-alike new joined-each w;
   }
+    where
+      is-below : (q : ℕ × ℕ) → Among q ps ⊎ (q ≡ (a, b)) → (q.0 < 16) × (q.1 < 16)
+      is-below q (inl n) = of.below q n
+      is-below q (inr e) = rw e (omega arith)
+
+-- ---- pairs one after another
+
+roots-all : (rank : ℕ) {ps : List (ℕ × ℕ)} {roots : List ℕ} → rank ≤ 16 → RootsOf ps roots → (rest : List (ℕ × ℕ)) → pairFault rank rest ≡ pass
+    → RootsOf (ps ++ rest) (joined_all roots rest)
+unfolding pairFault
+roots-all rank {ps} few of [] e = rw append-nil of
+roots-all rank {ps} {roots} few of (p ∷ rest) e =
+    let x = passed (leb rank (max p.0 p.1)) 5 (max p.0 p.1 ∷ rank ∷ []) e in
+    let y = passed (eqb p.0 p.1) 5 (p.0 ∷ rank ∷ []) x.1 in
+    let h : max p.0 p.1 < rank = leb-false rank (max p.0 p.1) x.0 in
+    subst (λ (l : List (ℕ × ℕ)). RootsOf l (joined_all (joined roots p) rest)) (append_assoc ps (p ∷ []) rest)
+    (roots-all rank {ps = more ps p.0 p.1} {roots = joined roots p} few (roots-joined of p.0 p.1 (omega arith)) rest y.1)
+
+pub roots-of : (rank : ℕ) (pairs : List (ℕ × ℕ)) → rank ≤ 16 → pairFault rank pairs ≡ pass → RootsOf pairs (joined_all own_roots pairs)
+roots-of rank pairs few e = roots-all rank few roots-none pairs e
+
+-- ---- as a struct
+
+pub same-ties : (t u : Ties) → t.roots ≡ u.roots → t.rank ≡ u.rank → t ≡ u
+same-ties t u e f = λ i. record { roots = e i; rank = f i }

@@ -1,7 +1,8 @@
 -- Refusals and answers in the numbers and values of 01's table.
-use Rattle.std.specs.Prelude.{List, [], ◌∷◌, ℕ, Err, Ok, Result}
+use Rattle.std.specs.Prelude.{List, [], ◌∷◌, take, ℕ, Err, Ok, Result}
 use Rattle.specification.specs.Outcome.{Outcome, Check, done, refused, pass}
 use Rattle.view.specs.declared.layout.Refusal.{Refusal}
+use Rattle.view.specs.declared.values.Values.{Values}
 use Rattle.view.specs.declared.layout.Refusal.TheVariants.{TooManyAxes, LengthsDiffer, OutOfRange, WrongLength, BadAxis, BadExtent, BadIndex, TooManyPositions, ShortScratch, ShortOutput, NotARecord}
 
 -- the number of the row
@@ -32,10 +33,18 @@ values_of (ShortScratch words) = words ∷ []
 values_of (ShortOutput bytes) = bytes ∷ []
 values_of NotARecord = []
 
--- an answer as a rule's outcome
+-- the values that stand in a struct
+abbrev pub listed : Values → List ℕ
+listed v = take v.count v.values
+
+-- an answer as a rule's outcome: what its result stands for, or the refusal with its number and values
+abbrev pub outcome_by : {A B : Type 0} → (A → B) → Result A Refusal → Outcome B
+outcome_by meaning (Ok a) = done (meaning a)
+outcome_by meaning (Err why) = refused (number_of why) (values_of why)
+
+-- an answer whose result stands for itself
 abbrev pub outcomeOf : {A : Type 0} → Result A Refusal → Outcome A
-outcomeOf (Ok a) = done a
-outcomeOf (Err why) = refused (number_of why) (values_of why)
+outcomeOf = outcome_by (λ a. a)
 
 -- an outcome without its result
 abbrev pub answer_of : {A : Type 0} → Outcome A → Check

@@ -1,8 +1,8 @@
 -- The number of positions, as the code answers it.
-use Rattle.std.specs.Prelude.{not, ◌&&◌, List, [], ℕ, ltb}
+use Rattle.std.specs.Prelude.{not, ◌&&◌, List, [], ◌∷◌, map, ◌≡◌, refl, ℕ, ltb}
 use Rattle.integer.specs.Range.{mostUnsigned}
 use Rattle.specification.specs.Outcome.{Outcome, done, refuseIf, ◌>>◌}
-use Rattle.specification.specs.Axis.{Axis, product, positions}
+use Rattle.specification.specs.Axis.{Axis, extents, product, positions}
 use Rattle.specification.specs.Beside.{zeroAmong}
 use Rattle.specification.specs.Layout.{tooLong}
 use Rattle.specification.specs.Normal.{overfull}
@@ -18,3 +18,13 @@ elementCount extents =
 -- (`ElementCountClaims.of-axes`), so that strides do not matter
 unfoldable pub count_of : List Axis → Outcome ℕ
 count_of axes = refuseIf (overfull axes) 8 [] >> done (positions axes)
+
+-- a list is its own extents, one by one
+pub map-same : (list : List ℕ) → list ≡ map (λ n. n) list
+map-same [] = refl
+map-same (n ∷ rest) = rw (← map-same rest)
+
+-- the extents of axes, one by one
+pub extents-map : (axes : List Axis) → extents axes ≡ map (λ a. a.extent) axes
+extents-map [] = refl
+extents-map (a ∷ rest) = rw (extents-map rest)

@@ -1,11 +1,11 @@
 -- The offset of an index vector, as the code answers it.
 use Rattle.view.specs.declared.layout.Refusal.{Refusal}
 use Rattle.view.specs.declared.layout.ReadingOffset.{ReadingOffset}
-use Rattle.std.specs.Prelude.{not, ◌||◌, [], ℕ, ltb, ℤ, ◌+ℤ◌, Err, Ok, Result}
+use Rattle.std.specs.Prelude.{not, ◌||◌, [], ℕ, ltb, ℤ, ◌+ℤ◌, Result}
 use Rattle.integer.specs.Multiple.{◌·◌}
 use Rattle.integer.specs.Range.{fits, mostSigned}
-use Rattle.specification.specs.Outcome.{Outcome, done, refused, refuseIf, ◌>>◌}
-use Rattle.view.specs.Answers.{number_of, values_of}
+use Rattle.specification.specs.Outcome.{Outcome, done, refuseIf, ◌>>◌}
+use Rattle.view.specs.Answers.{outcome_by}
 
 -- the sum after an index, or refusal 3
 unfoldable pub addedOf : ℤ → ℕ → ℤ → Outcome ℤ
@@ -15,5 +15,4 @@ addedOf sum index stride =
 
 -- the offset, or the refusal with its number and values
 abbrev pub indexedOf : Result ReadingOffset Refusal → Outcome ℤ
-indexedOf (Ok offset) = done offset.0
-indexedOf (Err why) = refused (number_of why) (values_of why)
+indexedOf = outcome_by (λ offset. offset.0)

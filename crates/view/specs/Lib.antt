@@ -1,11 +1,10 @@
 pub mod Answers
 pub mod Model
-pub mod InPlace
 pub mod Bounded
 pub mod Reach
 pub mod Refusals
+pub mod Ties
 pub mod Count
 pub mod AnswerClaims
-pub mod Indexed
-pub mod Ties
 pub mod Claims
+pub mod Indexed

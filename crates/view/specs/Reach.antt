@@ -1,14 +1,15 @@
 -- How far the offsets of a layout reach, as the code answers it.
-use Rattle.std.specs.Prelude.{Bool, true, false, not, ◌&&◌, ◌≡◌, List, [], ℕ, ◌-◌, ◌≤◌, ltb, leb, ℤ, if◌then◌else◌, None, Option, Some}
+use Rattle.std.specs.Prelude.{Bool, not, ◌&&◌, ◌||◌, List, [], ℕ, ◌^◌, leb, ltb, ℤ, pos, if◌then◌else◌, None, Option, Some}
+use Rattle.std.specs.List.{list_all}
+use Rattle.std.specs.Int.Signed.{le_z, lt_z}
 use Rattle.integer.specs.Range.{mostSigned}
-use Rattle.specification.specs.Tests.{some}
-use Rattle.specification.specs.Outcome.{Outcome, done, refused, refuseIf, ◌>>◌}
-use Rattle.specification.specs.Axis.{Axis, axesOf, is_empty, upward, downward}
+use Rattle.specification.specs.Axis.{Axis, extents, upward, downward, is_empty}
 use Rattle.specification.specs.Beside.{zeroAmong}
-use Rattle.specification.specs.CheckIn.{tooWide}
-use Rattle.specification.specs.Layout.{LayoutM, lowest, highest, inReach}
+use Rattle.specification.specs.Layout.{LayoutM, lowest, highest, inReach, tooLong}
+use Rattle.specification.specs.Outcome.{Outcome, Check, done, refused, refuseIf, ◌>>◌}
 use Rattle.view.specs.declared.bounds.Reach.{Reach}
 use Rattle.view.specs.declared.bounds.Reach.TheVariants.{Empty, Between, Outside}
+use Rattle.view.specs.declared.layout.ReadingOffset.{ReadingOffset}
 use Rattle.view.specs.declared.bounds.Spans.{Spans}
 
 -- the lowest and the highest offset, or none where there is no position
@@ -37,21 +38,29 @@ abbrev pub spansUpTo : ℕ → ℕ → List Axis → Option Spans
 spansUpTo above below axes =
     if leb (upward axes) above && leb (downward axes) below then sums (upward axes) (downward axes) else None
 
--- an active extent minus 1 above 2^63 - 1: `tooWide` of an axis with this extent
-abbrev pub tooWideExtent : ℕ → Bool
-tooWideExtent n = ltb 1 n && ltb mostSigned (n - 1)
+-- the two ends are accepted: the rule after the table for a layout that is not empty
+abbrev pub within : LayoutM → Bool
+within l = le_z (pos 0) (lowest l) && le_z (highest l) (pos mostSigned) && lt_z (highest l) (pos l.buffer)
 
--- two sums that are those of the spans, each at most its limit, of extents that are not 0 and not too wide
-pub record SmallSpans (above below : ℕ) (extents : List ℕ) (strides : List ℤ) (up down : ℕ) : Type 0 where
-  pub up_is : up ≡ upward (axesOf extents strides)
-  pub down_is : down ≡ downward (axesOf extents strides)
-  pub up-most : up ≤ above
-  pub down-most : down ≤ below
-  pub none-zero : zeroAmong extents ≡ false
-  pub none-wide : some tooWideExtent extents ≡ false
+-- two offsets, as the code hands them on
+abbrev pub ends_told : Option (ReadingOffset × ReadingOffset) → Option Ends
+ends_told None = None
+ends_told (Some both) = Some (ends both.0.0 both.1.0)
 
--- a layout that is not empty, has no extent that is too wide, and is in reach
-pub record PlainlyWithin (l : LayoutM) : Type 0 where
-  pub not-empty : is_empty l.axes ≡ false
-  pub not_wide : some tooWide l.axes ≡ false
-  pub in_reach : inReach l ≡ true
+-- the two ends, where they are accepted
+abbrev pub accepted_ends : LayoutM → Option Ends
+accepted_ends l = if within l then Some (ends (lowest l) (highest l)) else None
+
+-- no extent minus 1 is above 2^63 - 1
+abbrev pub none_wide : List ℕ → Bool
+none_wide = list_all (λ n. leb n (2 ^ 63))
+
+-- what check-in's bounds let pass (`bounds` as one test)
+abbrev pub in_bounds : LayoutM → Bool
+in_bounds l = (within l && none_wide (extents l.axes)) || zeroAmong (extents l.axes)
+
+-- refusals 1 and 3 of a layout, with a list of so many entries
+abbrev pub handed_with : LayoutM → ℕ → Check
+handed_with l entries =
+    refuseIf (tooLong l.axes || ltb 16 entries) 1 []
+    >> refuseIf (not (inReach l)) 3 []

@@ -1,43 +1,59 @@
--- Classes of tied axes as the code keeps them: for each axis its root, the lowest axis of its class, and a mask of the roots.
-use Rattle.view.specs.declared.layout.Refusal.{Refusal}
-use Rattle.std.specs.Prelude.{Bool, true, false, List, [], ◌≡◌, ℕ, zero, suc, ◌+◌, ◌*◌, ◌^◌, ◌≤◌, ◌<◌, eqb, ltb, ℤ, get_or, if◌then◌else◌, Result}
+-- Tied axes as the code keeps them: for each axis its root, which is the lowest axis of its class; a mask of the roots; one axis for each root.
+use Rattle.std.specs.Prelude.{Bool, List, [], ◌∷◌, map, ◌≡◌, ℕ, zero, suc, ◌+◌, ◌*◌, ◌^◌, ◌≤◌, ◌<◌, max, min, eqb, pos, length, get_or, if◌then◌else◌}
+use Rattle.specification.specs.Tests.{those, up_from}
+use Rattle.specification.specs.Axis.{Axis}
+use Rattle.specification.specs.CheckIn.{bounds}
 use Rattle.specification.specs.Layout.{LayoutM, rank}
-use Rattle.specification.specs.Outcome.{refused, pass}
-use Rattle.specification.specs.Tied.{Tied}
-use Rattle.specification.specs.Views.{pairFault, kept, sumFaults, diagonalAxes}
-use Rattle.view.specs.Answers.{outcomeOf}
-use Rattle.view.specs.Model.{axesIn}
+use Rattle.specification.specs.Outcome.{Check, pass, ◌>>◌}
+use Rattle.specification.specs.Views.{After, unlessRefused, withAxes, axisAt, leastExtent, strideSum, strideFault}
+use Rattle.view.specs.declared.diagonal.AxisPair.{AxisPair}
 use Rattle.view.specs.declared.diagonal.Ties.{Ties}
 
--- roots, a rank and an answer that stand apart
-abbrev pub tiesIn : List ℕ → ℕ → Result (Unit {0}) Refusal → Ties
-tiesIn roots rank answer = record { roots = roots; rank = rank; answer = answer }
+-- a pair of axes by its two numbers
+abbrev pub pair_of : AxisPair → ℕ × ℕ
+pair_of pair = (pair.0, pair.1)
+
+-- the pairs that a list of structs holds
+abbrev pub pairsIn : List AxisPair → List (ℕ × ℕ)
+pairsIn pairs = map pair_of pairs
+
+-- ---- roots
 
 -- the root of axis a
 abbrev pub rootAt : List ℕ → ℕ → ℕ
 rootAt roots a = get_or roots a 0
 
--- what pairs make of the axes: the first refusal; a root for each axis, which is not above the axis and is tied to it;
--- and where no pair is refused, one root for all axes that are tied, so that it is the lowest of them
-pub record TiesOf (rank : ℕ) (pairs : List (ℕ × ℕ)) (t : Ties) : Type 0 where
-  pub few : rank ≤ 16
-  pub rank_is : t.rank ≡ rank
-  pub answer-is : outcomeOf t.answer ≡ pairFault rank pairs
-  pub low : (a : ℕ) → a < 16 → rootAt t.roots a ≤ a
-  pub tied : (a : ℕ) → a < 16 → Tied pairs a (rootAt t.roots a)
-  pub alike : pairFault rank pairs ≡ pass → (a b : ℕ) → Tied pairs a b → rootAt t.roots a ≡ rootAt t.roots b
-
--- what some pairs, not said which, make of the axes
-abbrev pub SomeTies : ℕ → Ties → Type 0
-SomeTies rank t = (pairs : List (ℕ × ℕ)) × TiesOf rank pairs t
-
--- the rank, and 0 of a layout that is refused for too many axes
-abbrev pub rankTo16 : ℕ → ℕ
-rankTo16 rank = if ltb 16 rank then 0 else rank
+-- where no pair is tied each of the 16 axes is its own root
+abbrev pub own_roots : List ℕ
+own_roots = up_from 0 16
 
 -- the root `to` in the place of the root `from`
 abbrev pub renamed : ℕ → ℕ → ℕ → ℕ
 renamed from to root = if eqb root from then to else root
+
+-- the roots once a pair is tied: both of its classes get the lower of their roots
+abbrev pub joined : List ℕ → ℕ × ℕ → List ℕ
+joined roots pair = map (renamed (max (rootAt roots pair.0) (rootAt roots pair.1)) (min (rootAt roots pair.0) (rootAt roots pair.1))) roots
+
+-- the roots once pairs are tied, one after another
+abbrev pub joined_all : List ℕ → List (ℕ × ℕ) → List ℕ
+joined_all roots [] = roots
+joined_all roots (pair ∷ rest) = joined_all (joined roots pair) rest
+
+-- no pair tied yet
+abbrev pub untied : ℕ → Ties
+untied rank = record { roots = own_roots; rank = rank }
+
+-- pairs tied in addition
+abbrev pub tied_by : Ties → List (ℕ × ℕ) → Ties
+tied_by ties pairs = record { roots = joined_all ties.roots pairs; rank = ties.rank }
+
+-- below n no root is above its axis, and each root is its own
+pub record Rooted (n : ℕ) (roots : List ℕ) : Type 0 where
+  pub low : (a : ℕ) → a < n → rootAt roots a ≤ a
+  pub own : (a : ℕ) → a < n → rootAt roots (rootAt roots a) ≡ rootAt roots a
+
+-- ---- the mask
 
 -- whether axis a is a root: a class stands there
 abbrev pub isRoot : List ℕ → ℕ → Bool
@@ -48,7 +64,32 @@ unfoldable pub mask_of : List ℕ → ℕ → ℕ
 mask_of roots zero = 0
 mask_of roots (suc n) = (if isRoot roots n then 1 else 0) * 2 ^ n + mask_of roots n
 
--- the first n places of two arrays hold the axis of each class, and no sum of strides is out of range; or one is
-abbrev pub FusedInto : LayoutM → List (ℕ × ℕ) → ℕ → List ℕ → List ℤ → Bool → Type 0
-FusedInto l pairs n extents strides true = (sumFaults l pairs (kept pairs (rank l)) ≡ pass) × (axesIn extents strides n ≡ diagonalAxes l pairs)
-FusedInto l pairs n extents strides false = sumFaults l pairs (kept pairs (rank l)) ≡ refused 3 []
+-- ---- one axis for each root
+
+-- the roots below n, ascending
+abbrev pub roots_below : List ℕ → ℕ → List ℕ
+roots_below roots n = those (isRoot roots) (up_from 0 n)
+
+-- the axes with root r, ascending
+abbrev pub rooted_at : List Axis → List ℕ → ℕ → List Axis
+rooted_at axes roots r = map (axisAt axes) (those (λ b. eqb (rootAt roots b) r) (up_from 0 (length axes)))
+
+-- what they become: the least extent and the sum of strides
+abbrev pub fused_at : List Axis → List ℕ → ℕ → Axis
+fused_at axes roots r = record { extent = leastExtent (rooted_at axes roots r); stride = strideSum (pos 0) (rooted_at axes roots r) }
+
+-- one axis for each root
+abbrev pub fused_axes : List Axis → List ℕ → List Axis
+fused_axes axes roots = map (fused_at axes roots) (roots_below roots (length axes))
+
+-- 3 where a partial sum of strides is out of 64 bits at one of these roots
+unfoldable pub fused_fault : List Axis → List ℕ → List ℕ → Check
+fused_fault axes roots [] = pass
+fused_fault axes roots (r ∷ rest) = strideFault (pos 0) (rooted_at axes roots r) >> fused_fault axes roots rest
+
+-- the layout with one axis for each root; or 3 of a sum or of the bounds, and the layout as it was
+unfoldable pub fused_view : LayoutM → List ℕ → After
+fused_view l roots = unlessRefused l
+    (fused_fault l.axes roots (roots_below roots (rank l))
+    >> bounds (withAxes l (fused_axes l.axes roots)))
+    (withAxes l (fused_axes l.axes roots))

@@ -1,52 +1,73 @@
-// The axes of a layout in two lent lists.
-ghost use Rattle.std.specs.Prelude.{◌≡◌, ◌≤◌, length};
-ghost use Rattle.specification.specs.Axis.{axesOf};
-ghost use Rattle.view.specs.InPlace.{afterIn};
-ghost use Rattle.view.specs.Model.{modelOf, viewedOf, axesIn};
+//! Axes as they are handed in: side by side, or as a list of extents and a list of strides.
+ghost use Rattle.std.specs.Prelude.{◌≡◌, ◌<◌, ◌≤◌, List, length};
+ghost use Rattle.specification.specs.Axis.{Axis as AxisM, axesOf, extents};
+ghost use Rattle.specification.specs.Views.{axisAt};
 
-use crate::layout::{Layout, Refusal, Viewed};
+use crate::count::Extent;
+use axis::Axis;
 
-// The axes of two lists into the first places of two others.
-pub(crate) fn copy_axes(
-    extents: &[u64],
-    strides: &[i64],
-    copied_extents: &mut [u64],
-    copied_strides: &mut [i64],
-)
-    requires alike { length extents.now ≡ length strides.now }
-    requires extents_room { length extents.now ≤ length copied_extents.old }
-    requires strides_room { length extents.now ≤ length copied_strides.old }
-    ensures { axesIn copied_extents.new copied_strides.new (length extents.now) ≡ axesOf extents.now strides.now }
-{
-    let rank = extents.len();
-    copied_extents[..rank].copy_from_slice(extents);
-    copied_strides[..rank].copy_from_slice(strides);
+/// Axes that can be read one by one.
+pub trait Axes: Copy {
+    /// What has the extents.
+    type Entry: Extent;
+
+    ghost axes_of: { Self → List AxisM };
+
+    fn entries(&self) -> &[Self::Entry]
+        ensures { Self.Entry.extents_of result.now ≡ extents (axes_of self.now) };
+
+    fn stride(&self, place: usize) -> i64
+        requires { place < length (axes_of self.now) }
+        ensures { result ≡ (axisAt (axes_of self.now) place).stride };
 }
 
-impl Layout {
-    // The layout after a view that left its axes in two arrays.
-    pub(crate) fn with_axes(
-        self,
-        extents: [u64; 16],
-        strides: [i64; 16],
-        after: Result<usize, Refusal>,
-    ) -> Viewed
-        ensures { viewedOf result ≡ afterIn (modelOf self) extents strides after }
-    {
-        match after {
-            Err(why) => Viewed {
-                layout: self,
-                answer: Err(why),
-            },
-            Ok(rank) => Viewed {
-                layout: Layout {
-                    rank,
-                    extents,
-                    strides,
-                    ..self
-                },
-                answer: Ok(()),
-            },
-        }
+impl Axes for &[Axis] {
+    type Entry = Axis;
+
+    ghost axes_of = { λ axes. axes.now };
+
+    fn entries(&self) -> &[Axis] {
+        self
+    }
+
+    fn stride(&self, place: usize) -> i64 {
+        self[place].stride
+    }
+}
+
+/// Two lists of at most 16 entries that are as long as each other.
+#[derive(Clone, Copy)]
+pub struct Lists<'a> {
+    pub extents: &'a [u64],
+    pub strides: &'a [i64],
+    ghost few: { length extents.now ≤ 16 },
+    ghost alike: { length strides.now ≡ length extents.now },
+}
+
+impl Axes for Lists<'_> {
+    type Entry = u64;
+
+    ghost axes_of = { λ lists. axesOf lists.extents.now lists.strides.now };
+
+    fn entries(&self) -> &[u64] {
+        self.extents
+    }
+
+    fn stride(&self, place: usize) -> i64 {
+        self.strides[place]
+    }
+}
+
+/// Two lists stored as axes.
+pub fn pair_into(axes: &mut [Axis], extents: &[u64], strides: &[i64])
+    requires room { length axes.old ≡ length extents.now }
+    requires alike { length strides.now ≡ length extents.now }
+    ensures { axes.new ≡ axesOf extents.now strides.now }
+{
+    for (i, &extent) in extents.iter().enumerate() {
+        axes[i] = Axis {
+            extent,
+            stride: strides[i],
+        };
     }
 }

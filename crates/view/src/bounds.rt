@@ -1,208 +1,167 @@
-// How far the offsets of a layout reach, and check-in by it.
-ghost use Rattle.std.specs.Prelude.{true, false, not, ◌&&◌, ◌≡◌, ℕ, ◌+◌, ◌-◌, length, IfSome};
-ghost use Rattle.specification.specs.Tests.{some};
-ghost use Rattle.specification.specs.Axis.{axesOf};
+//! How far the offsets of a layout reach, check-in's refusal 3, and the refusals 1 and 3 of a layout that is handed in.
+ghost use Rattle.std.specs.Prelude.{◌≡◌, ◌≤◌, length, OnOk};
 ghost use Rattle.specification.specs.CheckIn.{bounds, checkIn};
-ghost use Rattle.specification.specs.Beside.{zeroAmong};
+ghost use Rattle.specification.specs.Layout.{inReach};
 ghost use Rattle.view.specs.Answers.{outcomeOf, answer_of};
-ghost use Rattle.view.specs.Model.{modelFrom};
-ghost use Rattle.view.specs.Reach.{reachTold, reachOf, spansUpTo, tooWideExtent, SmallSpans, PlainlyWithin};
+ghost use Rattle.view.specs.Model.{modelOf, modelFrom};
+ghost use Rattle.view.specs.Reach.{spansUpTo, ends_told, accepted_ends, within, none_wide, in_bounds, handed_with, reachTold, reachOf};
 
-use crate::bounded::{bounded_product, small_product};
-use crate::layout::{ReadingOffset, Refusal};
+use crate::axes::{Axes, Lists};
+use crate::bounded::bounded_product;
+use crate::count::{Extent, has_no_position};
+use crate::layout::{Layout, MOST_AXES, ReadingOffset, Refusal};
+use axis::Axis;
 
-// The lowest and the highest offset of a layout that is not empty, where all its offsets are accepted.
-#[derive(Clone, Copy)]
+/// The lowest and the highest offset of a layout that is not empty, where all its offsets are accepted.
+#[derive(Clone, Copy, Debug, PartialEq, Eq)]
 pub enum Reach {
     Empty,
     Between(ReadingOffset, ReadingOffset),
     Outside,
 }
 
-// Two sums: of the positive spans, and of the negative ones without their sign.
-#[derive(Clone, Copy)]
+/// Two sums: of the positive spans, and of the negative ones without their sign.
+#[derive(Clone, Copy, Debug, PartialEq, Eq)]
 pub struct Spans {
     pub up: u64,
     pub down: u64,
 }
 
-// Whether there is no position.
-pub fn empty_layout(extents: &[u64]) -> bool
-    ensures { result ≡ zeroAmong extents.now }
+/// Whether no active extent minus 1 is above 2^63 - 1.
+fn all_narrow<E: Extent>(list: &[E]) -> bool
+    ensures { result ≡ none_wide (E.extents_of list.now) }
 {
-    extents.iter().any(|extent| *extent == 0)
+    list.iter().all(|entry| entry.extent() <= 1 << 63)
 }
 
-// Whether each extent is between 1 and 2^63: the layout is not empty, and no extent minus 1 is above 2^63 - 1.
-fn ordinary(extents: &[u64]) -> bool
-    ensures { result ≡ (not (zeroAmong extents.now) && not (some tooWideExtent extents.now)) }
-{
-    extents
-        .iter()
-        .all(|extent| *extent != 0 && *extent <= 1 << 63)
-}
-
-// The sums of the positive and of the negative spans, where each is at most its limit. A span is 0 at stride 0, however wide the extent.
-pub fn sum_spans(extents: &[u64], strides: &[i64], above: u64, below: u64) -> Option<Spans>
-    requires { length extents.now ≡ length strides.now }
-    ensures { result ≡ spansUpTo above below (axesOf extents.now strides.now) }
+/// The sums of the positive and of the negative spans, where each is at most its limit.
+pub fn sum_spans<A: Axes>(axes: A, above: u64, below: u64) -> Option<Spans>
+    ensures { result ≡ spansUpTo above below (A.axes_of axes) }
 {
     let mut up: u64 = 0;
     let mut down: u64 = 0;
-    for (i, extent) in extents.iter().enumerate() {
-        let stride = strides[i];
-        let room = if stride < 0 { below - down } else { above - up };
-        let last = extent.saturating_sub(1);
-        let Some(more) = bounded_product(last, stride.unsigned_abs(), room) else {
-            return None;
-        };
-        if stride < 0 {
-            down += more;
-        } else {
-            up += more;
-        }
-    }
-    Some(Spans { up, down })
-}
-
-// The reach of a layout that is not empty. The positive spans have room from the offset up to 2^63 - 1,
-// the negative spans from the offset down to 0.
-fn filled_reach(len: u64, offset: ReadingOffset, extents: &[u64], strides: &[i64]) -> Reach
-    requires alike { length extents.now ≡ length strides.now }
-    requires filled { zeroAmong extents.now ≡ false }
-    ensures { reachTold result ≡ reachOf (modelFrom len offset.0 extents.now strides.now) }
-{
-    let start = offset.0;
-    if start < 0 {
-        return Reach::Outside;
-    }
-    let base = start.unsigned_abs();
-    match sum_spans(extents, strides, i64::MAX as u64 - base, base) {
-        None => Reach::Outside,
-        Some(spans) => {
-            let low = base - spans.down;
-            let high = base + spans.up;
-            if len <= high {
-                Reach::Outside
-            } else {
-                Reach::Between(ReadingOffset(low as i64), ReadingOffset(high as i64))
-            }
-        }
-    }
-}
-
-// The reach of the layout that two lists of equal length give.
-pub(crate) fn reach_of(len: u64, offset: ReadingOffset, extents: &[u64], strides: &[i64]) -> Reach
-    requires { length extents.now ≡ length strides.now }
-    ensures { reachTold result ≡ reachOf (modelFrom len offset.0 extents.now strides.now) }
-{
-    if empty_layout(extents) {
-        return Reach::Empty;
-    }
-    filled_reach(len, offset, extents, strides)
-}
-
-// The two sums where each is at most its limit, no extent is 0, and every factor is below 2^32, so that no product needs a division; else nothing is said.
-fn small_spans(extents: &[u64], strides: &[i64], above: u64, below: u64) -> Option<Spans>
-    requires { length extents.now ≡ length strides.now }
-    ensures { IfSome result (λ spans. SmallSpans above below extents.now strides.now spans.up spans.down) }
-{
-    let mut up: u64 = 0;
-    let mut down: u64 = 0;
-    for (i, extent) in extents.iter().enumerate() {
-        if *extent == 0 {
-            return None;
-        }
-        let stride = strides[i];
+    for (place, entry) in axes.entries().iter().enumerate() {
+        let last = entry.extent().saturating_sub(1);
+        let stride = axes.stride(place);
         let size = stride.unsigned_abs();
         if stride < 0 {
-            let Some(more) = small_product(*extent - 1, size, below - down) else {
-                return None;
-            };
-            down += more;
+            down += bounded_product(last, size, below - down)?;
         } else {
-            let Some(more) = small_product(*extent - 1, size, above - up) else {
-                return None;
-            };
-            up += more;
+            up += bounded_product(last, size, above - up)?;
         }
     }
     Some(Spans { up, down })
 }
 
-// Whether a layout of small numbers is seen at once to be in bounds, as most are. Where it is false nothing is said.
-pub(crate) fn plainly_within(
+/// The lowest and the highest offset, where a zero extent counts as 1, if both are accepted.
+fn accepted_ends<A: Axes>(
     len: u64,
     offset: ReadingOffset,
-    extents: &[u64],
-    strides: &[i64],
-) -> bool
-    requires { length extents.now ≡ length strides.now }
-    ensures { result ≡ true → PlainlyWithin (modelFrom len offset.0 extents.now strides.now) }
+    axes: A,
+) -> Option<(ReadingOffset, ReadingOffset)>
+    ensures { ends_told result ≡ accepted_ends (modelFrom len offset.0 (A.axes_of axes)) }
 {
-    let start = offset.0;
-    if start < 0 {
-        return false;
+    if offset.0 < 0 {
+        return None;
     }
-    let base = start.unsigned_abs();
-    match small_spans(extents, strides, i64::MAX as u64 - base, base) {
-        None => false,
-        Some(spans) => base + spans.up < len,
+    let base = offset.0.unsigned_abs();
+    let spans = sum_spans(axes, i64::MAX as u64 - base, base)?;
+    let high = base + spans.up;
+    if len <= high {
+        return None;
+    }
+    Some((
+        ReadingOffset((base - spans.down) as i64),
+        ReadingOffset(high as i64),
+    ))
+}
+
+/// Whether both ends are accepted.
+fn is_within<A: Axes>(len: u64, offset: ReadingOffset, axes: A) -> bool
+    ensures { result ≡ within (modelFrom len offset.0 (A.axes_of axes)) }
+{
+    accepted_ends(len, offset, axes).is_some()
+}
+
+/// Whether check-in lets pass: where the offsets are within, each span fits, so only a wide extent is left to test.
+#[tactic(auto, using(crate::proofs::CountLaws::empty_extents))]
+fn is_in_bounds<A: Axes>(len: u64, offset: ReadingOffset, axes: A) -> bool
+    ensures { result ≡ in_bounds (modelFrom len offset.0 (A.axes_of axes)) }
+{
+    let extents = axes.entries();
+    is_within(len, offset, axes) && all_narrow(extents) || has_no_position(extents)
+}
+
+/// Whether the rule after the table lets pass.
+#[tactic(auto, using(crate::proofs::CountLaws::empty_extents))]
+fn is_in_reach(len: u64, offset: ReadingOffset, axes: &[Axis]) -> bool
+    ensures { result ≡ inReach (modelFrom len offset.0 axes.now) }
+{
+    is_within(len, offset, axes) || has_no_position(axes)
+}
+
+/// Check-in's refusal 3.
+#[tactic(auto, using(crate::proofs::BoundsLaws::bounds_passed, crate::proofs::BoundsLaws::bounds_refused))]
+pub fn bounds_refusal<A: Axes>(len: u64, offset: ReadingOffset, axes: A) -> Result<(), Refusal>
+    ensures { outcomeOf result ≡ bounds (modelFrom len offset.0 (A.axes_of axes)) }
+{
+    if is_in_bounds(len, offset, axes) {
+        Ok(())
+    } else {
+        Err(Refusal::OutOfRange)
     }
 }
 
-// Check-in's refusal 3 by its five cases. Where the offsets are in reach each span fits, so only a wide extent is left to test.
-fn bounds_by_cases(
-    len: u64,
-    offset: ReadingOffset,
-    extents: &[u64],
-    strides: &[i64],
-) -> Result<(), Refusal>
-    requires { length extents.now ≡ length strides.now }
-    ensures { outcomeOf result ≡ bounds (modelFrom len offset.0 extents.now strides.now) }
-{
-    if !ordinary(extents) {
-        if empty_layout(extents) {
-            return Ok(());
-        }
-        return Err(Refusal::OutOfRange);
-    }
-    match filled_reach(len, offset, extents, strides) {
-        Reach::Outside => Err(Refusal::OutOfRange),
-        Reach::Empty | Reach::Between(_, _) => Ok(()),
-    }
-}
-
-// Check-in's refusal 3, for two lists of equal length.
-pub(crate) fn bounds_refusal(
-    len: u64,
-    offset: ReadingOffset,
-    extents: &[u64],
-    strides: &[i64],
-) -> Result<(), Refusal>
-    requires { length extents.now ≡ length strides.now }
-    ensures { outcomeOf result ≡ bounds (modelFrom len offset.0 extents.now strides.now) }
-{
-    if plainly_within(len, offset, extents, strides) {
-        return Ok(());
-    }
-    bounds_by_cases(len, offset, extents, strides)
-}
-
-// Check-in without the layout: refusals 1 and 2, then the bounds.
+/// Check-in without the layout: refusals 1 and 2, then the bounds.
+#[tactic(auto, using(crate::proofs::CheckInLaws::many_extents, crate::proofs::CheckInLaws::many_strides, crate::proofs::CheckInLaws::lengths_differ, crate::proofs::CheckInLaws::bounds_answered))]
 pub fn validate_bounds(
     len: u64,
     offset: ReadingOffset,
     extents: &[u64],
     strides: &[i64],
 ) -> Result<(), Refusal>
-    ensures { outcomeOf result ≡ answer_of (checkIn len offset.0 extents.now strides.now) }
+    ensures answer { outcomeOf result ≡ answer_of (checkIn len offset.0 extents.now strides.now) }
+    ensures few { OnOk result (length extents.now ≤ 16) }
+    ensures alike { OnOk result (length strides.now ≡ length extents.now) }
 {
-    if 16 < extents.len() || 16 < strides.len() {
+    if MOST_AXES < extents.len() || MOST_AXES < strides.len() {
         return Err(Refusal::TooManyAxes);
     }
     if extents.len() != strides.len() {
         return Err(Refusal::LengthsDiffer);
     }
-    bounds_refusal(len, offset, extents, strides)
+    bounds_refusal(len, offset, Lists { extents, strides })
+}
+
+impl Layout {
+    /// The reach of a layout.
+    pub fn reach(&self) -> Reach
+        requires { self.now.rank ≤ 16 }
+        ensures { reachTold result ≡ reachOf (modelOf self.now) }
+    {
+        let axes = self.axes();
+        if has_no_position(axes) {
+            return Reach::Empty;
+        }
+        match accepted_ends(self.len, self.offset, axes) {
+            None => Reach::Outside,
+            Some((low, high)) => Reach::Between(low, high),
+        }
+    }
+
+    /// Refusals 1 and 3 of a layout, for a call whose list has so many entries (0 for a call that takes none).
+    pub fn handed_refusal(&self, entries: usize) -> Result<(), Refusal>
+        ensures answer { outcomeOf result ≡ handed_with (modelOf self.now) entries }
+        ensures few_axes { OnOk result (self.now.rank ≤ 16) }
+        ensures few_entries { OnOk result (entries ≤ 16) }
+    {
+        if MOST_AXES < self.rank || MOST_AXES < entries {
+            return Err(Refusal::TooManyAxes);
+        }
+        if is_in_reach(self.len, self.offset, self.axes()) {
+            Ok(())
+        } else {
+            Err(Refusal::OutOfRange)
+        }
+    }
 }

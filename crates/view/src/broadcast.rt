@@ -1,110 +1,72 @@
-// broadcast: a layout stretched to target extents.
-ghost use Rattle.std.specs.Prelude.{◌||◌, ◌≡◌, List, ◌≤◌, eqb, ℤ, pos, length, if◌then◌else◌};
-ghost use Rattle.specification.specs.Axis.{axesOf};
+//! broadcast: a layout stretched to target extents.
+ghost use Rattle.std.specs.Prelude.{◌≡◌, ◌≤◌, length, drop, OnOk, OnErr};
 ghost use Rattle.specification.specs.Views.{targetFault, spread, broadcast};
 ghost use Rattle.view.specs.Answers.{outcomeOf};
-ghost use Rattle.view.specs.InPlace.{LeftInPlace};
-ghost use Rattle.view.specs.Model.{modelOf, modelFrom, viewedOf};
-ghost use Rattle.view.specs.Refusals.{broadcastRefusal};
+ghost use Rattle.view.specs.Model.{modelOf, viewedOf, told};
+ghost use Rattle.view.specs.Refusals.{broadcast_refusal};
 
-use crate::accepted::handed_lists;
-use crate::layout::{Layout, ReadingOffset, Refusal, Viewed};
+use crate::layout::{Layout, Refusal, Viewed};
+use axis::Axis;
 
-// Whether an extent is its target or 1.
-fn stretches(extent: u64, target: u64) -> bool
-    ensures { result ≡ (eqb extent target || eqb extent 1) }
+/// The first axis whose extent is neither equal to the target nor 1.
+fn target_fault(axes: &[Axis], targets: &[u64]) -> Result<(), Refusal>
+    requires { length targets.now ≡ length axes.now }
+    ensures { outcomeOf result ≡ targetFault 0 axes.now targets.now }
 {
-    extent == target || extent == 1
-}
-
-// An equal extent keeps its stride; a stretched axis stands still.
-fn stretched_stride(extent: u64, target: u64, stride: i64) -> i64
-    ensures { result ≡ (if eqb extent target then stride else pos 0) }
-{
-    if extent == target { stride } else { 0 }
-}
-
-// The first axis whose extent is neither equal to the target nor 1; strides do not matter.
-fn target_fault(extents: &[u64], targets: &[u64]) -> Result<(), Refusal>
-    requires { length targets.now ≡ length extents.now }
-    ensures { (strides : List ℤ) → length extents.now ≡ length strides → outcomeOf result ≡ targetFault 0 (axesOf extents.now strides) targets.now }
-{
-    for (i, target) in targets.iter().enumerate() {
-        if !stretches(extents[i], *target) {
+    for (i, axis) in axes.iter().enumerate() {
+        if axis.extent != targets[i] && axis.extent != 1 {
             return Err(Refusal::BadExtent(i));
         }
     }
     Ok(())
 }
 
-// The targets for extents.
-fn stretch(extents: &mut [u64], strides: &mut [i64], targets: &[u64])
-    requires alike { length extents.old ≡ length strides.old }
-    requires targeted { length targets.now ≡ length extents.old }
-    ensures { axesOf extents.new strides.new ≡ spread (axesOf extents.old strides.old) targets.now }
+/// The targets for extents: an equal extent keeps its stride, a stretched axis stands still.
+fn stretch(axes: &mut [Axis], targets: &[u64])
+    requires { length targets.now ≡ length axes.old }
+    ensures { axes.new ≡ spread axes.old targets.now }
 {
-    for (i, target) in targets.iter().enumerate() {
-        strides[i] = stretched_stride(extents[i], *target, strides[i]);
-        extents[i] = *target;
+    for (i, &extent) in targets.iter().enumerate() {
+        if axes[i].extent != extent {
+            axes[i] = Axis { extent, stride: 0 };
+        }
     }
-}
-
-// Every refusal of broadcast, in 01's order.
-fn broadcast_refusal(
-    len: u64,
-    offset: ReadingOffset,
-    extents: &[u64],
-    strides: &[i64],
-    targets: &[u64],
-) -> Result<(), Refusal>
-    requires alike { length extents.now ≡ length strides.now }
-    requires few { length extents.now ≤ 16 }
-    ensures { outcomeOf result ≡ broadcastRefusal (modelFrom len offset.0 extents.now strides.now) targets.now }
-{
-    handed_lists(len, offset, extents, strides, targets.len())?;
-    if targets.len() != extents.len() {
-        return Err(Refusal::WrongLength(extents.len(), targets.len()));
-    }
-    target_fault(extents, targets)
-}
-
-// broadcast of the layout that two lent lists hold: they hold the stretched one, or are as they were.
-pub fn broadcast_in_place(
-    len: u64,
-    offset: ReadingOffset,
-    extents: &mut [u64],
-    strides: &mut [i64],
-    targets: &[u64],
-) -> Result<usize, Refusal>
-    requires { (length extents.old ≡ length strides.old) × (length extents.old ≤ 16) }
-    ensures { LeftInPlace len offset.0 extents.old strides.old extents.new strides.new result (broadcast (modelFrom len offset.0 extents.old strides.old) targets.now) }
-{
-    broadcast_refusal(len, offset, extents, strides, targets)?;
-    stretch(extents, strides, targets);
-    Ok(targets.len())
 }
 
 impl Layout {
-    // The layout stretched to the target extents; or the refusal, and the layout as it was.
-    pub fn broadcast(self, targets: &[u64]) -> Viewed
+    /// Every refusal of broadcast, in order.
+    fn broadcast_refusal(&self, targets: &[u64]) -> Result<(), Refusal>
+        ensures answer { outcomeOf result ≡ broadcast_refusal (modelOf self.now) targets.now }
+        ensures few { OnOk result (self.now.rank ≤ 16) }
+        ensures listed { OnOk result (length targets.now ≡ self.now.rank) }
+    {
+        self.handed_refusal(targets.len())?;
+        if targets.len() != self.rank {
+            return Err(Refusal::WrongLength(self.rank, targets.len()));
+        }
+        target_fault(self.axes(), targets)
+    }
+
+    /// Stretched to the target extents; or the refusal, and the layout as it was.
+    #[tactic(auto, using(crate::proofs::ViewLaws::broadcast_refused, crate::proofs::ViewLaws::broadcast_done, crate::proofs::ViewLaws::first_axes_spread))]
+    pub fn broadcast_in_place(&mut self, targets: &[u64]) -> Result<(), Refusal>
+        ensures told { told result self.new ≡ broadcast (modelOf self.old) targets.now }
+        ensures kept { OnErr result (self.new ≡ self.old) }
+        ensures past { drop self.new.rank self.new.axes ≡ drop self.new.rank self.old.axes }
+    {
+        self.broadcast_refusal(targets)?;
+        stretch(&mut self.axes[..targets.len()], targets);
+        Ok(())
+    }
+
+    /// The layout after it, or the refusal and the layout as it was.
+    pub fn broadcast(mut self, targets: &[u64]) -> Viewed
         ensures { viewedOf result ≡ broadcast (modelOf self) targets.now }
     {
-        let rank = self.rank;
-        if 16 < rank {
-            return Viewed {
-                layout: self,
-                answer: Err(Refusal::TooManyAxes),
-            };
+        let answer = self.broadcast_in_place(targets);
+        Viewed {
+            layout: self,
+            answer,
         }
-        let mut extents = self.extents;
-        let mut strides = self.strides;
-        let after = broadcast_in_place(
-            self.len,
-            self.offset,
-            &mut extents[..rank],
-            &mut strides[..rank],
-            targets,
-        );
-        self.with_axes(extents, strides, after)
     }
 }

@@ -1,28 +1,83 @@
-// The number of positions.
+//! The number of positions.
+ghost use Rattle.std.specs.Prelude.{◌≡◌, List, ℕ, map};
+ghost use Rattle.specification.specs.Beside.{zeroAmong};
 ghost use Rattle.view.specs.Answers.{outcomeOf};
-ghost use Rattle.std.specs.Prelude.{◌≡◌};
 ghost use Rattle.view.specs.Count.{elementCount};
 
 use crate::bounded::bounded_product;
-use crate::bounds::empty_layout;
-use crate::layout::Refusal;
+use crate::layout::{MOST_AXES, Refusal};
+use axis::Axis;
 
-// The positions of axes with these extents. A zero extent is looked for before the product, since with it no product is too large.
-pub fn checked_element_count(extents: &[u64]) -> Result<u64, Refusal>
-    ensures { outcomeOf result ≡ elementCount extents.now }
+/// An extent by itself, or what has one.
+pub trait Extent: Copy {
+    // the extents of a list, in its order
+    ghost extents_of: { List Self → List ℕ };
+
+    ghost extent_of: { Self → ℕ };
+
+    fn extent(self) -> u64
+        ensures { result ≡ extent_of self };
+
+    ghost each: { (list : List Self) → extents_of list ≡ map extent_of list };
+}
+
+impl Extent for u64 {
+    ghost use Rattle.view.specs.Count.{map-same};
+
+    ghost extents_of = { λ list. list };
+
+    ghost extent_of = { λ n. n };
+
+    ghost each = { map-same };
+
+    fn extent(self) -> u64 {
+        self
+    }
+}
+
+impl Extent for Axis {
+    ghost use Rattle.specification.specs.Axis.{extents};
+    ghost use Rattle.view.specs.Count.{extents-map};
+
+    ghost extents_of = { extents };
+
+    ghost extent_of = { λ axis. axis.extent };
+
+    ghost each = { extents-map };
+
+    fn extent(self) -> u64 {
+        self.extent
+    }
+}
+
+/// Whether there is no position: some extent is 0.
+pub fn has_no_position<E: Extent>(list: &[E]) -> bool
+    ensures { result ≡ zeroAmong (E.extents_of list.now) }
 {
-    if 16 < extents.len() {
+    list.iter().any(|entry| entry.extent() == 0)
+}
+
+/// How many positions there are; refusal 1 for more than 16 extents, 8 for more than 2^64 - 1 positions.
+pub fn element_count<E: Extent>(list: &[E]) -> Result<u64, Refusal>
+    ensures { outcomeOf result ≡ elementCount (E.extents_of list.now) }
+{
+    if MOST_AXES < list.len() {
         return Err(Refusal::TooManyAxes);
     }
-    if empty_layout(extents) {
+    // with an extent of 0 no product is too large
+    if has_no_position(list) {
         return Ok(0);
     }
     let mut count: u64 = 1;
-    for extent in extents {
-        let Some(more) = bounded_product(count, *extent, u64::MAX) else {
-            return Err(Refusal::TooManyPositions);
-        };
-        count = more;
+    for entry in list {
+        count = bounded_product(count, entry.extent(), u64::MAX).ok_or(Refusal::TooManyPositions)?;
     }
     Ok(count)
+}
+
+/// The positions of axes with these extents.
+pub fn checked_element_count(extents: &[u64]) -> Result<u64, Refusal>
+    ensures { outcomeOf result ≡ elementCount extents.now }
+{
+    element_count(extents)
 }

@@ -1,60 +1,38 @@
-// diagonal_view for callers that hold plain numbers and no structs: a call list, a text, C.
-ghost use Rattle.std.specs.Prelude.{◌≡◌, [], ◌≤◌, length};
-ghost use Rattle.specification.specs.Views.{pairsOf, diagonalView};
-ghost use Rattle.view.specs.InPlace.{LeftInPlace};
-ghost use Rattle.view.specs.Model.{modelOf, modelFrom, viewedOf};
-ghost use Rattle.view.specs.Ties.{TiesOf, tiesIn};
+//! diagonal for callers that hold plain numbers and no structs: a call list, a text, C.
+ghost use Rattle.std.specs.Prelude.{◌≡◌, ◌≤◌, drop, OnOk, OnErr};
+ghost use Rattle.specification.specs.Views.{pairsOf, pairFault, diagonalView};
+ghost use Rattle.view.specs.Answers.{outcomeOf};
+ghost use Rattle.view.specs.Model.{modelOf, told};
+ghost use Rattle.view.specs.Ties.{tied_by};
 
-use crate::diagonal::{own_roots, tie_pair, tied_in_place};
-use crate::layout::{Layout, ReadingOffset, Refusal, Viewed};
+use crate::diagonal::Ties;
+use crate::layout::{Layout, Refusal};
 
-// The ties of all pairs, in axes that are untied yet. Two numbers are a pair; an odd last one is passed over.
-fn tie_numbers(roots: &mut [usize; 16], rank: usize, pairs: &[usize]) -> Result<(), Refusal>
-    requires { TiesOf rank [] (tiesIn roots.old rank (Ok tt)) }
-    ensures { TiesOf rank (pairsOf pairs.now) (tiesIn roots.new rank result) }
-{
-    let mut answer = Ok(());
-    for i in 0..pairs.len() / 2 {
-        answer = tie_pair(roots, rank, answer, pairs[2 * i], pairs[2 * i + 1]);
+impl Ties {
+    /// The pairs in order, up to the first that is refused. Two numbers are a pair; an odd last one is passed over.
+    fn tie_numbers(&mut self, pairs: &[usize]) -> Result<(), Refusal>
+        requires { self.old.rank ≤ 16 }
+        ensures answer { outcomeOf result ≡ pairFault self.old.rank (pairsOf pairs.now) }
+        ensures tied { OnOk result (self.new ≡ tied_by self.old (pairsOf pairs.now)) }
+    {
+        for pair in pairs.chunks_exact(2) {
+            self.tie(pair[0], pair[1])?;
+        }
+        Ok(())
     }
-    answer
 }
 
-// diagonal_view of the layout that two lent lists hold: they hold the fused axes, or are as they were.
-pub fn diagonal_in_place(
-    len: u64,
-    offset: ReadingOffset,
-    extents: &mut [u64],
-    strides: &mut [i64],
-    pairs: &[usize],
-) -> Result<usize, Refusal>
-    requires { (length extents.old ≡ length strides.old) × (length extents.old ≤ 16) }
-    ensures { LeftInPlace len offset.0 extents.old strides.old extents.new strides.new result (diagonalView (modelFrom len offset.0 extents.old strides.old) (pairsOf pairs.now)) }
-{
-    let mut roots = own_roots();
-    let ties = tie_numbers(&mut roots, extents.len(), pairs);
-    tied_in_place(len, offset, extents, strides, &roots, ties)
-}
-
-// diagonal_view of a layout.
-pub fn diagonal_by_numbers(layout: Layout, pairs: &[usize]) -> Viewed
-    ensures { viewedOf result ≡ diagonalView (modelOf layout) (pairsOf pairs.now) }
-{
-    let rank = layout.rank;
-    if 16 < rank {
-        return Viewed {
-            layout,
-            answer: Err(Refusal::TooManyAxes),
-        };
+impl Layout {
+    /// `diagonal_in_place` for pairs in flat numbers; an odd last number is passed over.
+    #[tactic(auto, using(crate::proofs::DiagonalLaws::diagonal_handed, crate::proofs::DiagonalLaws::diagonal_paired, crate::proofs::DiagonalLaws::diagonal_fused, crate::proofs::DiagonalLaws::diagonal_rooted))]
+    pub fn diagonal_by_numbers(&mut self, pairs: &[usize]) -> Result<(), Refusal>
+        ensures told { told result self.new ≡ diagonalView (modelOf self.old) (pairsOf pairs.now) }
+        ensures kept { OnErr result (self.new ≡ self.old) }
+        ensures past { drop self.new.rank self.new.axes ≡ drop self.new.rank self.old.axes }
+    {
+        self.handed_refusal(0)?;
+        let mut ties = Ties::new(self.rank);
+        ties.tie_numbers(pairs)?;
+        self.fuse_in_place(&ties.roots)
     }
-    let mut extents = layout.extents;
-    let mut strides = layout.strides;
-    let after = diagonal_in_place(
-        layout.len,
-        layout.offset,
-        &mut extents[..rank],
-        &mut strides[..rank],
-        pairs,
-    );
-    layout.with_axes(extents, strides, after)
 }

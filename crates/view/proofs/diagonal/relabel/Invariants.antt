@@ -1,4 +1,4 @@
--- `relabel`: the first axes are relabelled, and the rest is to be.
+-- The first axes are relabelled, and the rest is to be.
 use Rattle.std.proofs.Common.{◌≡◌, map, length}
 use Rattle.view.specs.Ties.{renamed}
 use Rattle.view.proofs.RootLaws.{relabelledFrom}

@@ -1,4 +1,4 @@
--- `root_mask`: the mask so far is that of the axes passed.
+-- The mask so far is that of the axes passed.
 use Rattle.std.proofs.Common.{◌≡◌}
 use Rattle.view.specs.Ties.{mask_of}
 use Rattle.view.proofs.diagonal.root_mask.Given as goal

@@ -1,55 +1,38 @@
-use Rattle.std.proofs.Common.{◌≡◌, ◌∙◌, sym, ap, ℕ, List, ◌∷◌, ◌+◌, ◌<◌, length, drop, get_or, arith, rules}
-use lib.IntN.{ℤ}
+-- A turn takes one axis and one index from the lists.
+use Rattle.std.proofs.Common.{◌∙◌, sym, ap, get_or, arith, rules}
+use Rattle.std.proofs.lemmas.Result.{err_from_is_err_and}
 use mir.Syntax.{w64}
 use mir.Val.{SFits}
 use mir.ValLaws.{to_z-of_z}
-use Rattle.lists.proofs.TableLaws.{drop-table-end}
-use Rattle.specification.specs.Beside.{sumIndexed}
-use Rattle.view.specs.declared.layout.Layout.{Layout}
-use Rattle.view.specs.Indexed.{addedOf, indexedOf}
-use Rattle.view.specs.Model.{modelOf, axisOf}
-use Rattle.view.proofs.ModelLaws.{drop-axesIn}
-use Rattle.view.proofs.IndexedLaws.{indexed-bad, indexed-over, indexed-on, indexed-end, index-here}
+use Rattle.specification.specs.Views.{axisAt}
+use Rattle.view.specs.Indexed.{addedOf}
+use Rattle.view.proofs.IndexedLaws.{indexed-bad, indexed-over, indexed-on, indexed-end}
 use Rattle.view.proofs.offset.sum_indexed.Goals as goal
 
--- the axes and indices from i on begin with these
-left-is : (layout : Layout) (index : List ℕ) (i : ℕ) (sum : ℤ) → i < length index → length index ≡ layout.rank
-    → sumIndexed i sum (drop i (modelOf layout).axes) (drop i index)
-    ≡ sumIndexed i sum (axisOf layout.extents layout.strides i ∷ drop (i + 1) (modelOf layout).axes) (get_or index i 0 ∷ drop (i + 1) index)
-left-is layout index i sum h n = rw (drop-axesIn layout.extents layout.strides layout.rank i (omega arith), index-here index i h)
-
-pub returns-then-layout-i : goal.returns-then-layout-i
-returns-then-layout-i c =
+pub returns-then-axis-x : goal.returns-then-axis-x
+returns-then-axis-x c =
     let l = c.loop-i in
-    let a = c.args in
-    let axis = axisOf a.layout.extents a.layout.strides l.i in
-    sym (l.invariant ∙ left-is a.layout a.index.now l.i l.sum.0 (omega arith) c.requires.listed
-    ∙ indexed-bad l.i l.sum.0 axis (drop (l.i + 1) (modelOf a.layout).axes) _ _ c.if-layout-i.true)
+    sym (l.invariant ∙ indexed-bad c.args.axes.now c.args.index.now l.i l.sum.0 c.loop-i-test.true c.requires c.if-axis-x.true)
 
-pub returns-in_default : goal.returns-in_default
-returns-in_default c =
+pub returns-in_err-sum : goal.returns-in_err-sum
+returns-in_err-sum c =
     let l = c.loop-i in
-    let a = c.args in
-    let x = get_or a.index.now l.i 0 in
-    let axis = axisOf a.layout.extents a.layout.strides l.i in
-    let fits : SFits w64 axis.stride = search rules in
-    let added : indexedOf c.add_indexed.result ≡ addedOf l.sum.0 x axis.stride = c.add_indexed.ensures ∙ ap (addedOf l.sum.0 x) (to_z-of_z w64 axis.stride fits) in
-    sym (l.invariant ∙ left-is a.layout a.index.now l.i l.sum.0 (omega arith) c.requires.listed
-    ∙ indexed-over l.i l.sum.0 axis (drop (l.i + 1) (modelOf a.layout).axes) x _ c.if-layout-i.false (sym added ∙ ap indexedOf c.in_default.is))
+    let axes = c.args.axes.now in
+    let index = c.args.index.now in
+    let fits : SFits w64 (axisAt axes l.i).stride = search rules in
+    let p = err_from_is_err_and c.from_residual.result c.from_residual.ensures.1 in
+    rw (p.1, p.2)
+    (sym (l.invariant ∙ indexed-over axes index l.i l.sum.0 c.loop-i-test.true c.requires c.if-axis-x.false
+    (c.in_err-sum.ensures ∙ ap (addedOf l.sum.0 (get_or index l.i 0)) (to_z-of_z w64 (axisAt axes l.i).stride fits))))
 
 pub loop-i-preserved : goal.loop-i-preserved
 loop-i-preserved c =
     let l = c.loop-i in
-    let a = c.args in
-    let x = get_or a.index.now l.i 0 in
-    let axis = axisOf a.layout.extents a.layout.strides l.i in
-    let fits : SFits w64 axis.stride = search rules in
-    let added : indexedOf c.add_indexed.result ≡ addedOf l.sum.0 x axis.stride = c.add_indexed.ensures ∙ ap (addedOf l.sum.0 x) (to_z-of_z w64 axis.stride fits) in
-    l.invariant ∙ left-is a.layout a.index.now l.i l.sum.0 (omega arith) c.requires.listed
-    ∙ indexed-on l.i l.sum.0 axis (drop (l.i + 1) (modelOf a.layout).axes) x (drop (l.i + 1) a.index.now) c.in-Ok.next.0 c.if-layout-i.false (sym added ∙ ap indexedOf c.in-Ok.is)
+    let axes = c.args.axes.now in
+    let index = c.args.index.now in
+    let fits : SFits w64 (axisAt axes l.i).stride = search rules in
+    l.invariant ∙ indexed-on axes index l.i l.sum.0 c.loop-i-test.true c.requires c.in_ok-sum.sum.0 c.if-axis-x.false
+    (c.in_ok-sum.ensures ∙ ap (addedOf l.sum.0 (get_or index l.i 0)) (to_z-of_z w64 (axisAt axes l.i).stride fits))
 
 pub returns : goal.returns
-returns c =
-    let l = c.loop-i in
-    let m = c.args.layout in
-    sym (l.invariant ∙ rw (drop-table-end (axisOf m.extents m.strides) m.rank l.i (omega arith)) (indexed-end l.i _ _))
+returns c = let l = c.loop-i in sym (l.invariant ∙ indexed-end c.args.axes.now c.args.index.now l.i l.sum.0 (omega arith))

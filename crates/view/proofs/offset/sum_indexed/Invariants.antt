@@ -1,9 +1,7 @@
 -- The sum over all axes is the sum so far with the axes and indices still left.
 use Rattle.std.proofs.Common.{◌≡◌, drop}
 use Rattle.specification.specs.Beside.{sumIndexed}
-use Rattle.view.specs.Model.{modelOf}
 use Rattle.view.proofs.offset.sum_indexed.Given as goal
 
 abbrev pub invariant-loop-i : goal.invariant-loop-i
-invariant-loop-i l =
-    sumIndexed 0 l.layout.offset.0 (modelOf l.layout).axes l.index ≡ sumIndexed l.i l.sum.0 (drop l.i (modelOf l.layout).axes) (drop l.i l.index)
+invariant-loop-i l = sumIndexed 0 l.fn.offset.0 l.axes l.index ≡ sumIndexed l.i l.sum.0 (drop l.i l.axes) (drop l.i l.index)

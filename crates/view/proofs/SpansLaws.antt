@@ -1,0 +1,79 @@
+-- The two sums of spans, one axis after another, and each with its limit.
+use Rattle.std.specs.Prelude.{None}
+use mathlib.Core.Path.{◌≡◌, sym, ap, ◌∙◌}
+use mathlib.Core.Bool.{true, false, and-false}
+use mathlib.Core.List.{List, ◌∷◌}
+use Prim.Native.Nat.{ℕ, ◌+◌, ◌-◌, ◌*◌, ◌≤◌, ◌<◌}
+use native.Mathlib.Numerals.{add-one}
+use native.Mathlib.Omega.{arith}
+use lib.IntN.{ℤ, nat_abs, pos}
+use lib.Signed.{lt_z}
+use lib.ListN.{length, drop, drop_of_length-le}
+use lib.Seq.{drop-cons}
+use borrow.Author.Tests.{le-leb, lt-leb}
+use mir.Syntax.{w64}
+use mir.Val.{SFits}
+use mir.ValLaws.{to_z-of_z}
+use Rattle.integer.specs.Parts.{posPart, negPart}
+use Rattle.integer.proofs.MachineInteger.{readBack, negative-tested, nonnegative-tested}
+use Rattle.integer.proofs.MultipleLaws.{posPart-·, negPart-·}
+use Rattle.specification.specs.Axis.{Axis, span, upward, downward}
+use Rattle.specification.specs.Views.{axisAt}
+use Rattle.view.specs.Reach.{spansUpTo, sums}
+
+-- each sum so far and the spans still left, from axis i on, make the whole sum
+pub record SpansLeft (axes : List Axis) (i up down : ℕ) : Type 0 where
+  pub up_left : up + upward (drop i axes) ≡ upward axes
+  pub down_left : down + downward (drop i axes) ≡ downward axes
+
+module _ (axes : List Axis) (i up down last step : ℕ) (stride : ℤ) (left : SpansLeft axes i up down) (h : i < length axes)
+    (is_last : last ≡ (axisAt axes i).extent - 1) (is-stride : stride ≡ (axisAt axes i).stride) (f : SFits w64 stride) where
+  next : drop i axes ≡ axisAt axes i ∷ drop (i + 1) axes
+  next = rw (add-one, drop-cons axes i (record { extent = 0; stride = pos 0 }) h)
+
+  up-more : (part : ℕ) → part ≡ posPart stride → (up + last * part) + upward (drop (i + 1) axes) ≡ upward axes
+  unfolding upward
+  up-more part e =
+      let p : last * part ≡ posPart (span (axisAt axes i)) = rw (posPart-·, is_last, e, is-stride) in
+      let q = rw next at left.up_left in
+      omega arith
+
+  down-more : (part : ℕ) → part ≡ negPart stride → (down + last * part) + downward (drop (i + 1) axes) ≡ downward axes
+  unfolding downward
+  down-more part e =
+      let p : last * part ≡ negPart (span (axisAt axes i)) = rw (negPart-·, is_last, e, is-stride) in
+      let q = rw next at left.down_left in
+      omega arith
+
+  -- a turn, by the sign of the stride: the axis adds to one of the sums alone
+  pub falling-turn : lt_z (readBack stride) (pos 0) ≡ true → step ≡ nat_abs (readBack stride) → SpansLeft axes (i + 1) up (down + last * step)
+  falling-turn below is-step =
+      let none = negative-tested stride f below in
+      let e = up-more 0 (sym none.no-positive) in
+      record { up_left = omega arith; down_left = down-more step (is-step ∙ ap nat_abs (to_z-of_z w64 _ f) ∙ none.size) }
+
+  pub rising-turn : lt_z (readBack stride) (pos 0) ≡ false → step ≡ nat_abs (readBack stride) → SpansLeft axes (i + 1) (up + last * step) down
+  rising-turn above is-step =
+      let none = nonnegative-tested stride f above in
+      let e = down-more 0 (sym none.no-negative) in
+      record { up_left = up-more step (is-step ∙ ap nat_abs (to_z-of_z w64 _ f) ∙ none.size); down_left = omega arith }
+
+pub spans-end : (axes : List Axis) (i up down : ℕ) → SpansLeft axes i up down → length axes ≤ i → (up ≡ upward axes) × (down ≡ downward axes)
+unfolding upward downward
+spans-end axes i up down left h =
+    let e = drop_of_length-le axes h in
+    let u = rw e at left.up_left in
+    let v = rw e at left.down_left in
+    (omega arith, omega arith)
+
+-- ---- both sums, each with its limit
+
+pub spans-are : (above below : ℕ) (axes : List Axis) → upward axes ≤ above → downward axes ≤ below
+    → spansUpTo above below axes ≡ sums (upward axes) (downward axes)
+spans-are above below axes h k = rw (le-leb (upward axes) above h, le-leb (downward axes) below k)
+
+pub spans-above : (above below : ℕ) (axes : List Axis) → above < upward axes → spansUpTo above below axes ≡ None
+spans-above above below axes h = rw (lt-leb (upward axes) above h)
+
+pub spans-below : (above below : ℕ) (axes : List Axis) → below < downward axes → spansUpTo above below axes ≡ None
+spans-below above below axes h = rw (lt-leb (downward axes) below h, and-false)
