@@ -1,5 +1,8 @@
 -- The laws of differences, lowest first.
-pub mod NumberLaws
-pub mod Visits
-mod Stepping
+mod VectorLaws
+mod Advancing
+mod DistanceLaws
+pub mod ZeroVector
+mod Swapping
+mod Apart
 pub mod Meeting

@@ -1,61 +1,125 @@
-// The differences of two index vectors one after another, in two lent slices: what is above 0 and what is below it, each with its sum.
-// Both sums fit a word where the sums of all index vectors do, and their gap is the distance of the difference.
+//! The difference vectors of active axes, one after another, each with the distance of its sum from 0.
 #![tactic(auto)]
 
-ghost use Rattle.odometer.specs.Odometer.{SumsFit};
-ghost use Rattle.differences.specs.Differences.{Stands, Stepped};
+ghost use Rattle.std.specs.Prelude.{◌≡◌, ◌+◌, ◌<◌, length, IfSome, IfNone, IsTrue, IsFalse};
+ghost use Rattle.specification.specs.Search.{box, half};
+ghost use Rattle.differences.specs.Differences.{Walkable, distance_at};
+ghost use Rattle.differences.specs.AxisDifferences.{axes_of, number_of, Stands};
 
-// Where a step leads: the two sums there, and whether the difference before was the last.
+use axis::ActiveAxis;
+use std::marker::Model;
+
+// A difference of two indices of an axis, in two parts of which one is 0: what is above 0, and what is below it without its sign.
 #[derive(Clone, Copy)]
-pub struct Sums {
-    pub up: u64,
-    pub down: u64,
-    pub ended: bool,
+struct AxisDifference {
+    axis: ActiveAxis,
+    above: u64,
+    below: u64,
 }
 
-// Sets `above` and `below` to the next difference, the first axis fastest; after the last, to the first.
-pub fn step(
-    extents: &[u64],
-    strides: &[u64],
-    above: &mut [u64],
-    below: &mut [u64],
-    mut up: u64,
-    mut down: u64,
-) -> Sums
-    requires sums { SumsFit extents.now strides.now }
-    requires stands { Stands extents.now strides.now above.old below.old up down }
-    ensures stands { Stands extents.now strides.now above.new below.new result.up result.down }
-    ensures stepped { Stepped extents.now above.old below.old above.new below.new result.ended }
+impl AxisDifference {
+    const NONE: AxisDifference = AxisDifference {
+        axis: ActiveAxis {
+            axis: 0,
+            extent: 0,
+            stride: 0,
+        },
+        above: 0,
+        below: 0,
+    };
+}
+
+// The sum of the parts above 0, each times its stride, and that of the parts below. Both fit a word where the span does.
+#[derive(Clone, Copy)]
+struct Sums {
+    up: u64,
+    down: u64,
+}
+
+// On to the next vector, the first axis fastest. After the last comes the first, and the answer is false.
+fn advance(differences: &mut [AxisDifference], sums: &mut Sums) -> bool
+    requires stands { Stands differences.old sums.old }
+    ensures stands { Stands differences.new sums.new }
+    ensures axes { axes_of differences.new ≡ axes_of differences.old }
+    ensures on { IsTrue result → number_of differences.new ≡ number_of differences.old + 1 }
+    ensures last { IsFalse result → number_of differences.old + 1 ≡ box (axes_of differences.old) }
 {
-    for j in 0..extents.len() {
-        let low = below[j];
-        if low > 0 {
-            below[j] = low - 1;
-            return Sums {
-                up,
-                down: down - strides[j],
-                ended: false,
-            };
+    for difference in differences.iter_mut() {
+        let ActiveAxis { extent, stride, .. } = difference.axis;
+        if difference.below > 0 {
+            difference.below -= 1;
+            sums.down -= stride;
+            return true;
         }
-        let high = above[j];
-        let last = extents[j] - 1;
-        if high < last {
-            above[j] = high + 1;
-            return Sums {
-                up: up + strides[j],
-                down,
-                ended: false,
-            };
+        let last = extent - 1;
+        if difference.above < last {
+            difference.above += 1;
+            sums.up += stride;
+            return true;
         }
-        above[j] = 0;
-        below[j] = last;
-        let back = strides[j] * last;
-        up -= back;
-        down += back;
+        difference.above = 0;
+        difference.below = last;
+        let back = stride * last;
+        sums.up -= back;
+        sums.down += back;
     }
-    Sums {
-        up,
-        down,
-        ended: true,
+    false
+}
+
+/// A walk over the difference vectors of axes, from the zero vector on.
+#[derive(Drop)]
+pub struct Differences {
+    axes: [AxisDifference; 16],
+    len: usize,
+    sums: Sums,
+}
+
+impl Model for Differences {
+    ghost use Rattle.differences.specs.Differences.{DifferencesAt};
+
+    ghost Value = { DifferencesAt };
+
+    ghost use Rattle.differences.specs.Sound.{view_of, IsSound};
+
+    ghost view = { view_of };
+
+    ghost invariant = { IsSound };
+}
+
+impl Differences {
+    /// The walk at the zero vector.
+    pub fn new(axes: &[ActiveAxis]) -> Differences
+        requires { Walkable axes.now }
+        ensures { result ≡ record { axes = axes.now; number = half axes.now } }
+    {
+        let mut differences = [AxisDifference::NONE; 16];
+        for (j, &axis) in axes.iter().enumerate() {
+            differences[j] = AxisDifference {
+                axis,
+                ..AxisDifference::NONE
+            };
+        }
+        Differences {
+            axes: differences,
+            len: axes.len(),
+            sums: Sums { up: 0, down: 0 },
+        }
+    }
+
+    /// On to the next vector, and its distance. `None` after the last: the walk is at the first then.
+    pub fn next(&mut self) -> Option<u64>
+        ensures axes { self.new.axes ≡ self.old.axes }
+        ensures within { self.new.number < box self.new.axes }
+        ensures on { IfSome result (λ _. self.new.number ≡ self.old.number + 1) }
+        ensures distance { IfSome result (λ distance. distance ≡ distance_at self.new.axes self.new.number) }
+        ensures last { IfNone result (self.old.number + 1 ≡ box self.old.axes) }
+    {
+        let (len, mut sums) = (self.len, self.sums);
+        let more = advance(&mut self.axes[..len], &mut sums);
+        self.sums = sums;
+        if !more {
+            return None;
+        }
+        Some(sums.up.abs_diff(sums.down))
     }
 }

@@ -1,8 +1,7 @@
-mod Telling
+-- The laws of step 6, lowest first.
 mod TableLaws
-mod PartLaws
+mod Visits
 mod Filling
 mod LookingUp
-mod BlockSums
-mod Answers
-mod BlockParts
+mod OutcomeLaws
+mod PartLaws

@@ -1,55 +1,49 @@
--- Parts of a block's axes: their extents stay positive, and an array of zeros is where the walk over their differences begins.
+-- Parts of a block's axes: where there is a position of the whole there is one of each, and one axis more multiplies the vectors.
 use mathlib.Core.List.{List, [], ◌∷◌}
-use mathlib.Core.Path.{◌≡◌, refl, sym, ap}
-use Prim.Native.Nat.{ℕ, zero, suc, ◌<◌, ◌≤◌}
+use mathlib.Core.Path.{◌≡◌, ap, ◌∙◌}
+use Prim.Native.Nat.{ℕ, zero, suc, ◌+◌, ◌*◌, ◌-◌, ◌<◌}
+use native.Mathlib.Nat.{mul-pos}
+use native.Mathlib.Numerals.{add-one}
 use native.Mathlib.Omega.{arith}
-use lib.ListN.{length, get_or, take, drop, replicate}
-use Rattle.specification.proofs.Positions.{IndexVector, empty, ◌and◌}
-use Rattle.specification.proofs.Digits.{PositiveExtents, none, more}
-use Rattle.odometer.specs.Odometer.{dot}
-use Rattle.enumeration.specs.Parts.{AtMiddle, Part}
+use lib.ListN.{length, get_or, take, drop, length-drop}
+use lib.Seq.{take_all}
+use Rattle.specification.specs.Axis.{product}
+use Rattle.specification.specs.Search.{ActiveAxis, total, box}
+use Rattle.differences.proofs.ZeroVector.{head-some}
 
--- ---- positive extents
+-- what is read past the end
+abbrev pub no_axis : ActiveAxis
+no_axis = record { axis = 0; extent = 0; stride = 0 }
 
-pub positive-at : {es : List ℕ} → PositiveExtents es → (j : ℕ) → j < length es → 0 < get_or es j 0
-positive-at none j h = absurd (omega arith)
-positive-at (more p t) zero h = p
-positive-at (more p t) (suc j) h = positive-at t j (omega arith)
+pub extent-at : (axes : List ActiveAxis) (j : ℕ) → 0 < total axes → j < length axes → 0 < (get_or axes j no_axis).extent
+unfolding product
+extent-at [] j h l = absurd (omega arith)
+extent-at (a ∷ rest) zero h l = (head-some a.extent (total rest) h).0
+extent-at (a ∷ rest) (suc j) h l = extent-at rest j (head-some a.extent (total rest) h).1 (omega arith)
 
-pub positive-take : {es : List ℕ} → PositiveExtents es → (c : ℕ) → PositiveExtents (take c es)
-positive-take p zero = none
-positive-take none (suc c) = none
-positive-take (more h t) (suc c) = more h (positive-take t c)
+total-drop : (axes : List ActiveAxis) (c : ℕ) → 0 < total axes → 0 < total (drop c axes)
+unfolding product
+total-drop axes zero h = h
+total-drop [] (suc c) h = h
+total-drop (a ∷ rest) (suc c) h = total-drop rest c (head-some a.extent (total rest) h).1
 
-pub positive-drop : {es : List ℕ} → PositiveExtents es → (c : ℕ) → PositiveExtents (drop c es)
-positive-drop p zero = p
-positive-drop none (suc c) = none
-positive-drop (more h t) (suc c) = positive-drop t c
+-- the axes from c on
+pub total-rest : (axes : List ActiveAxis) (c : ℕ) → 0 < total axes → 0 < total (take (length axes - c) (drop c axes))
+total-rest axes c h = rw (take_all (length axes - c) (drop c axes) (omega (arith, length-drop c axes))) (total-drop axes c h)
 
--- ---- zeros
+pub box-some : (axes : List ActiveAxis) → 0 < total axes → 0 < box axes
+unfolding product
+box-some [] h = omega arith
+box-some (a ∷ rest) h =
+    let s = head-some a.extent (total rest) h in
+    let w : 0 < 2 * a.extent - 1 = omega (arith, s.0) in
+    mul-pos w (box-some rest s.1)
 
-zeros_within : {es : List ℕ} → PositiveExtents es → IndexVector es (replicate (length es) 0)
-zeros_within none = empty
-zeros_within (more p t) = ◌and◌ p (zeros_within t)
+box-suc : (axes : List ActiveAxis) (j : ℕ) → j < length axes → box (take (suc j) axes) ≡ box (take j axes) * (2 * (get_or axes j no_axis).extent - 1)
+unfolding product
+box-suc [] j h = absurd (omega arith)
+box-suc (a ∷ rest) zero h = omega arith
+box-suc (a ∷ rest) (suc j) h = let z = ap (λ (n : ℕ). (2 * a.extent - 1) * n) (box-suc rest j (omega arith)) in omega arith
 
-take-replicate : (n m a : ℕ) → n ≤ m → take n (replicate m a) ≡ replicate n a
-take-replicate zero m a h = refl
-take-replicate (suc n) zero a h = absurd (omega arith)
-take-replicate (suc n) (suc m) a h = ap (λ (z : List ℕ). a ∷ z) (take-replicate n m a (omega arith))
-
-dot-zeros : (ss : List ℕ) (n : ℕ) → dot ss (replicate n 0) ≡ 0
-unfolding dot
-dot-zeros [] n = refl
-dot-zeros (s ∷ ss) zero = refl
-dot-zeros (s ∷ ss) (suc n) = omega (arith, dot-zeros ss n)
-
--- the front of an array of zeros, twice, is the difference of equal vectors
-pub zeros-middle : (es ss : List ℕ) → Part es ss → AtMiddle es ss (take (length es) (replicate 16 0)) (take (length es) (replicate 16 0))
-zeros-middle es ss p =
-    let z : take {A = ℕ} (length es) (replicate 16 0) ≡ replicate (length es) 0 = take-replicate (length es) 16 0 p.rank in
-    let w = zeros_within p.sums.positive in
-    record {
-      sums = p.sums;
-      stands = record { above_within = rw z w; below-within = rw z w; up_is = rw z (sym (dot-zeros ss (length es))); down_is = rw z (sym (dot-zeros ss (length es))) };
-      equal = refl;
-    }
+pub box-more : (axes : List ActiveAxis) (j : ℕ) → j < length axes → box (take (j + 1) axes) ≡ box (take j axes) * (2 * (get_or axes j no_axis).extent - 1)
+box-more axes j h = ap (λ (n : ℕ). box (take n axes)) (add-one j) ∙ box-suc axes j h

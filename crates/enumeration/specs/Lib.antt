@@ -1,5 +1,4 @@
 pub mod Words
 pub mod Table
-pub mod Sums
 pub mod Parts
 pub mod Enumeration

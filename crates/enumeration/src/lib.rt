@@ -5,22 +5,14 @@
 mod parts;
 mod table;
 
-ghost use Rattle.std.specs.Prelude.{◌≡◌, ◌<◌, length};
-ghost use Rattle.specification.specs.Axis.{product};
-ghost use Rattle.specification.specs.Search.{wordsFor};
-ghost use Rattle.specification.proofs.Pigeonhole.{Clash};
-ghost use Rattle.enumeration.specs.Words.{Tells};
-ghost use Rattle.enumeration.specs.Sums.{positionSum};
-ghost use Rattle.enumeration.specs.Parts.{Part};
-ghost use Rattle.enumeration.specs.Enumeration.{Block, AnswersBlocks};
+ghost use Rattle.std.specs.Prelude.{◌≡◌, ◌↔◌, ◌<◌, ◌≤◌, length, IsTrue};
+ghost use Rattle.specification.specs.Search.{total as total_of, spanSum, wordsFor, SameSum};
+ghost use Rattle.specification.specs.Verdict.{enumerated, carryOut, freedBy, ScratchAfter};
+ghost use Rattle.differences.specs.Differences.{Walkable};
+ghost use Rattle.enumeration.specs.Enumeration.{outcomeOf};
 
-// Step 6's answer: no two positions have one sum, some two have, or the scratch is short and so many words are needed.
-#[derive(Clone, Copy)]
-pub enum Enumerated {
-    Distinct,
-    Repeated,
-    Short(u64),
-}
+use crate::parts::{Split, meet, split_axes};
+use axis::ActiveAxis;
 
 // How many words the enumeration needs.
 fn words_needed(total: u64, span: u64) -> u64
@@ -32,42 +24,37 @@ fn words_needed(total: u64, span: u64) -> u64
 
 // Whether two positions have one sum, in lent words whatever they hold: the axes in two parts, whose distances meet. More words
 // only make the first part longer.
-fn has_equal_sums(extents: &[u64], strides: &[u64], words: &mut [u64]) -> bool
-    requires part { Part extents.now strides.now }
+fn has_equal_sums(block: &[ActiveAxis], words: &mut [u64]) -> bool
+    requires walkable { Walkable block.now }
     requires words { 0 < length words.old }
-    ensures { Tells result (Clash (positionSum extents.now strides.now) (product extents.now)) }
+    ensures { IsTrue result ↔ SameSum block.now }
 {
-    let parts::Split { place, vectors } = parts::split_axes(extents, words.len());
+    let Split { place, vectors } = split_axes(block, words.len());
+    let (first, second) = block.split_at(place);
     let room = (2 * vectors - 1) as usize;
-    parts::meet(
-        &extents[..place],
-        &strides[..place],
-        &extents[place..],
-        &strides[place..],
-        &mut words[..room],
-        vectors,
-    )
+    meet(first, second, &mut words[..room], vectors)
 }
 
-// Step 6 for a block: its extents, its absolute strides, its total and its span. Only the words needed are lent on, so the others stay as they are.
+/// Step 6 for a block of at most 16 axes with its total and its span: `Ok(true)` where no two positions have one sum, `Ok(false)` where
+/// two have. Only the words needed are lent on, so the others stay as they are; on `Err`, which has their number, all do.
 pub fn enumerate(
-    extents: &[u64],
-    strides: &[u64],
+    block: &[ActiveAxis],
     total: u64,
     span: u64,
     scratch: &mut [u64],
-) -> Enumerated
-    requires { Block extents.now strides.now total span }
-    ensures { AnswersBlocks extents.now strides.now scratch.old scratch.new result }
+) -> Result<bool, u64>
+    requires few { length block.now ≤ 16 }
+    requires some { 0 < total }
+    requires total { total ≡ total_of block.now }
+    requires span { span ≡ spanSum block.now }
+    ensures outcome { outcomeOf (wordsFor total span) result ≡ carryOut (length scratch.old) (enumerated block.now) }
+    ensures scratch { ScratchAfter (freedBy (carryOut (length scratch.old) (enumerated block.now))) scratch.old scratch.new }
 {
     let need = words_needed(total, span);
     if (scratch.len() as u64) < need {
-        return Enumerated::Short(need);
+        return Err(need);
     }
     let words = need as usize;
-    if has_equal_sums(extents, strides, &mut scratch[..words]) {
-        Enumerated::Repeated
-    } else {
-        Enumerated::Distinct
-    }
+    let repeated = has_equal_sums(block, &mut scratch[..words]);
+    Ok(!repeated)
 }

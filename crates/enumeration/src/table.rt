@@ -1,7 +1,6 @@
 // A table of numbers above 0 in lent words, where a word of 0 is free. Each number has a home; it stands there, or in the first
 // word behind that was free when it was put. Words behind the homes take what comes last.
-ghost use Rattle.std.specs.Prelude.{◌≡◌, ◌≢◌, ◌<◌};
-ghost use Rattle.enumeration.specs.Words.{Tells};
+ghost use Rattle.std.specs.Prelude.{◌≡◌, ◌≢◌, ◌↔◌, ◌<◌, IsTrue};
 ghost use Rattle.enumeration.specs.Table.{home_of, Clear, AtMost, Holds, Free, Put};
 
 // 2 ^ 32: a word has its low half as the remainder by it, and its high half as the quotient.
@@ -50,7 +49,7 @@ pub fn holds(table: &[u64], homes: u64, most: u64, n: u64) -> bool
     requires homes { 0 < homes }
     requires most { AtMost most table.now }
     requires above { n ≢ 0 }
-    ensures { Tells result (Holds homes table.now n) }
+    ensures { IsTrue result ↔ Holds homes table.now n }
 {
     if n > most {
         return false;

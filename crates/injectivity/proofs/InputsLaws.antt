@@ -1,39 +1,25 @@
--- Steps 1 and 2: a test of axes, one after another, and what is out of range.
-use Rattle.std.specs.Prelude.{None}
-use mathlib.Core.Path.{◌≡◌, refl, sym, ap, ◌∙◌}
-use mathlib.Core.Bool.{Bool, true, false, not, ◌&&◌, ◌||◌, true≢false}
+-- What is out of range, as the code asks for it.
+use Rattle.std.specs.Prelude.{if◌then◌else◌, is_none, is_some, None, Option}
+use mathlib.Core.Path.{◌≡◌, refl, sym, ap, ap₂, ◌∙◌}
+use mathlib.Core.Bool.{Bool, true, false, not, ◌&&◌, ◌||◌, and-false, true≢false}
 use mathlib.Core.List.{List, [], ◌∷◌}
 use Prim.Native.Nat.{ℕ, ◌-◌, ◌^◌, ◌≤◌, ◌<◌}
 use native.Mathlib.Decide.{dec_lt}
 use native.Mathlib.Omega.{arith}
-use lib.Dec.{ltb}
-use lib.IntN.{ℤ, pos, negsuc, neg_ℤ}
-use borrow.Author.Tests.{not-false}
-use Rattle.std.specs.List.{list_any, zip}
+use lib.Dec.{leb, ltb}
+use lib.IntN.{pos, negsuc, neg_ℤ}
+use borrow.Author.Tests.{not-false, le-leb, lt-leb}
 use Rattle.integer.specs.Multiple.{eqZ}
 use Rattle.integer.specs.Range.{fits, mostSigned}
 use Rattle.integer.proofs.PartLaws.{parts-fit, lt-leZ, posPart-neg, negPart-neg}
 use Rattle.integer.proofs.CheckedLaws.{fits-of-sfits}
 use Rattle.specification.specs.Tests.{some}
-use Rattle.specification.specs.Axis.{Axis, axesOf, active, span, upward, downward}
+use Rattle.specification.specs.Axis.{Axis, active, span, upward, downward}
 use Rattle.specification.specs.CheckIn.{tooWide}
 use Rattle.specification.specs.Verdict.{outOfRange}
 use Rattle.view.specs.Reach.{spansUpTo, sums}
-use Rattle.view.proofs.SpanLaws.{spans-of, spans-over}
+use Rattle.view.specs.declared.bounds.Spans.{Spans}
 use Rattle.injectivity.specs.Inputs.{unfit}
-
--- ---- a test of the axes of two lists, paired
-
-abbrev pub test_pair : (Axis → Bool) → ℕ × ℤ → Bool
-test_pair test pair = test (record { extent = pair.0; stride = pair.1 })
-
-pub any-pairs : (test : Axis → Bool) (es : List ℕ) (ss : List ℤ) → list_any (test_pair test) (zip es ss) ≡ some test (axesOf es ss)
-unfolding some axesOf
-any-pairs test [] ss = refl
-any-pairs test (e ∷ es) [] = refl
-any-pairs test (e ∷ es) (s ∷ ss) = rw (any-pairs test es ss)
-
--- ---- what is out of range
 
 least : Axis → Bool
 least a = active a && eqZ a.stride (negsuc mostSigned)
@@ -74,9 +60,6 @@ range-is : (axes : List Axis) → outOfRange axes ≡ (some unfit axes || spansO
 unfolding outOfRange least spansOut
 range-is axes = in_order (some tooWide axes) _ _ _ (some least axes) ∙ ap (λ (t : Bool). t || spansOut axes) (sym (some-unfit axes))
 
-pub unfit-out : (axes : List Axis) → some unfit axes ≡ true → outOfRange axes ≡ true
-unfit-out axes u = rw (range-is axes, u)
-
 -- one span is no more than the sums
 spans_fit : (axes : List Axis) → upward axes < 2 ^ 63 → downward axes ≤ 2 ^ 63 → some (λ a. not (fits (span a))) axes ≡ false
 unfolding some upward downward
@@ -89,22 +72,16 @@ up_fits n h = fits-of-sfits (pos n) (parts-fit (omega arith) (omega arith))
 down_fits : (n : ℕ) → n ≤ 2 ^ 63 → fits (neg_ℤ (pos n)) ≡ true
 down_fits n h = fits-of-sfits (neg_ℤ (pos n)) (parts-fit (omega (arith, posPart-neg (pos n), negPart-neg (pos n))) (omega (arith, posPart-neg (pos n), negPart-neg (pos n))))
 
-pub spans-in : (axes : List Axis) (up down : ℕ) → some unfit axes ≡ false → sums up down ≡ spansUpTo mostSigned (2 ^ 63) axes → outOfRange axes ≡ false
-unfolding spansOut
-spans-in axes up down u e =
-    let w = spans-of mostSigned (2 ^ 63) axes up down e refl in
-    let h : upward axes < 2 ^ 63 = omega (arith, w.2) in
-    rw (range-is axes, u, spans_fit axes h w.3, up_fits (upward axes) h, down_fits (downward axes) w.3)
-
 up-passes : (n : ℕ) → 2 ^ 63 ≤ n → fits (pos n) ≡ false
 up-passes n h = rw (lt-leZ (pos n) (pos mostSigned) (omega arith))
 
 down-passes : (n : ℕ) → 2 ^ 63 < n → fits (neg_ℤ (pos n)) ≡ false
 down-passes n h = rw (lt-leZ (negsuc mostSigned) (neg_ℤ (pos n)) (omega (arith, posPart-neg (pos n), negPart-neg (pos n))))
 
-pub spans-out : (axes : List Axis) → some unfit axes ≡ false → None ≡ spansUpTo mostSigned (2 ^ 63) axes → outOfRange axes ≡ true
+-- the sums of spans are in range exactly if their chain comes to its end
+spans-told : (axes : List Axis) → spansOut axes ≡ is_none (spansUpTo mostSigned (2 ^ 63) axes)
 unfolding spansOut
-spans-out axes u e = range-is axes ∙ rw u (by (dec_lt (upward axes) (2 ^ 63)))
+spans-told axes = by (dec_lt (upward axes) (2 ^ 63)) (dec_lt (2 ^ 63) (downward axes))
   where
     last : (x y : Bool) → (x || y || true) ≡ true
     last true y = refl
@@ -115,11 +92,28 @@ spans-out axes u e = range-is axes ∙ rw u (by (dec_lt (upward axes) (2 ^ 63)))
     second true y = refl
     second false y = refl
 
-    by : Dec (upward axes < 2 ^ 63) → spansOut axes ≡ true
-    by (yes h) =
-        let never : downward axes ≤ 2 ^ 63 → ⊥ = spans-over mostSigned (2 ^ 63) axes e refl (omega arith) in
-        rw (down-passes (downward axes) (omega arith)) (last (some (λ a. not (fits (span a))) axes) (not (fits (pos (upward axes)))))
-    by (no h) = rw (up-passes (upward axes) (omega arith)) (second (some (λ a. not (fits (span a))) axes) (not (fits (neg_ℤ (pos (downward axes))))))
+    by : Dec (upward axes < 2 ^ 63) → Dec (2 ^ 63 < downward axes) → spansOut axes ≡ is_none (spansUpTo mostSigned (2 ^ 63) axes)
+    by (no h) d =
+        rw (up-passes (upward axes) (omega arith)) (second (some (λ a. not (fits (span a))) axes) (not (fits (neg_ℤ (pos (downward axes))))))
+        ∙ sym (ap (λ (t : Bool). is_none (if t && leb (downward axes) (2 ^ 63) then sums (upward axes) (downward axes) else None)) (lt-leb (upward axes) mostSigned (omega arith)))
+    by (yes h) (yes k) =
+        rw (down-passes (downward axes) k) (last (some (λ a. not (fits (span a))) axes) (not (fits (pos (upward axes)))))
+        ∙ sym (ap (λ (t : Bool). is_none (if t then sums (upward axes) (downward axes) else None)) (ap (λ (t : Bool). leb (upward axes) mostSigned && t) (lt-leb (downward axes) (2 ^ 63) k) ∙ and-false (leb (upward axes) mostSigned)))
+    by (yes h) (no k) =
+        rw (spans_fit axes h (omega arith), up_fits (upward axes) h, down_fits (downward axes) (omega arith)) refl
+        ∙ sym (ap₂ (λ (t u : Bool). is_none (if t && u then sums (upward axes) (downward axes) else None)) (le-leb (upward axes) mostSigned (omega arith)) (le-leb (downward axes) (2 ^ 63) (omega arith)))
+
+-- as the code asks: the axes by themselves, then the two sums of spans
+module _ (axes : List Axis) {u : Bool} (e : u ≡ some unfit axes) where
+  pub unfit-out : u ≡ true → u ≡ outOfRange axes
+  unfit-out q = q ∙ sym (range-is axes ∙ ap (λ (b : Bool). b || spansOut axes) (sym e ∙ q))
+
+  pub spans-out : {r : Option Spans} {t : Bool} → u ≡ false → r ≡ spansUpTo mostSigned (2 ^ 63) axes → is_some r ≡ not t → t ≡ outOfRange axes
+  spans-out {r} {t} q s p = turned t (is_some r) p ∙ ap is_none s ∙ sym (spans-told axes) ∙ sym (range-is axes ∙ ap (λ (b : Bool). b || spansOut axes) (sym e ∙ q))
+    where
+      turned : (t s : Bool) → s ≡ not t → t ≡ not s
+      turned true s p = sym (ap not p)
+      turned false s p = sym (ap not p)
 
 -- what is in range
 pub in-range : (axes : List Axis) → outOfRange axes ≡ false → (some unfit axes ≡ false) × (upward axes < 2 ^ 63) × (downward axes ≤ 2 ^ 63)

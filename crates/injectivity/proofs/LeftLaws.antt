@@ -1,4 +1,4 @@
--- The active axes of a layout that steps 1 and 2 leave to the block: their total, their span, and what holds of each.
+-- The active axes of a layout that is left to the block: their total, their span, and what holds of each.
 use Rattle.std.specs.Prelude.{if◌then◌else◌}
 use mathlib.Core.Path.{◌≡◌, refl, ap, subst}
 use mathlib.Core.Bool.{Bool, true, false, not, ◌&&◌, ◌||◌}
@@ -9,7 +9,6 @@ use native.Mathlib.Nat.{le-mul_of_pos_right, mul_comm}
 use native.Mathlib.Omega.{arith}
 use lib.Dec.{T, ltb, ltb→lt, nltb→le}
 use lib.IntN.{ℤ, pos, negsuc, nat_abs}
-use lib.ListN.{length}
 use borrow.Author.Tests.{ltb-false}
 use Rattle.integer.specs.Multiple.{eqZ}
 use Rattle.integer.specs.Parts.{posPart, negPart}
@@ -22,19 +21,10 @@ use Rattle.specification.specs.Search.{ActiveAxis, total, spanSum}
 use Rattle.specification.specs.Verdict.{activeFrom}
 use Rattle.specification.proofs.NormalAxes.{AllPositive}
 use Rattle.specification.proofs.Sorting.{Each, EachTwo, each-implies}
-use Rattle.injectivity.specs.Axes.{activeAxis}
 use Rattle.injectivity.specs.Inputs.{unfit}
+use Rattle.injectivity.proofs.ActiveLaws.{activeAxis}
 
--- ---- how many there are, their total and their span
-
-pub active-length : (k : ℕ) (axes : List Axis) → length (activeFrom k axes) ≤ length axes
-unfolding activeFrom
-active-length k [] = omega arith
-active-length k (a ∷ r) = go (ltb 1 a.extent) (active-length (suc k) r)
-  where
-    go : (t : Bool) → length (activeFrom (suc k) r) ≤ length r → length (if t then activeAxis k a.extent (nat_abs a.stride) ∷ activeFrom (suc k) r else activeFrom (suc k) r) ≤ length (a ∷ r)
-    go true h = omega arith
-    go false h = omega arith
+-- ---- their total and their span
 
 pub active-total : (k : ℕ) {axes : List Axis} → AllPositive axes → total (activeFrom k axes) ≡ positions axes
 unfolding activeFrom product
@@ -42,7 +32,7 @@ active-total k AllPositive.none = refl
 active-total k (AllPositive.more {a} {r} h t) = go (ltb 1 a.extent) (nltb→le 1 a.extent) (active-total (suc k) t)
   where
     go : (x : Bool) → (T (not x) → a.extent ≤ 1) → total (activeFrom (suc k) r) ≡ positions r
-        → total (if x then activeAxis k a.extent (nat_abs a.stride) ∷ activeFrom (suc k) r else activeFrom (suc k) r) ≡ a.extent * positions r
+        → total (if x then activeAxis k a ∷ activeFrom (suc k) r else activeFrom (suc k) r) ≡ a.extent * positions r
     go true p e = ap (λ (n : ℕ). a.extent * n) e
     go false p e = let q : a.extent ≤ 1 = p tt in let one : a.extent ≡ 1 = omega arith in omega (arith, e, ap (λ (n : ℕ). n * positions r) one)
 
@@ -56,7 +46,7 @@ active-span k [] = refl
 active-span k (a ∷ r) = go (ltb 1 a.extent) (nltb→le 1 a.extent) (active-span (suc k) r)
   where
     go : (x : Bool) → (T (not x) → a.extent ≤ 1) → spanSum (activeFrom (suc k) r) ≡ upward r + downward r
-        → spanSum (if x then activeAxis k a.extent (nat_abs a.stride) ∷ activeFrom (suc k) r else activeFrom (suc k) r) ≡ (posPart (span a) + upward r) + (negPart (span a) + downward r)
+        → spanSum (if x then activeAxis k a ∷ activeFrom (suc k) r else activeFrom (suc k) r) ≡ (posPart (span a) + upward r) + (negPart (span a) + downward r)
     go true p e = omega (arith, e, span-parts a)
     go false p e =
         let q : a.extent ≤ 1 = p tt in
@@ -79,7 +69,7 @@ not_least (pos n) ne e = omega arith
 not_least (negsuc n) ne e = let q : n ≡ mostSigned = omega arith in ne (ap negsuc q)
 
 low-axis : (a : Axis) (k : ℕ) → 1 < a.extent → ltb mostSigned (a.extent - 1) ≡ false → eqZ a.stride (negsuc mostSigned) ≡ false
-    → posPart (span a) < 2 ^ 63 → negPart (span a) ≤ 2 ^ 63 → Low (activeAxis k a.extent (nat_abs a.stride))
+    → posPart (span a) < 2 ^ 63 → negPart (span a) ≤ 2 ^ 63 → Low (activeAxis k a)
 low-axis a k h w l u d =
     let up : posPart a.stride ≤ posPart (span a) = omega (arith, posPart-· (a.extent - 1) a.stride, below_span a.extent (posPart a.stride) h) in
     let down : negPart a.stride ≤ negPart (span a) = omega (arith, negPart-· (a.extent - 1) a.stride, below_span a.extent (negPart a.stride) h) in
@@ -98,7 +88,7 @@ active-low k (a ∷ r) f u d = go (ltb 1 a.extent) (ltb mostSigned (a.extent - 1
   where
     go : (x y z : Bool) → ltb mostSigned (a.extent - 1) ≡ y → eqZ a.stride (negsuc mostSigned) ≡ z → (T x → 1 < a.extent) → ((x && (y || z)) || some unfit r) ≡ false
         → (some unfit r ≡ false → Each Low (activeFrom (suc k) r))
-        → Each Low (if x then activeAxis k a.extent (nat_abs a.stride) ∷ activeFrom (suc k) r else activeFrom (suc k) r)
+        → Each Low (if x then activeAxis k a ∷ activeFrom (suc k) r else activeFrom (suc k) r)
     go true true z p q h f rest = absurd (subst T f tt)
     go true false true p q h f rest = absurd (subst T f tt)
     go true false false p q h f rest = (low-axis a k (h tt) p q (omega arith) (omega arith), rest f)
@@ -112,7 +102,7 @@ numbers-from k [] = tt
 numbers-from k (a ∷ r) = go (ltb 1 a.extent) (each-implies (λ b h. omega arith) (activeFrom (suc k) r) (numbers-from (suc k) r))
   where
     go : (t : Bool) → Each (λ b. k ≤ b.axis) (activeFrom (suc k) r)
-        → Each (λ b. k ≤ b.axis) (if t then activeAxis k a.extent (nat_abs a.stride) ∷ activeFrom (suc k) r else activeFrom (suc k) r)
+        → Each (λ b. k ≤ b.axis) (if t then activeAxis k a ∷ activeFrom (suc k) r else activeFrom (suc k) r)
     go true e = (omega arith, e)
     go false e = e
 
@@ -122,6 +112,6 @@ numbers-differ k [] = tt
 numbers-differ k (a ∷ r) = go (ltb 1 a.extent) (each-implies (λ b h. omega arith) (activeFrom (suc k) r) (numbers-from (suc k) r)) (numbers-differ (suc k) r)
   where
     go : (t : Bool) → Each (λ b. k ≢ b.axis) (activeFrom (suc k) r) → EachTwo (λ a b. a.axis ≢ b.axis) (activeFrom (suc k) r)
-        → EachTwo (λ a b. a.axis ≢ b.axis) (if t then activeAxis k a.extent (nat_abs a.stride) ∷ activeFrom (suc k) r else activeFrom (suc k) r)
+        → EachTwo (λ a b. a.axis ≢ b.axis) (if t then activeAxis k a ∷ activeFrom (suc k) r else activeFrom (suc k) r)
     go true e d = (e, d)
     go false e d = d

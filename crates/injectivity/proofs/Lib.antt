@@ -1,12 +1,10 @@
 -- The laws behind the call, in the order of its steps.
 pub mod InputsLaws
 pub mod PlanLaws
-pub mod AxesLaws
 pub mod ActiveLaws
 pub mod LeftLaws
 pub mod CoverLaws
 pub mod JudgeLaws
-pub mod SizeLaws
 pub mod ReadyLaws
 pub mod DueLaws
 pub mod MeaningProved

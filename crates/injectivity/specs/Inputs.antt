@@ -1,26 +1,28 @@
--- Steps 1 and 2 as the code answers them.
-use Rattle.std.specs.Prelude.{Bool, ◌&&◌, ◌||◌, List, ◌≡◌, ℕ, ◌-◌, ◌≤◌, ◌<◌, ltb, ℤ, negsuc, length}
+-- What is answered or refused before the block is looked for, as the code answers it.
+use Rattle.std.specs.Prelude.{Bool, false, ◌&&◌, ◌||◌, List, ◌≡◌, ℕ, ◌-◌, ◌<◌, ltb, negsuc, Ok, Err, Result, None, Option, Some}
 use Rattle.integer.specs.Multiple.{eqZ}
 use Rattle.integer.specs.Range.{mostSigned}
-use Rattle.specification.specs.Axis.{Axis, axesOf, positions, active}
-use Rattle.specification.specs.Verdict.{verdict}
-use Rattle.specification.proofs.PlanCases.{ToBlock}
+use Rattle.specification.specs.Tests.{some}
+use Rattle.specification.specs.Axis.{Axis, positions, active}
+use Rattle.specification.specs.Normal.{overfull}
+use Rattle.specification.specs.Verdict.{still, outOfRange, judge}
+use Rattle.view.specs.declared.layout.Refusal.{Refusal}
 use Rattle.injectivity.specs.Judgement.{judgedOf, toldOf}
-use Rattle.injectivity.specs.declared.inputs.Inputs.{Inputs}
-use Rattle.injectivity.specs.declared.inputs.Inputs.TheVariants.{Settled, Valid}
+use Rattle.injectivity.specs.declared.Judgement.{Judgement}
 
 -- an active extent minus 1 above 2^63 - 1, or an active stride of -2^63
 abbrev pub unfit : Axis → Bool
 unfit a = active a && (ltb mostSigned (a.extent - 1) || eqZ a.stride (negsuc mostSigned))
 
--- at most 16 axes, two positions or more, and nothing answered or refused before the block
-pub record LeftToBlock (extents : List ℕ) (strides : List ℤ) : Type 0 where
-  pub few : length extents ≤ 16
-  pub one-length : length extents ≡ length strides
-  pub many : 1 < positions (axesOf extents strides)
-  pub to_block : ToBlock (axesOf extents strides)
+-- two positions or more, and nothing answered or refused before the block
+pub record LeftToBlock (axes : List Axis) : Type 0 where
+  pub many : 1 < positions axes
+  pub not_eight : overfull axes ≡ false
+  pub no_still_axis : some still axes ≡ false
+  pub not_three : outOfRange axes ≡ false
 
--- settled as the verdict says with any scratch, or left to the block
-abbrev pub Validated : List ℕ → List ℤ → Inputs → Type 0
-Validated extents strides (Settled answer) = (words : ℕ) → judgedOf answer ≡ toldOf (verdict extents strides words)
-Validated extents strides Valid = LeftToBlock extents strides
+-- answered or refused as the axes are judged with any scratch, or left to the block
+abbrev pub Validated : List Axis → Result (Option Judgement) Refusal → Type 0
+Validated axes (Ok None) = LeftToBlock axes
+Validated axes (Ok (Some judgement)) = (words : ℕ) → judgedOf (Ok judgement) ≡ toldOf (judge axes words)
+Validated axes (Err why) = (words : ℕ) → judgedOf (Err why) ≡ toldOf (judge axes words)

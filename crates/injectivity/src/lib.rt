@@ -1,66 +1,78 @@
-// injectivity.rs: whether no two positions of a layout share an offset, said of its extents and strides.
+//! Whether no two positions of a layout share an offset, said of its extents and strides.
 #![tactic(auto)]
 
-mod axes;
+mod active;
 mod block;
 mod inputs;
 mod judge;
 
+ghost use Rattle.std.specs.Prelude.{◌≤◌, length};
+ghost use Rattle.specification.specs.Verdict.{judge as judged, verdict};
 ghost use Rattle.injectivity.specs.Claims.{Claims};
-ghost use Rattle.std.specs.Prelude.{length};
-ghost use Rattle.specification.specs.Verdict.{verdict};
 ghost use Rattle.injectivity.specs.Inputs.{LeftToBlock};
 ghost use Rattle.injectivity.specs.Judgement.{JudgedAs};
 
-use axes::sort_by_stride;
-use block::{Interleaved, interleaved_block};
-use inputs::{Inputs, validate_injective_layout_inputs};
+use active::{NO_ACTIVE_AXIS, gather_active};
+use axis::Axis;
+use block::interleaved_block;
+use inputs::validate_injective_layout_inputs;
 use judge::judge_block;
-use view::layout::Refusal;
+use search::Searched;
+use sorting::sort_by_stride;
+use view::axes::pair_into;
+use view::layout::{MOST_AXES, NO_AXIS, Refusal};
 
-// The verdict, with the number of difference vectors looked at.
-#[derive(Clone, Copy)]
+/// The verdict, with the number of difference vectors looked at.
+#[derive(Clone, Copy, Debug, PartialEq, Eq)]
 pub enum Judgement {
     Distinct(u64),
     Repeated(u64),
     Undecided,
 }
 
-// Steps 3 to 6 of a layout that steps 1 and 2 leave to them. No block is Distinct: every axis is separated.
-fn judge_active_axes(
-    extents: &[u64],
-    strides: &[i64],
-    scratch: &mut [u64],
-) -> Result<Judgement, Refusal>
-    requires { LeftToBlock extents.now strides.now }
-    ensures { JudgedAs (verdict extents.now strides.now (length scratch.old)) scratch.old scratch.new result }
-{
-    let mut sorted_axes = [0usize; 16];
-    let mut sorted_extents = [0u64; 16];
-    let mut sorted_strides = [0u64; 16];
-    let count = sort_by_stride(
-        extents,
-        strides,
-        &mut sorted_axes,
-        &mut sorted_extents,
-        &mut sorted_strides,
-    );
-    let Interleaved::Block(block) = interleaved_block(count, &sorted_extents, &sorted_strides)
-    else {
-        return Ok(Judgement::Distinct(0));
-    };
-    let len = block.len;
-    judge_block(
-        &sorted_axes[..len],
-        &sorted_extents[..len],
-        &sorted_strides[..len],
-        block.total,
-        block.span,
-        scratch,
-    )
+impl From<Searched> for Judgement {
+    ghost use Rattle.std.specs.Prelude.{◌≡◌};
+    ghost use Rattle.injectivity.specs.Block.{judgement_of};
+
+    ghost from_gives = { λ searched judgement. judgement ≡ judgement_of searched };
+
+    fn from(searched: Searched) -> Self {
+        match searched {
+            Searched::Repeated(count) => Judgement::Repeated(count),
+            Searched::Distinct(count) => Judgement::Distinct(count),
+        }
+    }
 }
 
-// The verdict. Only step 6 works in the scratch: it refuses fewer words than it needs, and leaves those past them as they were.
+/// The verdict where the block decides. No block is Distinct: every axis is separated.
+fn judge_active_axes(axes: &[Axis], scratch: &mut [u64]) -> Result<Judgement, Refusal>
+    requires few { length axes.now ≤ 16 }
+    requires left { LeftToBlock axes.now }
+    ensures { JudgedAs (judged axes.now (length scratch.old)) scratch.old scratch.new result }
+{
+    let mut room = [NO_ACTIVE_AXIS; 16];
+    let count = gather_active(axes, &mut room);
+    let active = &mut room[..count];
+    sort_by_stride(active);
+    let Some(block) = interleaved_block(active) else {
+        return Ok(Judgement::Distinct(0));
+    };
+    judge_block(&active[..block.len], block, scratch)
+}
+
+/// The verdict of axes. Only the enumeration works in the scratch: it refuses fewer words than it needs, and leaves those past
+/// them as they were.
+pub fn judge_axes(axes: &[Axis], scratch: &mut [u64]) -> Result<Judgement, Refusal>
+    requires { length axes.now ≤ 16 }
+    ensures { JudgedAs (judged axes.now (length scratch.old)) scratch.old scratch.new result }
+{
+    match validate_injective_layout_inputs(axes)? {
+        Some(judgement) => Ok(judgement),
+        None => judge_active_axes(axes, scratch),
+    }
+}
+
+/// The verdict of two lists: refusals 1 and 2, then that of the axes that they are.
 pub fn is_injective_layout(
     extents: &[u64],
     strides: &[i64],
@@ -68,13 +80,19 @@ pub fn is_injective_layout(
 ) -> Result<Judgement, Refusal>
     ensures { JudgedAs (verdict extents.now strides.now (length scratch.old)) scratch.old scratch.new result }
 {
-    match validate_injective_layout_inputs(extents, strides) {
-        Inputs::Settled(judgement) => judgement,
-        Inputs::Valid => judge_active_axes(extents, strides, scratch),
+    if MOST_AXES < extents.len() || MOST_AXES < strides.len() {
+        return Err(Refusal::TooManyAxes);
     }
+    if extents.len() != strides.len() {
+        return Err(Refusal::LengthsDiffer);
+    }
+    let mut room = [NO_AXIS; 16];
+    let axes = &mut room[..extents.len()];
+    pair_into(axes, extents, strides);
+    judge_axes(axes, scratch)
 }
 
-// Does nothing, and promises what the answers of a verdict say of the layout: the check refuses it unless each claim has its proof.
+/// Does nothing, and promises what the answers of a verdict say of the layout: the check refuses it unless each claim has its proof.
 pub fn claims_hold()
     ensures { Claims }
 {}

@@ -13,8 +13,8 @@ use Rattle.specification.specs.Search.{ActiveAxis, lengths, widths, half, fromDi
 use Rattle.specification.specs.Decided.{completes?}
 use Rattle.specification.specs.Verdict.{Plan, answered, Distinct, Repeated, hit, placed, searched}
 use Rattle.odometer.specs.Odometer.{strides}
-use Rattle.walk.specs.Walk.{axisWith, axesWith}
-use Rattle.search.specs.Block.{searchedOr}
+use Rattle.walk.specs.Walk.{axesWith}
+use Rattle.search.specs.Block.{unnumbered, searchedOr}
 
 -- two decisions of what comes to the same
 decided-same : {P Q : Type 0} (d : Dec P) (e : Dec Q) → (P → Q) → (Q → P) → is_yes d ≡ is_yes e
@@ -26,9 +26,6 @@ decided-same (no p) (no q) f g = refl
 -- ---- the numbers
 
 -- axes as the search takes them, by extent and stride
-abbrev pub unnumbered : ActiveAxis → ActiveAxis
-unnumbered a = axisWith a.extent a.stride
-
 abbrev pub allUnnumbered : List ActiveAxis → List ActiveAxis
 allUnnumbered l = axesWith (lengths l) (strides l)
 

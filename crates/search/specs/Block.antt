@@ -1,20 +1,19 @@
 -- Step 5 on a block: what it is given, and what its answer stands for.
-use Rattle.std.specs.Prelude.{◌≡◌, List, [], ◌∷◌, ◌++◌, ℕ, ◌^◌, ◌<◌, ◌≤◌, leb, length, get_or, if◌then◌else◌}
-use Rattle.specification.specs.Tests.{sortBy}
-use Rattle.specification.specs.Search.{ActiveAxis, lengths, spanSum, half}
-use Rattle.specification.specs.Verdict.{Plan, answered, Distinct as isDistinct, Repeated as isRepeated, lower, longer, searched, byMany, pastSearch}
-use Rattle.odometer.specs.Odometer.{strides}
-use Rattle.walk.specs.Walk.{axesWith}
+use Rattle.std.specs.Prelude.{◌≡◌, List, [], ◌∷◌, ◌++◌, ℕ, ◌^◌, ◌<◌, ◌≤◌, leb, length, get_or, None, Option, Some, if◌then◌else◌}
+use Rattle.specification.specs.Search.{ActiveAxis, spanSum, half}
+use Rattle.specification.specs.Verdict.{Plan, answered, Distinct as isDistinct, Repeated as isRepeated, searched}
+use Rattle.walk.specs.Walk.{axisWith, axesWith}
+use Rattle.sorting.specs.Numbered.{Numbered}
 use Rattle.search.specs.declared.Searched.{Searched}
-use Rattle.search.specs.declared.Searched.TheVariants.{PastBudget, Repeated, Distinct}
+use Rattle.search.specs.declared.Searched.TheVariants.{Repeated, Distinct}
 
 -- ---- what is answered
 
 -- the plan that an answer stands for; `past` is the plan above the budget
-abbrev pub plan_of : Searched → Plan → Plan
-plan_of PastBudget past = past
-plan_of (Repeated count) past = answered isRepeated count
-plan_of (Distinct count) past = answered isDistinct count
+abbrev pub planOf : Option Searched → Plan → Plan
+planOf None past = past
+planOf (Some (Repeated count)) past = answered isRepeated count
+planOf (Some (Distinct count)) past = answered isDistinct count
 
 -- step 5 on the two set apart and the others, with `past` above the budget
 abbrev pub searchedOr : Plan → ActiveAxis → ActiveAxis → List ActiveAxis → Plan
@@ -41,21 +40,13 @@ pub record Blocked (apart : List ActiveAxis) (es ss : List ℕ) : Type 0 where
   pub each : (j : ℕ) → j < length es → Side (get_or es j 0) (get_or ss j 0)
   pub fits : spanSum (apart ++ axesWith es ss) < 2 ^ 64
 
--- ---- what is asked: step 5 on every block that has these extents and strides
+-- a block that can be searched: at most 16 axes, no two of one number, each as steps 1 to 3 leave it, their spans together within a word
+pub record Searchable (block : List ActiveAxis) : Type 0 where
+  pub few : length block ≤ 16
+  pub numbered : Numbered block
+  pub sides : Sides block
+  pub fits : spanSum block < 2 ^ 64
 
--- the numbers of axes rise
-abbrev pub Ascending : List ActiveAxis → Type 0
-Ascending [] = Unit {0}
-Ascending (a ∷ []) = Unit {0}
-Ascending (a ∷ b ∷ rest) = (a.axis < b.axis) × Ascending (b ∷ rest)
-
--- the axes of a block in axis order have these extents and strides, and no two have one number
-pub record InAxisOrder (block : List ActiveAxis) (es ss : List ℕ) : Type 0 where
-  pub ascending : Ascending (sortBy lower block)
-  pub extents-are : lengths (sortBy lower block) ≡ es
-  pub strides-are : strides (sortBy lower block) ≡ ss
-
--- the answer is step 5's on each of them, in whatever order the block is; `pastSearch` is no plan that a search ends in,
--- so `PastBudget` is answered exactly where half is above the budget
-abbrev pub AnswersBlocks : List ℕ → List ℕ → Searched → Type 0
-AnswersBlocks es ss r = (block : List ActiveAxis) → InAxisOrder block es ss → plan_of r (pastSearch block) ≡ byMany block (sortBy longer block)
+-- an axis as the search takes it, by extent and stride
+abbrev pub unnumbered : ActiveAxis → ActiveAxis
+unnumbered a = axisWith a.extent a.stride

@@ -1,17 +1,15 @@
 -- The walk: from vector to vector with its residues, and the first that is completed.
-use Rattle.std.specs.Prelude.{if◌then◌else◌}
 use mathlib.Core.Path.{◌≡◌, refl, sym, ap, ◌∙◌, subst, subst⁻¹}
 use mathlib.Core.Bool.{Bool, true, false}
-use mathlib.Core.Option.{Option, some, none}
 use mathlib.Core.List.{List, [], ◌∷◌}
-use Prim.Native.Nat.{ℕ, suc, ◌+◌, ◌*◌, ◌-◌, ◌<◌, ◌≤◌}
+use Prim.Native.Nat.{ℕ, suc, ◌+◌, ◌*◌, ◌<◌}
 use native.Mathlib.Omega.{arith}
 use lib.ListN.{length, get_or}
 use Rattle.integer.specs.Congruence.{Congruent}
 use Rattle.integer.proofs.Congruence.{congruent-mul}
 use Rattle.specification.specs.Tests.{is_yes}
 use Rattle.specification.specs.Axis.{index_at}
-use Rattle.specification.specs.Search.{widths, first_of, differenceSum, fromDigits}
+use Rattle.specification.specs.Search.{widths, differenceSum, fromDigits}
 use Rattle.specification.specs.Decided.{completes?}
 use Rattle.specification.specs.Verdict.{hit}
 use Rattle.specification.proofs.Positions.{IndexVector}
@@ -19,12 +17,9 @@ use Rattle.specification.proofs.Digits.{PositiveExtents, indexAt-place}
 use Rattle.odometer.specs.Odometer.{dot, after}
 use Rattle.odometer.proofs.OrderLaws.{digits-after, digits-within}
 use Rattle.walk.specs.Equation.{Tells}
-use Rattle.walk.specs.Walk.{first, second, axesWith, half_of, hits, widthsOf, middle_of, Ready, Room, Steps, Moves, Stands, Question, hitAfter, Reached, foundOf}
+use Rattle.walk.specs.Walk.{first, second, axesWith, half_of, hits, widthsOf, middle_of, Ready, Room, Steps, Moves, Stands, Question}
+use Rattle.walk.specs.Sound.{Underway}
 use Rattle.walk.specs.declared.TwoAxes.{TwoAxes}
-use Rattle.walk.specs.declared.Place.{Place}
-use Rattle.walk.specs.declared.Walked.{Walked}
-use Rattle.walk.specs.declared.Walked.TheVariants.{Completed, Stopped}
-use Rattle.walk.specs.declared.Found.TheVariants.{Nowhere}
 use Rattle.walk.proofs.AxisLaws.{widths-with, widths-positive, digits-length, half_place, middle-within}
 use Rattle.walk.proofs.ResidueLaws.{window-below}
 
@@ -71,19 +66,7 @@ stands-more t es ss zs zb qs qb x x' z q z' q' r hz hq s v mz mq =
           (dot-scaled t.g 1 ss qs x (omega arith) (omega arith) iq) (dot-scaled t.g 1 ss qs x' (omega arith) (omega arith) iq);
     }
 
--- ---- the first place
-
-first-yes : (test : ℕ → Bool) (n c : ℕ) → test c ≡ true → first_of test (suc n) c ≡ some c
-unfolding first_of
-first-yes test n c e = ap (λ (y : Bool). if y then some c else first_of test n (suc c)) e
-
-first-no : (test : ℕ → Bool) (n c : ℕ) → test c ≡ false → first_of test (suc n) c ≡ first_of test n (suc c)
-unfolding first_of
-first-no test n c e = ap (λ (y : Bool). if y then some c else first_of test n (suc c)) e
-
-first-none : (test : ℕ → Bool) (c : ℕ) → first_of test 0 c ≡ none
-unfolding first_of
-first-none test c = refl
+-- ---- the question at a place
 
 -- an answer that tells agrees with a decision
 tells-same : {P : Type 0} (d : Dec P) (r : Bool) → Tells r P → is_yes d ≡ r
@@ -93,78 +76,34 @@ tells-same (no f) true w = absurd (f (w.yes refl))
 tells-same (no f) false w = refl
 
 module _ (t : TwoAxes) (es ss : List ℕ) where
-  asked : (c : ℕ) (x : List ℕ) (r : Bool) → length ss ≡ length es → x ≡ index_at (widthsOf es) (half_of es ss + c) → Tells r (Question t es ss x) → hits t es ss c ≡ r
+  pub asked : (c : ℕ) (x : List ℕ) (r : Bool) → length ss ≡ length es → x ≡ index_at (widthsOf es) (half_of es ss + c) → Tells r (Question t es ss x) → hits t es ss c ≡ r
   unfolding hit
   asked c x r e at w = tells-same (completes? (first t) (second t) (differenceSum (axesWith es ss) (fromDigits (axesWith es ss) (index_at (widths (axesWith es ss)) (half_of es ss + c))))) r
       (subst (λ (y : List ℕ). Tells r (Question t es ss y)) (at ∙ ap (λ (y : List ℕ). index_at y (half_of es ss + c)) (sym (widths-with es ss e))) w)
 
-  module _ (n : ℕ) (h : n < half_of es ss) where
-    one_more : half_of es ss - n ≡ suc (half_of es ss - (n + 1))
-    one_more = omega arith
+-- ---- one vector on
 
-    next : suc n ≡ n + 1
-    next = omega arith
-
-    after-yes : hits t es ss (n + 1) ≡ true → hitAfter t es ss n ≡ some (n + 1)
-    after-yes e =
-        ap (λ (f : ℕ). first_of (hits t es ss) f (suc n)) one_more
-        ∙ first-yes (hits t es ss) (half_of es ss - (n + 1)) (suc n) (ap (λ (c : ℕ). hits t es ss c) next ∙ e)
-        ∙ ap some next
-
-    after-no : hits t es ss (n + 1) ≡ false → hitAfter t es ss n ≡ hitAfter t es ss (n + 1)
-    after-no e =
-        ap (λ (f : ℕ). first_of (hits t es ss) f (suc n)) one_more
-        ∙ first-no (hits t es ss) (half_of es ss - (n + 1)) (suc n) (ap (λ (c : ℕ). hits t es ss c) next ∙ e)
-        ∙ ap (λ (c : ℕ). first_of (hits t es ss) (half_of es ss - (n + 1)) (suc c)) next
-
-  after-all : (n : ℕ) → half_of es ss ≤ n → hitAfter t es ss n ≡ none
-  after-all n h =
-      let z : half_of es ss - n ≡ 0 = omega arith in
-      ap (λ (f : ℕ). first_of (hits t es ss) f (suc n)) z ∙ first-none (hits t es ss) (suc n)
-
--- ---- where the walk stands that started after i vectors: after n, none of those between completed
-
-pub record Walking (t : TwoAxes) (es ss zs zb qs qb : List ℕ) (i : ℕ) (x : List ℕ) (n z q : ℕ) : Type 0 where
-  pub ready : Ready t
-  pub room : Room t es ss
-  pub z-steps : Steps t.b t.inverse es ss zs zb
-  pub q-steps : Steps t.g 1 es ss qs qb
-  pub from : i ≤ n
-  pub le : n ≤ half_of es ss
-  pub at : x ≡ index_at (widthsOf es) (half_of es ss + n)
-  pub stands : Stands t es ss x z q
-  pub so : hitAfter t es ss n ≡ hitAfter t es ss i
-
-module _ (t : TwoAxes) (es ss zs zb qs qb : List ℕ) (i : ℕ) (x : List ℕ) (n z q : ℕ) (w : Walking t es ss zs zb qs qb i x n z q) (x' : List ℕ) (z' q' : ℕ)
+module _ (t : TwoAxes) (es ss zs zb qs qb x : List ℕ) (n z q : ℕ) (w : Underway t es ss zs zb qs qb x n z q) (h : n < half_of es ss) (x' : List ℕ) (z' q' : ℕ)
     (e : x' ≡ after (widthsOf es) x) (mz : Moves t.b zs x x' z z') (mq : Moves t.g qs x x' q q') where
   at_next : x' ≡ index_at (widthsOf es) (half_of es ss + (n + 1))
   at_next =
-      e ∙ ap (λ (y : List ℕ). after (widthsOf es) y) w.at
+      e ∙ ap (λ (y : List ℕ). after (widthsOf es) y) w.here
       ∙ sym (digits-after (widths-positive w.room.positive) (half_of es ss + n))
       ∙ ap (λ (y : ℕ). index_at (widthsOf es) y) (omega arith)
 
-  pub stands-next : Stands t es ss x' z' q'
-  stands-next = stands-more t es ss zs zb qs qb x x' z q z' q' w.room w.z-steps w.q-steps w.stands
-      (subst⁻¹ (λ (y : List ℕ). IndexVector (widthsOf es) y) at_next (digits-within (widths-positive w.room.positive) (half_of es ss + (n + 1)))) mz mq
-
-  pub walk-yes : (r : Bool) (stop : ℕ) → Tells r (Question t es ss x') → r ≡ true → n < stop → stop ≤ half_of es ss → Reached t es ss i stop x' (Completed (n + 1))
-  walk-yes r stop f y h l =
-      (omega (arith, w.from), omega arith, sym w.so ∙ after-yes t es ss n (omega arith) (asked t es ss (n + 1) x' r w.room.one-length at_next f ∙ y))
-
-  pub walk-on : (r : Bool) → Tells r (Question t es ss x') → r ≡ false → n < half_of es ss → Walking t es ss zs zb qs qb i x' (n + 1) z' q'
-  walk-on r f y h = record {
+  pub underway-next : Underway t es ss zs zb qs qb x' (n + 1) z' q'
+  underway-next = record {
     ready = w.ready;
     room = w.room;
     z-steps = w.z-steps;
     q-steps = w.q-steps;
-    from = omega (arith, w.from);
     le = omega arith;
-    at = at_next;
-    stands = stands-next;
-    so = sym (after-no t es ss n h (asked t es ss (n + 1) x' r w.room.one-length at_next f ∙ y)) ∙ w.so;
+    here = at_next;
+    stands = stands-more t es ss zs zb qs qb x x' z q z' q' w.room w.z-steps w.q-steps w.stands
+        (subst⁻¹ (λ (y : List ℕ). IndexVector (widthsOf es) y) at_next (digits-within (widths-positive w.room.positive) (half_of es ss + (n + 1)))) mz mq;
   }
 
--- ---- the start, and the whole walk
+-- ---- the start
 
 pub start-at : (es ss x : List ℕ) → length ss ≡ length es → PositiveExtents es → x ≡ middle_of es → x ≡ index_at (widthsOf es) (half_of es ss + 0)
 start-at es ss x l p e =
@@ -179,9 +118,3 @@ start-stands t es ss x r p e = subst⁻¹ (λ (y : List ℕ). Stands t es ss y t
   q-low = r.coupled.g-above;
   q-is = record { p = 0; q = 0; eq = omega arith };
 })
-
-module _ (t : TwoAxes) (es ss x : List ℕ) (h : ℕ) (r : Walked) (w : Reached t es ss 0 h x r) where
-  pub whole-no : (at : Place) → r ≡ Stopped at → h ≡ half_of es ss → Nowhere at.count ≡ foundOf (half_of es ss) (hitAfter t es ss 0)
-  whole-no at e k =
-      let v = subst (Reached t es ss 0 h x) e w in
-      ap Nowhere (v.0 ∙ k) ∙ ap (λ (o : Option ℕ). foundOf (half_of es ss) o) (sym (after-all t es ss h (omega arith)) ∙ v.3)

@@ -1,20 +1,14 @@
 -- The walk of step 5: the axes it goes over, where it stands, and what it comes to.
 -- es and ss are the extents and absolute strides of the others, in axis order; x are digits, one for each of them.
 use Rattle.std.specs.Prelude.{◌≡◌, Bool, List, [], ◌∷◌, ℕ, suc, ◌+◌, ◌*◌, ◌-◌, ◌^◌, ◌<◌, ◌≤◌, length, get_or}
-use Rattle.std.proofs.Math.Option.{Option, some, none}
 use Rattle.integer.specs.Congruence.{Congruent}
-use Rattle.specification.specs.Axis.{index_at}
-use Rattle.specification.specs.Search.{ActiveAxis, Completes, differenceSum, fromDigits, half, first_of}
+use Rattle.specification.specs.Search.{ActiveAxis, Completes, differenceSum, fromDigits, half}
 use Rattle.specification.specs.Verdict.{hit}
 use Rattle.specification.proofs.Positions.{IndexVector}
 use Rattle.specification.proofs.Digits.{PositiveExtents}
 use Rattle.odometer.specs.Odometer.{dot}
 use Rattle.walk.specs.Equation.{Coupled}
 use Rattle.walk.specs.declared.TwoAxes.{TwoAxes}
-use Rattle.walk.specs.declared.Walked.{Walked}
-use Rattle.walk.specs.declared.Walked.TheVariants.{Completed, Stopped}
-use Rattle.walk.specs.declared.Found.{Found}
-use Rattle.walk.specs.declared.Found.TheVariants.{At, Nowhere}
 
 -- ---- the axes, by their extents and strides
 
@@ -112,21 +106,3 @@ hits t es ss = hit (first t) (second t) (axesWith es ss)
 -- how many vectors there are to look at
 abbrev pub half_of : List ℕ → List ℕ → ℕ
 half_of es ss = half (axesWith es ss)
-
--- the place of the first that is completed, after n that were looked at
-abbrev pub hitAfter : TwoAxes → List ℕ → List ℕ → ℕ → Option ℕ
-hitAfter t es ss n = first_of (hits t es ss) (half_of es ss - n) (suc n)
-
--- the walk went on from i vectors to the first that is completed, or to the stop with none; from there it can go on
-abbrev pub Reached : TwoAxes → List ℕ → List ℕ → ℕ → ℕ → List ℕ → Walked → Type 0
-Reached t es ss i stop x (Completed n) = (i < n) × (n ≤ stop) × (hitAfter t es ss i ≡ some n)
-Reached t es ss i stop x (Stopped at) =
-    (at.count ≡ stop)
-    × (x ≡ index_at (widthsOf es) (half_of es ss + stop))
-    × Stands t es ss x at.z at.q
-    × (hitAfter t es ss stop ≡ hitAfter t es ss i)
-
--- what a whole walk comes to: the place, else nowhere among half
-abbrev pub foundOf : ℕ → Option ℕ → Found
-foundOf h none = Nowhere h
-foundOf h (some n) = At n

@@ -1,30 +1,21 @@
--- `enumerate` meets its contract: each of its three ends gives the answer that the verdict defines.
+-- `enumerate` meets its contract: a short scratch, or the answer of the words needed.
 use native.Mathlib.Omega.{arith}
 use lib.Seq.{length-take-le}
-use Rattle.enumeration.proofs.BlockParts.{words-above, whole}
-use Rattle.enumeration.proofs.Answers.{enumerated-short, enumerated-repeated, enumerated-distinct}
+use Rattle.enumeration.proofs.OutcomeLaws.{words-above, short_outcome, found_outcome, found_scratch}
 use Rattle.enumeration.proofs.enumerate.Goals as goal
 
-pub returns-then-scratch-need : goal.returns-then-scratch-need
-returns-then-scratch-need c = enumerated-short _ _ _ _ c.requires _ c.words_needed-need.ensures c.args.scratch.now (omega arith)
+pub returns-then-scratch-need-clause-outcome : goal.returns-then-scratch-need-clause-outcome
+returns-then-scratch-need-clause-outcome c =
+    short_outcome _ _ _ _ c.requires.total c.requires.span c.words_needed-need.ensures c.args.scratch.now c.if-scratch-need.true
 
-pub has_equal_sums-requires-clause-part : goal.has_equal_sums-requires-clause-part
-has_equal_sums-requires-clause-part c = whole _ _ _ _ c.requires (omega (arith, c.ranges.span.fits))
+pub has_equal_sums-repeated-requires-clause-words : goal.has_equal_sums-repeated-requires-clause-words
+has_equal_sums-repeated-requires-clause-words c =
+    omega (arith, length-take-le c.words_needed-need.result c.args.scratch.now c.if-scratch-need.false, c.words_needed-need.ensures, words-above c.args.total c.args.span c.requires.some)
 
-pub has_equal_sums-requires-clause-words : goal.has_equal_sums-requires-clause-words
-has_equal_sums-requires-clause-words c =
-    let w = c.words_needed-need in
-    let l = length-take-le w.result c.args.scratch.now c.if-scratch-need.false in
-    omega (arith, l, w.ensures, words-above _ _ _ _ c.requires)
+pub returns-clause-outcome : goal.returns-clause-outcome
+returns-clause-outcome c =
+    found_outcome _ _ _ _ c.requires.total c.requires.span c.words_needed-need.ensures c.args.scratch.now c.if-scratch-need.false _ c.has_equal_sums-repeated.ensures
 
-pub returns-then-has_equal_sums : goal.returns-then-has_equal_sums
-returns-then-has_equal_sums c =
-    let w = c.words_needed-need in
-    let r = c.has_equal_sums in
-    enumerated-repeated _ _ _ _ c.requires _ w.ensures _ c.if-scratch-need.false r.new.words r.auto.words _ r.ensures c.if-has_equal_sums.true
-
-pub returns-else-has_equal_sums : goal.returns-else-has_equal_sums
-returns-else-has_equal_sums c =
-    let w = c.words_needed-need in
-    let r = c.has_equal_sums in
-    enumerated-distinct _ _ _ _ c.requires _ w.ensures _ c.if-scratch-need.false r.new.words r.auto.words _ r.ensures c.if-has_equal_sums.false
+pub returns-clause-scratch : goal.returns-clause-scratch
+returns-clause-scratch c =
+    found_scratch _ _ _ _ c.requires.total c.requires.span c.words_needed-need.ensures c.args.scratch.now c.if-scratch-need.false _ c.has_equal_sums-repeated.ensures _ c.has_equal_sums-repeated.auto.words

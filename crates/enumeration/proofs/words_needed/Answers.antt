@@ -1,7 +1,7 @@
 -- `words_needed` meets its contract, case by case.
 use mathlib.Core.Path.{sym}
 use native.Mathlib.Omega.{arith}
-use Rattle.enumeration.proofs.Answers.{words-by-span, words-by-total}
+use Rattle.enumeration.proofs.OutcomeLaws.{words-by-span, words-by-total}
 use Rattle.enumeration.proofs.words_needed.Goals as goal
 
 pub returns-then-words-total : goal.returns-then-words-total

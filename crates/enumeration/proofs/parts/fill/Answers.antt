@@ -1,37 +1,31 @@
 -- Each goal of `fill` is a law of `Filling`, at one turn of its loop.
-use mathlib.Core.Path.{sym, ◌∙◌}
+use mathlib.Core.Path.{sym, subst}
 use native.Mathlib.Omega.{arith}
-use Rattle.differences.proofs.Visits.{stepped-less}
-use Rattle.enumeration.proofs.Filling.{filling-start, filling-end, filling-zero, filling-free, homes-above, filling-more}
+use Rattle.enumeration.proofs.Filling.{Filling, filling-start, filling-zero, filling-free, homes-above, filling-more, filling-less}
 use Rattle.enumeration.proofs.parts.fill.Goals as goal
 
-pub loop-next-init : goal.loop-next-init
-loop-next-init c = filling-start _ _ _ _ _ _ c.requires.middle c.requires.clear c.requires.homes c.requires.room
+pub loop-distance-init : goal.loop-distance-init
+loop-distance-init c = subst (λ w. Filling c.args.axes.now c.args.homes w c.args.table.now 0) (sym c.new-differences.ensures) (filling-start _ _ _ c.requires.walkable.some c.requires.clear c.requires.homes c.requires.room)
 
-pub returns-then-next : goal.returns-then-next
-returns-then-next c =
-    let v = c.step-next in
-    filling-end _ _ _ _ _ _ _ _ _ _ _ _ c.loop-next.invariant _ _ _ v.ensures.stepped c.if-next.true
+pub returns-then-distance-eq0-clause-zero : goal.returns-then-distance-eq0-clause-zero
+returns-then-distance-eq0-clause-zero c =
+    let v = c.in-Some.ensures in
+    filling-zero _ _ _ _ _ c.loop-distance.invariant _ _ v.axes v.on v.within v.distance c.if-distance-eq0.true
 
-pub returns-then-size-eq0 : goal.returns-then-size-eq0
-returns-then-size-eq0 c =
-    let v = c.step-next in
-    filling-zero _ _ _ _ _ _ _ _ _ _ _ _ c.loop-next.invariant _ _ _ _ _ v.ensures.stepped v.ensures.stands c.if-next.false (sym c.abs_diff-size.ensures ∙ c.if-size-eq0.true)
+pub put-requires-clause-homes : goal.put-requires-clause-homes
+put-requires-clause-homes c = homes-above _ _ _ _ _ c.loop-distance.invariant
 
 pub put-requires-clause-free : goal.put-requires-clause-free
 put-requires-clause-free c =
-    let v = c.step-next in
-    filling-free _ _ _ _ _ _ _ _ _ _ _ _ c.loop-next.invariant _ _ _ _ _ v.ensures.stepped v.ensures.stands c.if-next.false
+    let v = c.in-Some.ensures in
+    filling-free _ _ _ _ _ c.loop-distance.invariant _ _ v.axes v.on v.within v.distance
 
-pub put-requires-clause-homes : goal.put-requires-clause-homes
-put-requires-clause-homes c = homes-above _ _ _ _ _ _ _ _ _ _ _ _ c.loop-next.invariant
+pub loop-distance-smaller : goal.loop-distance-smaller
+loop-distance-smaller c =
+    let v = c.in-Some.ensures in
+    filling-less _ _ _ _ _ c.loop-distance.invariant _ _ v.axes v.on v.within v.distance
 
-pub loop-next-smaller : goal.loop-next-smaller
-loop-next-smaller c =
-    let v = c.step-next in
-    stepped-less _ _ _ _ _ _ _ _ _ v.ensures.stepped v.ensures.stands c.if-next.false
-
-pub loop-next-preserved : goal.loop-next-preserved
-loop-next-preserved c =
-    let v = c.step-next in
-    filling-more _ _ _ _ _ _ _ _ _ _ _ _ c.loop-next.invariant _ _ _ _ _ v.ensures.stepped v.ensures.stands c.if-next.false _ _ _ c.abs_diff-size.ensures (omega arith) (omega arith) c.if-size-eq0.false c.put.ensures v.auto.above v.auto.below
+pub loop-distance-preserved : goal.loop-distance-preserved
+loop-distance-preserved c =
+    let v = c.in-Some.ensures in
+    filling-more _ _ _ _ _ c.loop-distance.invariant _ _ v.axes v.on v.within v.distance _ _ (omega arith) (omega arith) c.if-distance-eq0.false c.put.ensures

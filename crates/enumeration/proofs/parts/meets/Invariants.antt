@@ -1,11 +1,11 @@
--- `meets` meets its contract: the loop keeps `LookingUp`.
+-- `meets` meets its contract: the loop keeps `LookingUp`, and fewer vectors are left at each turn.
 use Prim.Native.Nat.{◌-◌}
-use Rattle.differences.specs.Differences.{box, number}
+use Rattle.specification.specs.Search.{box}
 use Rattle.enumeration.proofs.LookingUp.{LookingUp}
 use Rattle.enumeration.proofs.parts.meets.Given as goal
 
-abbrev pub invariant-loop-next : goal.invariant-loop-next
-invariant-loop-next l = LookingUp l.extents l.strides l.fn.above l.fn.below l.table l.homes l.above l.below l.up l.down
+abbrev pub invariant-loop-distance : goal.invariant-loop-distance
+invariant-loop-distance l = LookingUp l.axes l.table l.homes l.differences
 
-abbrev pub decreases-loop-next : goal.decreases-loop-next
-decreases-loop-next l = box l.extents - number l.extents l.above l.below
+abbrev pub decreases-loop-distance : goal.decreases-loop-distance
+decreases-loop-distance l = box l.axes - l.differences.number

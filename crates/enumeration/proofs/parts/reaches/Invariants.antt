@@ -2,5 +2,5 @@
 use Rattle.std.proofs.Common.{◌<◌}
 use Rattle.enumeration.proofs.parts.reaches.Given as goal
 
-abbrev pub invariant-loop-extent : goal.invariant-loop-extent
-invariant-loop-extent l = 0 < l.vectors
+abbrev pub invariant-loop-axis : goal.invariant-loop-axis
+invariant-loop-axis l = 0 < l.vectors

@@ -1,0 +1,96 @@
+-- A difference vector with another difference at one of its axes: its axes, its number and its sums.
+use mathlib.Core.List.{List, [], ◌∷◌}
+use mathlib.Core.Path.{◌≡◌, refl, ap, ◌∙◌}
+use Prim.Native.Nat.{ℕ, zero, suc, ◌+◌, ◌*◌, ◌-◌, ◌<◌, ◌≤◌}
+use native.Mathlib.Nat.{mul-le-mul_left, mul-le-mul_right}
+use native.Mathlib.Numerals.{add-one}
+use native.Mathlib.Omega.{arith}
+use lib.ListN.{length, get_or, set, take}
+use Rattle.std.specs.List.{All}
+use Rattle.std.proofs.lemmas.List.Elements.{All-head, All-tail}
+use Rattle.specification.specs.Axis.{product}
+use Rattle.specification.specs.Search.{spanSum, box}
+use Rattle.differences.specs.declared.AxisDifference.{AxisDifference}
+use Rattle.differences.specs.AxisDifferences.{axes_of, number_of, up_of, down_of, IsSmall}
+
+-- what is read past the end
+abbrev pub nothing : AxisDifference
+nothing = record { axis = record { axis = 0; extent = 0; stride = 0 }; above = 0; below = 0 }
+
+abbrev pub entry : List AxisDifference → ℕ → AxisDifference
+entry ds j = get_or ds j nothing
+
+-- the digit of a difference
+abbrev pub digit_of : AxisDifference → ℕ
+digit_of d = d.above + (d.axis.extent - 1) - d.below
+
+-- how many vectors the axes before j have
+abbrev pub box_before : List AxisDifference → ℕ → ℕ
+box_before ds j = box (take j (axes_of ds))
+
+pub axes-length : (ds : List AxisDifference) → length (axes_of ds) ≡ length ds
+axes-length [] = refl
+axes-length (d ∷ ds) = ap suc (axes-length ds)
+
+pub axes-set : (ds : List AxisDifference) (j : ℕ) (d : AxisDifference) → d.axis ≡ (entry ds j).axis → axes_of (set ds j d) ≡ axes_of ds
+axes-set [] j d e = refl
+axes-set (c ∷ ds) zero d e = ap (λ a. a ∷ axes_of ds) e
+axes-set (c ∷ ds) (suc j) d e = ap (λ z. c.axis ∷ z) (axes-set ds j d e)
+
+pub up-set : (ds : List AxisDifference) (j : ℕ) (d : AxisDifference) → j < length ds
+    → up_of (set ds j d) + (entry ds j).above * (entry ds j).axis.stride ≡ up_of ds + d.above * d.axis.stride
+unfolding up_of
+up-set [] j d h = absurd (omega arith)
+up-set (c ∷ ds) zero d h = omega arith
+up-set (c ∷ ds) (suc j) d h = omega (arith, up-set ds j d (omega arith))
+
+pub down-set : (ds : List AxisDifference) (j : ℕ) (d : AxisDifference) → j < length ds
+    → down_of (set ds j d) + (entry ds j).below * (entry ds j).axis.stride ≡ down_of ds + d.below * d.axis.stride
+unfolding down_of
+down-set [] j d h = absurd (omega arith)
+down-set (c ∷ ds) zero d h = omega arith
+down-set (c ∷ ds) (suc j) d h = omega (arith, down-set ds j d (omega arith))
+
+pub number-set : (ds : List AxisDifference) (j : ℕ) (d : AxisDifference) → j < length ds → d.axis ≡ (entry ds j).axis
+    → number_of (set ds j d) + digit_of (entry ds j) * box_before ds j ≡ number_of ds + digit_of d * box_before ds j
+unfolding number_of product
+number-set [] j d h e = absurd (omega arith)
+number-set (c ∷ ds) zero d h e = omega (arith, ap (λ a. (2 * a.extent - 1) * number_of ds) e)
+number-set (c ∷ ds) (suc j) d h e = let z = ap (λ (n : ℕ). (2 * c.axis.extent - 1) * n) (number-set ds j d (omega arith) e) in omega arith
+
+-- one axis more
+box-suc : (ds : List AxisDifference) (j : ℕ) → j < length ds → box_before ds (suc j) ≡ box_before ds j * (2 * (entry ds j).axis.extent - 1)
+unfolding product
+box-suc [] j h = absurd (omega arith)
+box-suc (c ∷ ds) zero h = omega arith
+box-suc (c ∷ ds) (suc j) h = let z = ap (λ (n : ℕ). (2 * c.axis.extent - 1) * n) (box-suc ds j (omega arith)) in omega arith
+
+pub box-more : (ds : List AxisDifference) (j : ℕ) → j < length ds → box_before ds (j + 1) ≡ box_before ds j * (2 * (entry ds j).axis.extent - 1)
+box-more ds j h = ap (box_before ds) (add-one j) ∙ box-suc ds j h
+
+-- no sum is above the span
+pub up-low : (ds : List AxisDifference) → All IsSmall ds → up_of ds ≤ spanSum (axes_of ds)
+unfolding up_of spanSum
+up-low [] h = omega arith
+up-low (d ∷ ds) h =
+    let s = All-head IsSmall d ds h in
+    let l : d.above ≤ d.axis.extent - 1 = omega arith in
+    omega (arith, mul-le-mul_right d.axis.stride l, up-low ds (All-tail IsSmall d ds h))
+
+pub down-low : (ds : List AxisDifference) → All IsSmall ds → down_of ds ≤ spanSum (axes_of ds)
+unfolding down_of spanSum
+down-low [] h = omega arith
+down-low (d ∷ ds) h =
+    let s = All-head IsSmall d ds h in
+    let l : d.below ≤ d.axis.extent - 1 = omega arith in
+    omega (arith, mul-le-mul_right d.axis.stride l, down-low ds (All-tail IsSmall d ds h))
+
+-- each number is below the box
+pub number-low : (ds : List AxisDifference) → All IsSmall ds → number_of ds < box (axes_of ds)
+unfolding number_of product
+number-low [] h = omega arith
+number-low (d ∷ ds) h =
+    let s = All-head IsSmall d ds h in
+    let w = mul-le-mul_left (2 * d.axis.extent - 1) (number-low ds (All-tail IsSmall d ds h)) in
+    let l : digit_of d < 2 * d.axis.extent - 1 = omega arith in
+    omega arith

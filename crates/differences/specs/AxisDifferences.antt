@@ -1,0 +1,37 @@
+-- A difference vector as the code holds it: an axis and a difference of its indices, in two parts.
+use Rattle.std.specs.Prelude.{List, [], ◌∷◌, ℕ, ◌+◌, ◌*◌, ◌-◌, ◌^◌, ◌<◌, ◌≡◌}
+use Rattle.std.specs.List.{All}
+use Rattle.specification.specs.Search.{ActiveAxis, spanSum}
+use Rattle.differences.specs.declared.AxisDifference.{AxisDifference}
+use Rattle.differences.specs.declared.Sums.{Sums}
+
+-- the axes alone
+abbrev pub axes_of : List AxisDifference → List ActiveAxis
+axes_of [] = []
+axes_of (d ∷ rest) = d.axis ∷ axes_of rest
+
+-- the number of the vector: its digits are difference + extent - 1, that of the first axis the lowest
+unfoldable pub number_of : List AxisDifference → ℕ
+number_of [] = 0
+number_of (d ∷ rest) = d.above + (d.axis.extent - 1) - d.below + (2 * d.axis.extent - 1) * number_of rest
+
+-- the sum of the parts above 0
+unfoldable pub up_of : List AxisDifference → ℕ
+up_of [] = 0
+up_of (d ∷ rest) = d.above * d.axis.stride + up_of rest
+
+-- the sum of the parts below 0
+unfoldable pub down_of : List AxisDifference → ℕ
+down_of [] = 0
+down_of (d ∷ rest) = d.below * d.axis.stride + down_of rest
+
+-- each part is below its extent
+abbrev pub IsSmall : AxisDifference → Type 0
+IsSmall d = (d.above < d.axis.extent) × (d.below < d.axis.extent)
+
+-- a vector with its sums, which fit a word
+pub record Stands (vector : List AxisDifference) (sums : Sums) : Type 0 where
+  pub small : All IsSmall vector
+  pub fits : spanSum (axes_of vector) < 2 ^ 64
+  pub up-is : sums.up ≡ up_of vector
+  pub down-is : sums.down ≡ down_of vector

@@ -1,0 +1,33 @@
+//! The active axes of a layout, gathered from its axes.
+ghost use Rattle.std.specs.Prelude.{◌≡◌, ◌≤◌, length, take};
+ghost use Rattle.specification.specs.Verdict.{activeFrom};
+
+use axis::{ActiveAxis, Axis};
+
+/// What stands in a room for active axes until they are gathered.
+pub const NO_ACTIVE_AXIS: ActiveAxis = ActiveAxis {
+    axis: 0,
+    extent: 0,
+    stride: 0,
+};
+
+/// The active axes in the first places of the room, in axis order, and how many they are.
+pub fn gather_active(axes: &[Axis], active: &mut [ActiveAxis; 16]) -> usize
+    requires { length axes.now ≤ 16 }
+    ensures count { result ≡ length (activeFrom 0 axes.now) }
+    ensures gathered { take result active.new ≡ activeFrom 0 axes.now }
+{
+    let mut count: usize = 0;
+    for (axis, layout_axis) in axes.iter().enumerate() {
+        if layout_axis.extent <= 1 {
+            continue;
+        }
+        active[count] = ActiveAxis {
+            axis,
+            extent: layout_axis.extent,
+            stride: layout_axis.stride.unsigned_abs(),
+        };
+        count += 1;
+    }
+    count
+}
