@@ -1,30 +1,22 @@
 -- Dense strides, as the code answers them.
-use Rattle.std.specs.Prelude.{Bool, List, [], ℕ, ℤ, length, take, if◌then◌else◌, None, Option, Some}
+use Rattle.std.specs.Prelude.{◌&&◌, List, ℕ, ◌*◌, ◌-◌, nat_le, ℤ, if◌then◌else◌, None, Option, Some}
 use Rattle.integer.specs.Range.{mostSigned}
-use Rattle.specification.specs.Outcome.{Outcome, Check, done, refused, pass}
-use Rattle.view.specs.Answers.{outcomeOf}
-use Rattle.dense.specs.declared.Dense.{Dense}
+use Rattle.specification.specs.Beside.{colMajor, rowMajor}
+use Rattle.specification.specs.Outcome.{Outcome}
+use Rattle.dense.specs.declared.Major.{Major}
+use Rattle.dense.specs.declared.Major.TheVariants.{Column, Row}
 
--- a step, or refusal 3
-abbrev pub step_of : Option ℕ → Outcome ℕ
-step_of (Some n) = done n
-step_of None = refused 3 []
+-- the product of a step and an extent, where it and the extent are at most the largest step
+abbrev pub fitting_step : ℕ → ℕ → Option ℕ
+fitting_step step extent =
+    if nat_le (step * extent) mostSigned && nat_le extent mostSigned then Some (step * extent) else None
 
--- what becomes of a step that does not fit
-abbrev pub fullStep : Bool → Outcome ℕ
-fullStep empty = if empty then done mostSigned else refused 3 []
+-- the axis where so many of so many were passed, from the densest one on
+abbrev pub axis_after : Major → ℕ → ℕ → ℕ
+axis_after Column rank passed = passed
+axis_after Row rank passed = rank - 1 - passed
 
--- an answer with strides and their number
-pub record DenseM : Type 0 where
-  pub answer : Check
-  pub count : ℕ
-  pub strides : List ℤ
-
--- the count, and as many strides as it says
-abbrev pub denseOf : Dense → DenseM
-denseOf d = record { answer = outcomeOf d.answer; count = d.count; strides = take d.count d.strides }
-
--- the strides and how many they are, or none beside a refusal
-abbrev pub denseAfter : Outcome (List ℤ) → DenseM
-denseAfter (done strides) = record { answer = pass; count = length strides; strides = strides }
-denseAfter (refused number values) = record { answer = refused number values; count = 0; strides = [] }
+-- dense strides with this axis the densest
+abbrev pub dense_by : Major → List ℕ → Outcome (List ℤ)
+dense_by Column = colMajor
+dense_by Row = rowMajor

@@ -1,103 +1,118 @@
-// The dense half of view.rs: strides that are running products of the extents.
+//! Dense strides: running products of the extents.
 #![tactic(auto)]
 
-ghost use Rattle.std.specs.Prelude.{◌≡◌};
-ghost use Rattle.specification.specs.Outcome.{refused};
+ghost use Rattle.std.specs.Prelude.{◌≡◌, ◌≤◌, ◌<◌, List, ℤ, take, length, IfOk};
 ghost use Rattle.specification.specs.Beside.{nextStep, colMajor, rowMajor};
-ghost use Rattle.view.specs.Answers.{number_of, values_of};
-ghost use Rattle.dense.specs.Dense.{step_of, fullStep, denseOf, denseAfter};
+ghost use Rattle.view.specs.Answers.{outcomeOf};
+ghost use Rattle.dense.specs.Dense.{fitting_step, dense_by, axis_after};
 
+use std::marker::Model;
 use view::bounded::bounded_product;
-use view::bounds::empty_layout;
-use view::layout::Refusal;
+use view::count::has_no_position;
+use view::layout::{MOST_AXES, Refusal};
 
-// As many strides as the count says; none beside a refusal.
-#[derive(Clone, Copy)]
-pub struct Dense {
-    pub strides: [i64; 16],
-    pub count: usize,
-    pub answer: Result<(), Refusal>,
+/// As many strides as there are extents.
+#[derive(Debug, Drop)]
+pub struct DenseStrides {
+    strides: [i64; 16],
+    count: usize,
 }
 
-// The largest step.
+// Clauses see the strides.
+impl Model for DenseStrides {
+    ghost Value = { List ℤ };
+
+    ghost view = { λ dense. take dense.count dense.strides };
+
+    ghost invariant = { λ dense. dense.count ≤ 16 };
+}
+
+impl DenseStrides {
+    pub fn as_slice(&self) -> &[i64]
+        ensures { result.now ≡ self.now }
+    {
+        &self.strides[..self.count]
+    }
+}
+
+/// Which axis is the densest: the first by column, the last by row.
+#[derive(Clone, Copy, Debug, PartialEq, Eq)]
+enum Major {
+    Column,
+    Row,
+}
+
+/// The largest step.
 const MOST_STEP: u64 = i64::MAX as u64;
 
-// What becomes of a step that does not fit: in an empty layout the largest one, else there is none.
-fn full_step(empty: bool) -> Option<u64>
-    ensures { step_of result ≡ fullStep empty }
-{
-    if empty { Some(MOST_STEP) } else { None }
-}
-
-// The step after an extent, where it and the extent are at most the largest step.
-fn next_step(empty: bool, step: u64, extent: u64) -> Option<u64>
-    ensures { step_of result ≡ nextStep empty step extent }
+/// The product of a step and an extent, where it and the extent are at most the largest step.
+fn fitting_step(step: u64, extent: u64) -> Option<u64>
+    ensures { result ≡ fitting_step step extent }
 {
     if MOST_STEP < extent {
-        return full_step(empty);
+        return None;
     }
-    match bounded_product(step, extent, MOST_STEP) {
-        Some(next) => Some(next),
-        None => full_step(empty),
-    }
+    bounded_product(step, extent, MOST_STEP)
 }
 
-// A refusal, with no stride.
-fn no_strides(why: Refusal) -> Dense
-    ensures { denseOf result ≡ denseAfter (refused (number_of why) (values_of why)) }
+/// The step after an extent. One that does not fit is the largest one in an empty layout.
+#[tactic(auto, unfolding(specification::specs::Beside::nextStep))]
+fn next_step(empty: bool, step: u64, extent: u64) -> Result<u64, Refusal>
+    ensures { outcomeOf result ≡ nextStep empty step extent }
 {
-    Dense {
-        strides: [0; 16],
-        count: 0,
-        answer: Err(why),
+    match fitting_step(step, extent) {
+        Some(next) => Ok(next),
+        None if empty => Ok(MOST_STEP),
+        None => Err(Refusal::OutOfRange),
     }
 }
 
-// By column: the first axis is the densest.
-pub fn checked_col_major_strides(extents: &[u64]) -> Dense
-    ensures { denseOf result ≡ denseAfter (colMajor extents.now) }
-{
-    if 16 < extents.len() {
-        return no_strides(Refusal::TooManyAxes);
-    }
-    let empty = empty_layout(extents);
-    let mut strides = [0i64; 16];
-    let mut step = 1;
-    for (i, &extent) in extents.iter().enumerate() {
-        strides[i] = step as i64;
-        let Some(next) = next_step(empty, step, extent) else {
-            return no_strides(Refusal::OutOfRange);
-        };
-        step = next;
-    }
-    Dense {
-        strides,
-        count: extents.len(),
-        answer: Ok(()),
-    }
-}
-
-// By row: the last axis is the densest.
-pub fn checked_row_major_strides(extents: &[u64]) -> Dense
-    ensures { denseOf result ≡ denseAfter (rowMajor extents.now) }
+/// The step at each axis, from the densest axis on.
+fn running_products(extents: &[u64], major: Major) -> Result<DenseStrides, Refusal>
+    ensures answer { outcomeOf result ≡ dense_by major extents.now }
+    ensures as_many { IfOk result (λ strides. length strides ≡ length extents.now) }
 {
     let rank = extents.len();
-    if 16 < rank {
-        return no_strides(Refusal::TooManyAxes);
+    if MOST_AXES < rank {
+        return Err(Refusal::TooManyAxes);
     }
-    let empty = empty_layout(extents);
+    let empty = has_no_position(extents);
     let mut strides = [0i64; 16];
     let mut step = 1;
-    for i in (0..rank).rev() {
-        strides[i] = step as i64;
-        let Some(next) = next_step(empty, step, extents[i]) else {
-            return no_strides(Refusal::OutOfRange);
-        };
-        step = next;
+    for passed in 0..rank {
+        let axis = axis_after(major, rank, passed);
+        strides[axis] = step as i64;
+        step = next_step(empty, step, extents[axis])?;
     }
-    Dense {
+    Ok(DenseStrides {
         strides,
         count: rank,
-        answer: Ok(()),
+    })
+}
+
+/// The axis where so many were passed.
+fn axis_after(major: Major, rank: usize, passed: usize) -> usize
+    requires { passed < rank }
+    ensures { result ≡ axis_after major rank passed }
+{
+    match major {
+        Major::Column => passed,
+        Major::Row => rank - 1 - passed,
     }
+}
+
+/// By column: the first axis is the densest.
+pub fn checked_col_major_strides(extents: &[u64]) -> Result<DenseStrides, Refusal>
+    ensures answer { outcomeOf result ≡ colMajor extents.now }
+    ensures as_many { IfOk result (λ strides. length strides ≡ length extents.now) }
+{
+    running_products(extents, Major::Column)
+}
+
+/// By row: the last axis is the densest.
+pub fn checked_row_major_strides(extents: &[u64]) -> Result<DenseStrides, Refusal>
+    ensures answer { outcomeOf result ≡ rowMajor extents.now }
+    ensures as_many { IfOk result (λ strides. length strides ≡ length extents.now) }
+{
+    running_products(extents, Major::Row)
 }

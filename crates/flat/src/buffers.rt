@@ -1,87 +1,95 @@
-// A layout in two flat buffers.
-ghost use Rattle.std.specs.Prelude.{◌≡◌, ◌++◌, ◌≤◌, length, take, drop};
+//! A layout in two flat buffers: `numbers` holds length, rank and 16 extents, `steps` holds offset and 16 strides.
+ghost use Rattle.std.specs.Prelude.{◌≡◌, ◌≤◌, length, map};
+ghost use Rattle.specification.specs.Axis.{axesOf};
 ghost use Rattle.view.specs.Model.{modelOf, modelFrom};
-ghost use Rattle.flat.specs.Flat.{holdsLayout, holdsView, modelOfFlat, numbersOf, steps_of, Stored};
+ghost use Rattle.flat.specs.Flat.{holdsLayout, holdsView, modelOfFlat, Stored};
 
-use view::layout::{Layout, ReadingOffset};
+use axis::Axis;
+use view::axes::pair_into;
+use view::layout::{Layout, MOST_AXES, ReadingOffset};
 
-// Whether buffers of these lengths have room for a layout.
+/// Whether buffers of these lengths have room for a layout.
 pub fn holds_layout(numbers: usize, steps: usize) -> bool
     ensures { result ≡ holdsLayout numbers steps }
 {
     18 <= numbers && 17 <= steps
 }
 
-// Whether there is room for a layout and for the two values of a refusal.
+/// Whether there is room for a layout and for the two values of a refusal.
 pub fn holds_view(numbers: usize, steps: usize, values: usize) -> bool
     ensures { result ≡ holdsView numbers steps values }
 {
     holds_layout(numbers, steps) && 2 <= values
 }
 
-// The extents that a flat layout holds.
-fn extents_in(numbers: &[u64]) -> [u64; 16]
-    requires { 18 ≤ length numbers.now }
-    ensures { result ≡ take 16 (drop 2 numbers.now) }
+/// What a layout is before one is loaded into it.
+pub const NO_LAYOUT: Layout = Layout {
+    len: 0,
+    offset: ReadingOffset(0),
+    rank: 0,
+    axes: [Axis {
+        extent: 0,
+        stride: 0,
+    }; 16],
+};
+
+/// The layout that two flat buffers hold, into a layout that is there.
+pub fn load_layout(layout: &mut Layout, numbers: &[u64], steps: &[i64])
+    requires { (18 ≤ length numbers.now) × (17 ≤ length steps.now) }
+    ensures { modelOf layout.new ≡ modelOfFlat numbers.now steps.now }
 {
-    let mut extents = [0u64; 16];
-    extents.copy_from_slice(&numbers[2..18]);
-    extents
+    let rank = numbers[1] as usize;
+    let held = rank.min(MOST_AXES);
+    layout.len = numbers[0];
+    layout.offset = ReadingOffset(steps[0]);
+    layout.rank = rank;
+    pair_into(
+        &mut layout.axes[..held],
+        &numbers[2..held + 2],
+        &steps[1..held + 1],
+    );
 }
 
-// The strides that a flat layout holds.
-fn strides_in(steps: &[i64]) -> [i64; 16]
-    requires { 17 ≤ length steps.now }
-    ensures { result ≡ take 16 (drop 1 steps.now) }
-{
-    let mut strides = [0i64; 16];
-    strides.copy_from_slice(&steps[1..17]);
-    strides
-}
-
-// The layout that two flat buffers hold.
+/// The layout that two flat buffers hold.
 pub fn layout_in(numbers: &[u64], steps: &[i64]) -> Layout
     requires { (18 ≤ length numbers.now) × (17 ≤ length steps.now) }
     ensures { modelOf result ≡ modelOfFlat numbers.now steps.now }
 {
-    Layout {
-        len: numbers[0],
-        offset: ReadingOffset(steps[0]),
-        rank: numbers[1] as usize,
-        extents: extents_in(numbers),
-        strides: strides_in(steps),
+    let mut layout = NO_LAYOUT;
+    load_layout(&mut layout, numbers, steps);
+    layout
+}
+
+/// Axes stored as two lists.
+fn split_into(axes: &[Axis], extents: &mut [u64], strides: &mut [i64])
+    requires extents_room { length extents.old ≡ length axes.now }
+    requires strides_room { length strides.old ≡ length axes.now }
+    ensures extents { extents.new ≡ map (λ axis. axis.extent) axes.now }
+    ensures strides { strides.new ≡ map (λ axis. axis.stride) axes.now }
+{
+    for (i, axis) in axes.iter().enumerate() {
+        extents[i] = axis.extent;
+        strides[i] = axis.stride;
     }
 }
 
-// Length, rank and extents into the first 18 words.
-fn store_numbers(layout: Layout, numbers: &mut [u64])
-    requires { 18 ≤ length numbers.old }
-    ensures { numbers.new ≡ numbersOf layout ++ drop 18 numbers.old }
+/// The layout into two flat buffers; the places past its rank stay as they were.
+pub fn store_layout(layout: &Layout, numbers: &mut [u64], steps: &mut [i64])
+    requires { (18 ≤ length numbers.old) × (17 ≤ length steps.old) }
+    ensures { Stored (modelOf layout.now) numbers.old steps.old numbers.new steps.new }
 {
+    let held = layout.rank.min(MOST_AXES);
     numbers[0] = layout.len;
     numbers[1] = layout.rank as u64;
-    numbers[2..18].copy_from_slice(&layout.extents);
-}
-
-// Offset and strides into the first 17 words.
-fn store_steps(layout: Layout, steps: &mut [i64])
-    requires { 17 ≤ length steps.old }
-    ensures { steps.new ≡ steps_of layout ++ drop 17 steps.old }
-{
     steps[0] = layout.offset.0;
-    steps[1..17].copy_from_slice(&layout.strides);
+    split_into(
+        &layout.axes[..held],
+        &mut numbers[2..held + 2],
+        &mut steps[1..held + 1],
+    );
 }
 
-// The layout into two flat buffers.
-pub fn store_layout(layout: Layout, numbers: &mut [u64], steps: &mut [i64])
-    requires { (18 ≤ length numbers.old) × (17 ≤ length steps.old) }
-    ensures { Stored (modelOf layout) numbers.old steps.old numbers.new steps.new }
-{
-    store_numbers(layout, numbers);
-    store_steps(layout, steps);
-}
-
-// The layout that two lists of equal length give, into two flat buffers; the places past its rank stay as they were.
+/// The layout that two lists of equal length give, into two flat buffers; the places past its rank stay as they were.
 pub fn store_lists(
     numbers: &mut [u64],
     steps: &mut [i64],
@@ -91,7 +99,7 @@ pub fn store_lists(
     strides: &[i64],
 )
     requires { (18 ≤ length numbers.old) × (17 ≤ length steps.old) × (length extents.now ≤ 16) × (length strides.now ≡ length extents.now) }
-    ensures { Stored (modelFrom len offset.0 extents.now strides.now) numbers.old steps.old numbers.new steps.new }
+    ensures { Stored (modelFrom len offset.0 (axesOf extents.now strides.now)) numbers.old steps.old numbers.new steps.new }
 {
     numbers[0] = len;
     numbers[1] = extents.len() as u64;

@@ -1,4 +1,4 @@
-// What crosses to C: a layout in two flat buffers, and an answer as a number with the values returned.
+//! What crosses to C: a layout in two flat buffers, and an answer as a number with the values returned.
 #![tactic(auto)]
 
 pub mod buffers;

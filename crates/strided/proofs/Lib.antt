@@ -1,2 +1,1 @@
-pub mod InPlaceLaws
-pub mod DenseLaws
+pub mod CheckedLaws

@@ -1,11 +1,9 @@
 -- The outcomes of the calls that answer something other than a layout, and what they leave in lent memory.
-use Rattle.std.specs.Prelude.{Bool, List, ◌∷◌, ◌++◌, ◌≡◌, ℕ, ◌≤◌, leb, ℤ, length, take, drop, if◌then◌else◌}
-use Rattle.specification.specs.Outcome.{Outcome, Check, done, refused}
+use Rattle.std.specs.Prelude.{Bool, List, ◌∷◌, ◌++◌, ◌≡◌, ℕ, ◌≤◌, leb, ℤ, length, drop, if◌then◌else◌}
+use Rattle.specification.specs.Outcome.{Outcome, done, refused}
 use Rattle.specification.specs.Layout.{LayoutM}
 use Rattle.specification.specs.Verdict.{Judged, ScratchAfter, freedBy}
 use Rattle.specification.specs.Record.{Made, WasRead, verdictByte, outputAfter, writeFrees, writeAnswer, read_of, readFrees, rest_of}
-use Rattle.dense.specs.Dense.{denseOf}
-use Rattle.dense.specs.declared.Dense.{Dense}
 use Rattle.injectivity.specs.Judgement.{Told, toldOf}
 use Rattle.flat.specs.Number.{answerNumber}
 use Rattle.strided.specs.Crossing.{ifRoom, valuesAfter, resultAfter, frontAfter, CrossedWithValues}
@@ -72,15 +70,6 @@ pub record OrderCrossed (outcome : Outcome (List ℕ)) (output output-then : Lis
 abbrev pub denseInto : (List ℕ → Outcome (List ℤ)) → List ℕ → ℕ → Outcome (List ℤ)
 denseInto dense extents room = ifRoom (leb (length extents) room) (dense extents)
 
--- the first strides of an answer that is done
-abbrev pub stridesOf : Check → ℕ → List ℤ → Outcome (List ℤ)
-stridesOf (done u) count strides = done (take count strides)
-stridesOf (refused number values) count strides = refused number values
-
 pub record DenseCrossed (outcome : Outcome (List ℤ)) (strides strides-then : List ℤ) (answer : ℕ) : Type 0 where
   pub answer-is : answer ≡ answerNumber outcome
   pub strides-are : strides-then ≡ frontAfter outcome strides
-
--- so many strides of an answer
-abbrev pub DenseTold : Dense → ℕ → List ℤ → List ℤ → ℕ → Type 0
-DenseTold dense count strides strides-then answer = DenseCrossed (stridesOf (denseOf dense).answer count dense.strides) strides strides-then answer

@@ -1,11 +1,9 @@
 -- What crosses the boundary: for an outcome its number, the values returned, and what the lent memory holds afterwards.
 -- A buffer that is too short for its part is one refusal more, 255, without values; in every call it comes before the others.
-use Rattle.view.specs.declared.layout.Refusal.{Refusal}
-use Rattle.std.specs.Prelude.{Bool, true, false, List, [], ◌++◌, ◌≡◌, ℕ, ℤ, length, drop, set, Err, Ok, Result}
+use Rattle.std.specs.Prelude.{Bool, true, false, List, [], ◌++◌, ◌≡◌, ℕ, ℤ, length, drop}
 use Rattle.specification.specs.Outcome.{Outcome, Check, done, refused}
 use Rattle.specification.specs.Layout.{LayoutM}
 use Rattle.specification.specs.Views.{After}
-use Rattle.view.specs.Answers.{number_of, values_of}
 use Rattle.flat.specs.Flat.{holdsLayout, holdsView, modelOfFlat, Stored}
 use Rattle.flat.specs.Number.{answerNumber}
 
@@ -51,11 +49,6 @@ pub record Crossed (outcome : Outcome LayoutM) (numbers : List ℕ) (steps : Lis
 pub record CrossedWithValues (outcome : Outcome LayoutM) (numbers : List ℕ) (steps : List ℤ) (values : List ℕ) (numbers-then : List ℕ) (Steps-then : List ℤ) (values-then : List ℕ) (answer : ℕ) : Type 0 where
   pub crossed : Crossed outcome numbers steps numbers-then Steps-then answer
   pub values-are : values-then ≡ valuesAfter outcome values
-
--- what a view that was made in the buffers answers: the rank in its word, or the number and the values of the refusal
-abbrev pub Answered : Result ℕ Refusal → List ℕ → List ℕ → List ℕ → List ℕ → ℕ → Type 0
-Answered (Ok rank) numbers values numbers-then values-then answer = (answer ≡ 0) × (numbers-then ≡ set numbers 1 rank) × (values-then ≡ values)
-Answered (Err why) numbers values numbers-then values-then answer = (answer ≡ number_of why) × (numbers-then ≡ numbers) × (values-then ≡ values_of why ++ drop (length (values_of why)) values)
 
 -- a view of the layout that two buffers hold: what crosses, by the definition of the view
 abbrev pub Viewing : (LayoutM → After) → List ℕ → List ℤ → List ℕ → List ℕ → List ℤ → List ℕ → ℕ → Type 0

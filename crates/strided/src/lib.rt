@@ -1,5 +1,5 @@
-// The static library: every call of the crates below it, with numbers, slices of numbers and `&mut` numbers alone.
-// A layout crosses as two flat buffers: `numbers` holds length, rank and 16 extents, `steps` holds offset and 16 strides.
+//! The static library: every call of the crates below it, with numbers, slices of numbers and `&mut` numbers alone.
+//! A layout crosses as two flat buffers: `numbers` holds length, rank and 16 extents, `steps` holds offset and 16 strides.
 #![tactic(auto)]
 
 mod beside;
@@ -9,5 +9,3 @@ mod views;
 
 // The answer where a buffer is too short for its part; it comes before every refusal.
 const SHORT_BUFFER: u8 = 255;
-// The most axes that the buffers of a layout have room for.
-const MOST_AXES: usize = 16;

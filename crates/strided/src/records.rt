@@ -1,4 +1,4 @@
-// The record: written, read and stepped over.
+//! The record: written, read and stepped over.
 ghost use Rattle.std.specs.Prelude.{◌≤◌, length};
 ghost use Rattle.specification.specs.Record.{written};
 ghost use Rattle.record.specs.Writer.{wroteOf};
@@ -7,16 +7,15 @@ ghost use Rattle.strided.specs.Crossing.{ifRoom};
 ghost use Rattle.strided.specs.Calls.{WroteAfter, RecordWritten, RecordRead, Behind};
 
 use crate::SHORT_BUFFER;
-use crate::views::answer_viewed;
 use big_endian::BytePlace;
-use flat::buffers::{holds_view, layout_in};
+use flat::buffers::{holds_view, layout_in, store_layout};
 use flat::refusals::refuse;
 use record::read::read_record;
 use record::step::step_over;
 use record::writer::write_record;
 use view::layout::Refusal;
 
-// The bytes written in the first place, or the refusal.
+/// The bytes written in the first place, or the refusal.
 fn answer_wrote(wrote: Result<BytePlace, Refusal>, values: &mut [u64]) -> u8
     requires { 2 ≤ length values.old }
     ensures { WroteAfter (wroteOf wrote) values.old values.new result }
@@ -30,7 +29,7 @@ fn answer_wrote(wrote: Result<BytePlace, Refusal>, values: &mut [u64]) -> u8
     }
 }
 
-// The record of a layout's normal form at the front of the output.
+/// The record of a layout's normal form at the front of the output.
 #[unsafe(no_mangle)]
 pub extern "C" fn strided_write(
     numbers: &[u64],
@@ -44,11 +43,11 @@ pub extern "C" fn strided_write(
     if !holds_view(numbers.len(), steps.len(), values.len()) {
         return SHORT_BUFFER;
     }
-    let wrote = write_record(layout_in(numbers, steps), out, scratch);
+    let wrote = write_record(&layout_in(numbers, steps), out, scratch);
     answer_wrote(wrote, values)
 }
 
-// The layout of the record at the front of the bytes.
+/// The layout of the record at the front of the bytes.
 #[unsafe(no_mangle)]
 pub extern "C" fn strided_read(
     bytes: &[u8],
@@ -62,11 +61,16 @@ pub extern "C" fn strided_read(
     if !holds_view(numbers.len(), steps.len(), values.len()) {
         return SHORT_BUFFER;
     }
-    let viewed = read_record(bytes, scratch);
-    answer_viewed(viewed, numbers, steps, values)
+    match read_record(bytes, scratch) {
+        Err(why) => refuse(why, values),
+        Ok(layout) => {
+            store_layout(&layout, numbers, steps);
+            0
+        }
+    }
 }
 
-// Where the bytes behind the record at the front begin.
+/// Where the bytes behind the record at the front begin.
 #[unsafe(no_mangle)]
 pub extern "C" fn strided_step(bytes: &[u8]) -> usize
     ensures { Behind bytes.now result }

@@ -1,4 +1,4 @@
-// The verdict.
+//! The verdict.
 ghost use Rattle.std.specs.Prelude.{◌&&◌, ◌≤◌, leb, length};
 ghost use Rattle.specification.specs.Verdict.{verdict};
 ghost use Rattle.injectivity.specs.Judgement.{judgedOf};
@@ -10,7 +10,7 @@ use flat::refusals::refuse;
 use injectivity::{Judgement, is_injective_layout};
 use view::layout::Refusal;
 
-// 1 Distinct, 2 Repeated, 3 Undecided, with the count; or the refusal.
+/// 1 Distinct, 2 Repeated, 3 Undecided, with the count; or the refusal.
 fn answer_judgement(judged: Result<Judgement, Refusal>, found: &mut [u64], values: &mut [u64]) -> u8
     requires found_room { 2 ≤ length found.old }
     requires values_room { 2 ≤ length values.old }
@@ -27,7 +27,7 @@ fn answer_judgement(judged: Result<Judgement, Refusal>, found: &mut [u64], value
     0
 }
 
-// Whether no two positions share an offset, with the number of difference vectors looked at.
+/// Whether no two positions share an offset, with the number of difference vectors looked at.
 #[unsafe(no_mangle)]
 pub extern "C" fn strided_is_injective(
     extents: &[u64],
