@@ -11,13 +11,13 @@ use Rattle.specification.specs.Record.{twos}
 use Rattle.big_endian.specs.Twos.{signed_of}
 
 -- the machine's bits of a signed number are its two's complement
-pub bits-of-signed : (z : ℤ) → of_z w64 z ≡ twos z
-bits-of-signed (pos n) = refl
-bits-of-signed (negsuc n) = refl
+pub bits_of_signed : (z : ℤ) → of_z w64 z ≡ twos z
+bits_of_signed (pos n) = refl
+bits_of_signed (negsuc n) = refl
 
 -- 64 bits read as a signed number are the number whose two's complement they hold
-pub signed-of-bits : (n : ℕ) → to_z w64 n ≡ signed_of n
-signed-of-bits n = by (ltb n (2 ^ 63))
+pub signed_of_bits : (n : ℕ) → to_z w64 n ≡ signed_of n
+signed_of_bits n = by (ltb n (2 ^ 63))
   where
     by : (t : Bool) → sel t (pos n) (negsuc (2 ^ 64 - suc n)) ≡ if t then pos n else negsuc (2 ^ 64 - suc n)
     by true = refl

@@ -1,20 +1,20 @@
 -- Laws of a call list in numbers: the calls from one call on, where it is ill-formed, and a list past 16 entries is refused by its length.
-use Rattle.std.specs.Prelude.{if◌then◌else◌}
+use Rattle.std.specs.Prelude.{if◌then◌else◌, Err, Ok, None, Option, Some}
 use mathlib.Core.Path.{◌≡◌, refl, sym, ap, ◌∙◌}
-use mathlib.Core.Bool.{Bool, true, false, ◌||◌}
+use mathlib.Core.Bool.{Bool, true, false, ◌&&◌, ◌||◌}
 use mathlib.Core.List.{List, [], ◌∷◌}
-use Prim.Native.Nat.{ℕ, zero, suc, min, ◌+◌, ◌<◌, ◌≤◌}
+use Prim.Native.Nat.{ℕ, zero, suc, min, ◌+◌, ◌-◌, ◌<◌, ◌≤◌}
 use native.Mathlib.Omega.{arith}
-use lib.Dec.{ltb}
-use lib.ListN.{length, take, drop, get_or, length-drop, length-take, drop_of_length-le}
-use lib.Seq.{drop-cons, drop-drop, take_all}
-use borrow.Author.Tests.{lt-ltb, ltb-true, ltb-false, le-leb, eq-eqb, ne_eqb}
+use lib.Dec.{leb, ltb}
+use lib.ListN.{length, take, drop, length-drop, length-take}
+use lib.Seq.{take_all}
+use borrow.Author.Tests.{lt-ltb, ltb-true, ltb-false, le-leb, leb-true, eq-eqb, ne_eqb}
 use Rattle.specification.specs.Outcome.{refused, refuseIf, ◌>>◌}
 use Rattle.specification.specs.Layout.{LayoutM, tooLong, handed}
 use Rattle.specification.specs.Views.{broadcast, unlessRefused}
 use Rattle.specification.specs.Calls.{Call, after_call, end_of}
-use Rattle.record.specs.declared.calls.Ended.TheVariants.{All, IllFormed}
-use Rattle.record.specs.CallList.{call_of, wellFormed, calls_within, calls_of, takenWithin, ended_of}
+use Rattle.specification.proofs.ReachLaws.{and-true}
+use Rattle.record.specs.CallList.{call_of, wellFormed, first_of, calls_within, calls_of, takenWithin, ended_of}
 
 -- ---- a list past 16 entries
 
@@ -90,79 +90,91 @@ module _ (kind count : ℕ) (rest : List ℕ) where
   unfolding takenWithin
   taken-ill w = rw w
 
-one-call : (a : ℕ) → calls_of (a ∷ []) ≡ []
-unfolding calls_of calls_within
-one-call a = refl
+-- ---- the call at the front
 
-one-taken : (a : ℕ) → takenWithin 1 (a ∷ []) ≡ 0
-unfolding takenWithin
-one-taken a = refl
+-- a call was read: the calls and what they take go on behind it
+pub record Read (list : List ℕ) (c : Call) (behind : List ℕ) : Type 0 where
+  pub calls : calls_of list ≡ c ∷ calls_of behind
+  pub taken : takenWithin (length list) list + length behind ≡ length list + takenWithin (length behind) behind
+  pub shorter : length behind < length list
 
--- ---- a run that has come to place `place`
+some_pair : {x y : Call × List ℕ} → Some x ≡ Some y → x ≡ y
+some_pair e = cc
 
-pub record Running (calls : List ℕ) (start : LayoutM) (place : ℕ) (current : LayoutM) : Type 0 where
-  pub within : place ≤ length calls
-  pub goes_on : end_of start (calls_of calls) ≡ end_of current (calls_of (drop place calls))
-  pub taken : takenWithin (length calls) calls ≡ place + takenWithin (length (drop place calls)) (drop place calls)
+pub call_read : (list : List ℕ) (c : Call) (behind : List ℕ) → first_of list ≡ Some (c, behind) → Read list c behind
+call_read [] c behind e = absurd cc
+call_read (kind ∷ []) c behind e = absurd cc
+call_read (kind ∷ count ∷ rest) c behind e = by (wellFormed kind count rest) refl (rw (le-leb 2 (length (kind ∷ count ∷ rest)) (omega arith)) at e)
+  where
+    by : (t : Bool) → wellFormed kind count rest ≡ t → (if◌then◌else◌ {A = Option (Call × List ℕ)} t (Some (call_of kind (take count rest), drop count rest)) None) ≡ Some (c, behind)
+        → Read (kind ∷ count ∷ rest) c behind
+    by true w q =
+        let both = some_pair q in
+        let here : call_of kind (take count rest) ≡ c = ap (λ (p : Call × List ℕ). p.0) both in
+        let there : drop count rest ≡ behind = ap (λ (p : Call × List ℕ). p.1) both in
+        let fits = leb-true count (length rest) (and-true (leb 1 kind && leb kind 3) (leb count (length rest)) w).1 in
+        let d = length-drop count rest in
+        rw (← here, ← there) record {
+          calls = calls-more kind count rest w;
+          taken = omega (arith, taken_more kind count rest w);
+          shorter = omega arith;
+        }
+    by false w q = absurd cc
 
--- what is left is the two numbers of a call and the rest
-two-left : (calls : List ℕ) (place : ℕ) → place + 2 ≤ length calls → drop place calls ≡ get_or calls place 0 ∷ get_or calls (place + 1) 0 ∷ drop (place + 2) calls
-two-left calls place h =
-    let one : suc place ≡ place + 1 = omega arith in
-    let two : suc (place + 1) ≡ place + 2 = omega arith in
-    drop-cons calls place 0 (omega arith) ∙ ap (λ (l : List ℕ). get_or calls place 0 ∷ l) (ap (λ (k : ℕ). drop k calls) one ∙ drop-cons calls (place + 1) 0 (omega arith) ∙ ap (λ (k : ℕ). get_or calls (place + 1) 0 ∷ drop k calls) two)
+-- none was read: no call is left, and none takes a number
+pub record None-read (list : List ℕ) : Type 0 where
+  pub calls : calls_of list ≡ []
+  pub taken : takenWithin (length list) list ≡ 0
 
-module _ {calls : List ℕ} {start : LayoutM} {place : ℕ} {current : LayoutM} (r : Running calls start place current) where
+pub none_read : (list : List ℕ) → first_of list ≡ None → None-read list
+unfolding calls_of calls_within takenWithin
+none_read [] e = record { calls = refl; taken = refl }
+none_read (kind ∷ []) e = record { calls = refl; taken = refl }
+none_read (kind ∷ count ∷ rest) e = by (wellFormed kind count rest) refl (rw (le-leb 2 (length (kind ∷ count ∷ rest)) (omega arith)) at e)
+  where
+    by : (t : Bool) → wellFormed kind count rest ≡ t → (if◌then◌else◌ {A = Option (Call × List ℕ)} t (Some (call_of kind (take count rest), drop count rest)) None) ≡ None
+        → None-read (kind ∷ count ∷ rest)
+    by true w q = absurd cc
+    by false w q = record { calls = calls-ill kind count rest w; taken = taken-ill kind count rest w }
+
+-- ---- a run that has come so far that `rest` is left
+
+pub record Running (calls : List ℕ) (start : LayoutM) (rest : List ℕ) (current : LayoutM) : Type 0 where
+  pub within : length rest ≤ length calls
+  pub goes_on : end_of start (calls_of calls) ≡ end_of current (calls_of rest)
+  pub taken : takenWithin (length calls) calls + length rest ≡ length calls + takenWithin (length rest) rest
+
+pub running_start : (calls : List ℕ) (start : LayoutM) → Running calls start calls start
+running_start calls start = record { within = omega arith; goes_on = refl; taken = omega arith }
+
+module _ {calls : List ℕ} {start : LayoutM} {rest : List ℕ} {current : LayoutM} (r : Running calls start rest current) where
   -- a call was run
-  pub running_more : {next : LayoutM} → place + 2 ≤ length calls → 0 < get_or calls place 0 → get_or calls place 0 ≤ 3 → place + 2 + get_or calls (place + 1) 0 ≤ length calls
-      → next ≡ (after_call current (call_of (get_or calls place 0) (take (get_or calls (place + 1) 0) (drop (place + 2) calls)))).layout
-      → Running calls start (place + 2 + get_or calls (place + 1) 0) next
+  pub running_more : {next : LayoutM} {c : Call} {behind : List ℕ} → first_of rest ≡ Some (c, behind) → next ≡ (after_call current c).layout → Running calls start behind next
   unfolding end_of
-  running_more h k m n e =
-      let d = length-drop (place + 2) calls in
-      let w : wellFormed (get_or calls place 0) (get_or calls (place + 1) 0) (drop (place + 2) calls) ≡ true
-      = rw (le-leb 1 (get_or calls place 0) k, le-leb (get_or calls place 0) 3 m, le-leb (get_or calls (place + 1) 0) (length (drop (place + 2) calls)) (omega arith)) in
-      let t = two-left calls place h in
+  running_more {next} {c} {behind} e n =
+      let k = call_read rest c behind e in
       record {
-        within = n;
-        goes_on = r.goes_on ∙ ap (λ (l : List ℕ). end_of current (calls_of l)) t
-            ∙ ap (end_of current) (calls-more (get_or calls place 0) (get_or calls (place + 1) 0) (drop (place + 2) calls) w)
-            ∙ rw (e, drop-drop (get_or calls (place + 1) 0) (place + 2) calls);
-        taken = r.taken ∙ ap (λ (l : List ℕ). place + takenWithin (length l) l) t
-            ∙ ap (λ (k : ℕ). place + k) (taken_more (get_or calls place 0) (get_or calls (place + 1) 0) (drop (place + 2) calls) w)
-            ∙ rw (drop-drop (get_or calls (place + 1) 0) (place + 2) calls) (omega arith);
+        within = omega (arith, r.within, k.shorter);
+        goes_on = r.goes_on ∙ ap (end_of current) k.calls ∙ ap (λ (l : LayoutM). end_of l (calls_of behind)) (sym n);
+        taken = omega (arith, r.taken, k.taken);
       }
 
-  ends-here : calls_of (drop place calls) ≡ [] → end_of start (calls_of calls) ≡ current
-  unfolding end_of
-  ends-here e = r.goes_on ∙ rw e
+  module _ (e : first_of rest ≡ None) where
+    -- there is no further call
+    pub running_end : current ≡ end_of start (calls_of calls)
+    unfolding end_of
+    running_end = sym (r.goes_on ∙ ap (end_of current) (none_read rest e).calls)
 
-  ended_here : place < length calls → takenWithin (length (drop place calls)) (drop place calls) ≡ 0 → ended_of calls ≡ IllFormed place
-  unfolding ended_of
-  ended_here h e =
-      let t : takenWithin (length calls) calls ≡ place = r.taken ∙ rw e (omega arith) in
-      rw (t, ne_eqb place (length calls) (λ q. omega arith))
+    -- all numbers were read
+    pub ended_well : length rest ≡ 0 → Ok tt ≡ ended_of calls
+    unfolding ended_of
+    ended_well h =
+        let t : takenWithin (length calls) calls ≡ length calls = omega (arith, r.taken, (none_read rest e).taken) in
+        rw (t, eq-eqb (length calls) (length calls) refl)
 
-  -- the list is ill-formed from here on
-  pub running-ill : place + 2 ≤ length calls → wellFormed (get_or calls place 0) (get_or calls (place + 1) 0) (drop (place + 2) calls) ≡ false
-      → (current ≡ end_of start (calls_of calls)) × (IllFormed place ≡ ended_of calls)
-  running-ill h w =
-      let t = two-left calls place h in
-      (sym (ends-here (ap calls_of t ∙ calls-ill (get_or calls place 0) (get_or calls (place + 1) 0) (drop (place + 2) calls) w)), sym (ended_here (omega arith) (ap (λ (l : List ℕ). takenWithin (length l) l) t ∙ taken-ill (get_or calls place 0) (get_or calls (place + 1) 0) (drop (place + 2) calls) w)))
-
-  -- one number is left
-  pub running-odd : place < length calls → length calls < place + 2 → (current ≡ end_of start (calls_of calls)) × (IllFormed place ≡ ended_of calls)
-  running-odd h k = by (drop place calls) refl
-    where
-      by : (l : List ℕ) → drop place calls ≡ l → (current ≡ end_of start (calls_of calls)) × (IllFormed place ≡ ended_of calls)
-      by [] e = absurd (omega (arith, length-drop place calls, ap length e))
-      by (a ∷ []) e = (sym (ends-here (ap calls_of e ∙ one-call a)), sym (ended_here h (ap (λ (l : List ℕ). takenWithin (length l) l) e ∙ one-taken a)))
-      by (a ∷ b ∷ l) e = absurd (omega (arith, length-drop place calls, ap length e))
-
-  -- all calls were run
-  pub running-end : length calls ≤ place → (current ≡ end_of start (calls_of calls)) × (All ≡ ended_of calls)
-  unfolding ended_of calls_of calls_within takenWithin
-  running-end h =
-      let e = drop_of_length-le calls {i = place} h in
-      let t : takenWithin (length calls) calls ≡ length calls = r.taken ∙ rw e (omega (arith, r.within)) in
-      (sym (ends-here (ap calls_of e)), rw (t, eq-eqb (length calls) (length calls) refl))
+    -- or some are left
+    pub ended_ill : 0 < length rest → Err (length calls - length rest) ≡ ended_of calls
+    unfolding ended_of
+    ended_ill h =
+        let t : takenWithin (length calls) calls ≡ length calls - length rest = omega (arith, r.taken, r.within, (none_read rest e).taken) in
+        rw (t, ne_eqb (length calls - length rest) (length calls) (λ q. absurd (omega (arith, r.within))))

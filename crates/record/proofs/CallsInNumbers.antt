@@ -9,8 +9,8 @@ use lib.Seq.{take_at, drop_at}
 use borrow.Author.Tests.{le-leb, eq-eqb}
 use Rattle.specification.specs.Views.{pairsOf}
 use Rattle.specification.specs.Calls.{Call, permuting, diagonal, broadcasting}
-use Rattle.view.specs.Model.{AllBelow}
-use Rattle.record.specs.declared.calls.Ended.TheVariants.{All}
+use Rattle.view.specs.Refusals.{AllBelow}
+use Rattle.std.specs.Prelude.{Ok}
 use Rattle.record.specs.CallList.{call_of, wellFormed, calls_of, calls_within, takenWithin, ended_of}
 use Rattle.record.specs.CallListClaims.{flat, kind_of, argumentsOf, numbersOf, InWords, CallListClaims}
 use Rattle.record.proofs.CallListLaws.{calls-more, taken_more}
@@ -66,7 +66,7 @@ taken-all (c ∷ calls) =
     ∙ ap (λ (k : ℕ). 2 + n + k) (taken-all calls)
     ∙ omega (arith, length-append (argumentsOf c) (numbersOf calls))
 
-all_read : (calls : List Call) → ended_of (numbersOf calls) ≡ All
+all_read : (calls : List Call) → ended_of (numbersOf calls) ≡ Ok tt
 unfolding ended_of
 all_read calls = rw (taken-all calls, eq-eqb (length (numbersOf calls)) (length (numbersOf calls)) refl)
 

@@ -36,7 +36,7 @@ pub chain-claims : ChainClaims
 chain-claims = record {
   as-defined = λ c. record { answers-are = answers-are c; end_is = end_is c };
   there = some_chain;
-  as-run = λ start end numbers answers ran r c. r.0 ∙ sym (end_is c);
-  run-of-chain = λ start end calls answers ran c r.
-      (r.0 ∙ ap (end_of (modelOf start)) (call-list-claims.calls_are calls) ∙ sym (end_is c), r.1 ∙ call-list-claims.all_read calls);
+  as-run = λ start end ran numbers answers ended r c. r.layout_is ∙ sym (end_is c);
+  run-of-chain = λ start end ran calls answers ended c r.
+      (r.layout_is ∙ ap (end_of (modelOf start)) (call-list-claims.calls_are calls) ∙ sym (end_is c), r.ended_is ∙ call-list-claims.all_read calls);
 }

@@ -1,11 +1,10 @@
 -- From every layout there is a chain of every list of calls: what the definition answers is the answer of some `Viewed`.
 use Rattle.std.specs.Prelude.{Err, Ok, Result}
 use mathlib.Core.Path.{◌≡◌, refl, sym, ap, subst, ◌∙◌}
-use mathlib.Core.List.{List, [], ◌∷◌, map}
+use mathlib.Core.List.{List, [], ◌∷◌}
 use Prim.Native.Nat.{ℕ}
-use lib.IntN.{ℤ}
-use lib.ListN.{length, length-map}
-use Rattle.specification.specs.Axis.{Axis, axesOf}
+use lib.ListN.{length}
+use Rattle.specification.specs.Axis.{Axis}
 use Rattle.specification.specs.Outcome.{Check, done, refused}
 use Rattle.specification.specs.Layout.{LayoutM}
 use Rattle.specification.specs.Views.{diagonalView}
@@ -17,34 +16,22 @@ use Rattle.view.specs.declared.layout.Refusal.TheVariants.{TooManyAxes, OutOfRan
 use Rattle.view.specs.declared.layout.Layout.{Layout}
 use Rattle.view.specs.declared.layout.Viewed.{Viewed}
 use Rattle.view.specs.Answers.{outcomeOf}
-use Rattle.view.specs.Model.{axesIn, modelOf, viewedOf}
-use Rattle.view.proofs.ModelLaws.{axesIn-axesOf}
+use Rattle.view.specs.Model.{modelOf, viewedOf}
+use Rattle.view.proofs.AxesLaws.{first_axes_take}
+use native.Mathlib.Omega.{arith}
+use lib.Seq.{take_all}
 use Rattle.record.specs.CallListClaims.{flat}
 use Rattle.record.specs.Chain.{CallMade, permuted, fused-by-numbers, stretched, no_more, called, SomeChain}
 use Rattle.record.proofs.CallsInNumbers.{pairs-of-flat}
 
 -- ---- a layout of a meaning
 
-extents-of : List Axis → List ℕ
-extents-of axes = map (λ (a : Axis). a.extent) axes
-
-strides-of : List Axis → List ℤ
-strides-of axes = map (λ (a : Axis). a.stride) axes
-
-axes-again : (axes : List Axis) → axesOf (extents-of axes) (strides-of axes) ≡ axes
-unfolding axesOf extents-of strides-of
-axes-again [] = refl
-axes-again (a ∷ axes) = ap (λ (l : List Axis). a ∷ l) (axes-again axes)
-
 layout_of : LayoutM → Layout
-layout_of x = record { len = x.buffer; offset = record { 0 = x.offset }; rank = length x.axes; extents = extents-of x.axes; strides = strides-of x.axes }
+layout_of x = record { len = x.buffer; offset = record { 0 = x.offset }; rank = length x.axes; axes = x.axes }
 
 model-again : (x : LayoutM) → modelOf (layout_of x) ≡ x
-unfolding layout_of extents-of strides-of
-model-again x =
-    let e : axesIn (extents-of x.axes) (strides-of x.axes) (length x.axes) ≡ x.axes
-    = axesIn-axesOf (extents-of x.axes) (strides-of x.axes) (length x.axes) (length-map x.axes (λ (a : Axis). a.extent)) (length-map x.axes (λ (a : Axis). a.stride)) ∙ axes-again x.axes in
-    ap (λ (axes : List Axis). record { buffer = x.buffer; offset = x.offset; axes = axes }) e
+unfolding layout_of
+model-again x = ap (λ (axes : List Axis). record { buffer = x.buffer; offset = x.offset; axes = axes }) (first_axes_take x.axes (length x.axes) (omega arith) ∙ take_all (length x.axes) x.axes (omega arith))
 
 -- ---- an answer in 01's numbers
 

@@ -5,10 +5,12 @@ use Prim.Native.Nat.{ℕ, ◌+◌, ◌*◌, ◌/◌, ◌%◌, ◌≤◌}
 use native.Mathlib.Nat.{div-one}
 use native.Mathlib.Omega.{arith}
 use lib.IntN.{ℤ}
-use lib.ListN.{length, take, drop, length-append, length-drop, take-append-drop}
+use lib.ListN.{length, get_or, take, drop, length-append, length-drop, take-append-drop}
 use lib.Seq.{take_at, drop_at, drop-drop, length-take-le}
 use Rattle.specification.specs.Axis.{Axis}
-use Rattle.specification.specs.Record.{bigEndian, twos, axisBytes}
+use Rattle.specification.specs.Record.{bigEndian, twos, numberFrom, axisBytes}
+use mir.Syntax.{w16}
+use Rattle.std.specs.Int.{from_be_bytes}
 use Rattle.specification.proofs.RecordFields.{length-bigEndian, length-axisBytes}
 use Rattle.record.specs.Fields.{headBytes, axisField}
 
@@ -31,56 +33,58 @@ pub length-head : (rank verdict : ℕ) (offset : ℤ) → length (headBytes rank
 length-head rank verdict offset = simp (length-append, length-bigEndian) (omega arith)
 
 -- the bytes of axes and one more
-pub axisBytes-snoc : (axes : List Axis) (a : Axis) → axisBytes (axes ++ (a ∷ [])) ≡ axisBytes axes ++ axisField a.extent a.stride
+pub axisBytes-snoc : (axes : List Axis) (a : Axis) → axisBytes (axes ++ (a ∷ [])) ≡ axisBytes axes ++ axisField a
 unfolding axisBytes
 axisBytes-snoc [] a = simp append-nil
 axisBytes-snoc (b ∷ axes) a = rw (axisBytes-snoc axes a) (simp append_assoc)
 
 -- the offset behind the first five bytes
-pub head_bytes : (rank verdict : ℕ) (offset : ℤ) (out : List ℕ)
+pub head_put : (rank verdict : ℕ) (offset : ℤ) (out : List ℕ)
     → take 5 (((13 + 16 * rank) / 256 % 256 ∷ (13 + 16 * rank) % 256 ∷ 1 ∷ verdict ∷ rank ∷ []) ++ drop 5 out)
     ++ (bigEndian 8 (twos offset) ++ drop (5 + 8) (((13 + 16 * rank) / 256 % 256 ∷ (13 + 16 * rank) % 256 ∷ 1 ∷ verdict ∷ rank ∷ []) ++ drop 5 out))
     ≡ headBytes rank verdict offset ++ drop 13 out
 unfolding bigEndian
-head_bytes rank verdict offset out =
+head_put rank verdict offset out =
     let e : (13 + 16 * rank) % 256 ≡ (13 + 16 * rank) / 1 % 256 = rw (div-one (13 + 16 * rank)) in
     behind-front ((13 + 16 * rank) / 256 % 256 ∷ (13 + 16 * rank) % 256 ∷ 1 ∷ verdict ∷ rank ∷ []) (drop 5 out) (bigEndian 8 (twos offset)) 5 8 refl
     ∙ rw (drop-drop 8 5 out, e)
 
 -- ---- the axes written so far
 
--- an output whose first 13 bytes stand as at the start, then the bytes of n axes, then what was there
-pub record Written (start : List ℕ) (axes : List Axis) (n : ℕ) (out : List ℕ) : Type 0 where
-  pub as_many : length axes ≡ n
-  pub room : 13 + 16 * n ≤ length start
-  pub holds : out ≡ (take 13 start ++ axisBytes axes) ++ drop (13 + 16 * n) start
+-- an output whose first 13 bytes stand as at the start, then the bytes of axes, then what was there
+abbrev pub written : List ℕ → List Axis → List ℕ
+written start axes = (take 13 start ++ axisBytes axes) ++ drop (13 + 16 * length axes) start
 
-front_length : {start out : List ℕ} {axes : List Axis} {n : ℕ} → Written start axes n out → length (take 13 start ++ axisBytes axes) ≡ 13 + 16 * n
-front_length {start} {axes = axes} {n} w = simp length-append (omega (arith, length-take-le 13 start (omega (arith, w.room)), length-axisBytes axes, w.as_many))
+module _ (start : List ℕ) (axes : List Axis) (room : 13 + 16 * length axes ≤ length start) where
+  front_length : length (take 13 start ++ axisBytes axes) ≡ 13 + 16 * length axes
+  front_length = simp length-append (omega (arith, length-take-le 13 start (omega arith), length-axisBytes axes))
 
--- the output keeps its length
-pub written-length : {start out : List ℕ} {axes : List Axis} {n : ℕ} → Written start axes n out → length out ≡ length start
-written-length {start} {out} {axes} {n} w =
-    rw w.holds (simp length-append (omega (arith, simp length-append at (front_length w), length-drop (13 + 16 * n) start, w.room)))
+  -- the output keeps its length
+  pub length-written : length (written start axes) ≡ length start
+  length-written = simp length-append (omega (arith, simp length-append at front_length, length-drop (13 + 16 * length axes) start))
 
-pub written_start : (start : List ℕ) (axes : List Axis) → axes ≡ [] → 13 ≤ length start → Written start axes 0 start
+  -- one axis more
+  pub written-more : (a : Axis) (n : ℕ) → n ≡ length axes
+      → take (13 + 16 * n) (written start axes) ++ (axisField a ++ drop (13 + 16 * n + 16) (written start axes)) ≡ written start (axes ++ (a ∷ []))
+  written-more a n e =
+      let m : length (axes ++ (a ∷ [])) ≡ length axes + 1 = simp length-append refl in
+      let q : 13 + 16 * (length axes + 1) ≡ 13 + 16 * length axes + 16 = omega arith in
+      rw (e, m, q) (behind-front (take 13 start ++ axisBytes axes) (drop (13 + 16 * length axes) start) (axisField a) (13 + 16 * length axes) 16 front_length
+      ∙ rw (axisBytes-snoc axes a, drop-drop 16 (13 + 16 * length axes) start) (simp append_assoc))
+
+pub written_none : (start : List ℕ) → 13 ≤ length start → written start [] ≡ start
 unfolding axisBytes
-written_start start axes e h = record { as_many = rw e; room = h; holds = rw e (simp append-nil (sym (take-append-drop 13 start))) }
-
-pub written-more : {start out next : List ℕ} {axes : List Axis} {n : ℕ} (a : Axis) → Written start axes n out → 13 + 16 * n + 16 ≤ length start
-    → next ≡ take (13 + 16 * n) out ++ (axisField a.extent a.stride ++ drop (13 + 16 * n + 16) out)
-    → Written start (axes ++ (a ∷ [])) (n + 1) next
-written-more {start} {out} {next} {axes} {n} a w h e =
-    let q : 13 + 16 * (n + 1) ≡ 13 + 16 * n + 16 = omega arith in
-    record {
-      as_many = simp length-append (omega (arith, w.as_many));
-      room = omega arith;
-      holds = e ∙ rw w.holds (behind-front (take 13 start ++ axisBytes axes) (drop (13 + 16 * n) start) (axisField a.extent a.stride) (13 + 16 * n) 16 (front_length w)
-          ∙ rw (axisBytes-snoc axes a, q, drop-drop 16 (13 + 16 * n) start) (simp append_assoc));
-    }
+written_none start h = simp append-nil (take-append-drop 13 start)
 
 -- all axes are written behind a head
-pub written-end : {start out : List ℕ} {axes : List Axis} {n : ℕ} (head before : List ℕ) → length head ≡ 13 → start ≡ head ++ drop 13 before → Written start axes n out
-    → out ≡ (head ++ axisBytes axes) ++ drop (13 + 16 * n) before
-written-end {start} {out} {axes} {n} head before h e w =
-    w.holds ∙ rw (e, take_at head (drop 13 before) 13 h, ← drop-drop (16 * n) 13 (head ++ drop 13 before), drop_at head (drop 13 before) 13 h, drop-drop (16 * n) 13 before)
+pub written_behind : (head before : List ℕ) (axes : List Axis) → length head ≡ 13
+    → written (head ++ drop 13 before) axes ≡ (head ++ axisBytes axes) ++ drop (13 + 16 * length axes) before
+written_behind head before axes h =
+    rw (take_at head (drop 13 before) 13 h, ← drop-drop (16 * length axes) 13 (head ++ drop 13 before), drop_at head (drop 13 before) 13 h, drop-drop (16 * length axes) 13 before)
+
+-- ---- std's words for the two bytes of a number
+
+-- the number that the first two bytes hold
+pub number_of_two : (bytes : List ℕ) → from_be_bytes w16 (get_or bytes 0 0 ∷ get_or bytes 1 0 ∷ []) ≡ numberFrom bytes 0 2
+unfolding numberFrom
+number_of_two bytes = omega arith

@@ -1,60 +1,30 @@
--- Laws of the parts of the reader's test for a normal form: merged axes one by one, and the empty form.
-use mathlib.Core.Path.{◌≡◌, refl, sym, ap, subst, ◌∙◌}
-use mathlib.Core.Bool.{Bool, true, false, not, ◌&&◌}
+-- Laws of the parts of the reader's test for a normal form: the empty form, merged axes, and both ends in range.
+use Rattle.std.specs.Prelude.{if◌then◌else◌, None, Option, Some, option_map}
+use mathlib.Core.Path.{◌≡◌, refl, sym, subst, ◌∙◌}
+use mathlib.Core.Bool.{Bool, true, false, not, ◌&&◌, ◌||◌}
 use mathlib.Core.List.{List, [], ◌∷◌}
-use Prim.Native.Nat.{ℕ, ◌+◌, ◌≤◌, ◌<◌}
+use Prim.Native.Nat.{ℕ, ◌+◌}
 use native.Mathlib.Omega.{arith}
 use lib.Dec.{T, eqb, ltb}
 use lib.IntN.{ℤ, pos}
-use lib.ListN.{length, drop, get_or}
-use borrow.Author.Tests.{lt-ltb, le-ltb, ltb-true, eqb-true, ne_eqb}
+use lib.ListN.{length}
+use borrow.Author.Tests.{ltb-true, ne_eqb}
 use mir.Syntax.{w64}
 use mir.Val.{SFits, of_z}
-use Rattle.integer.specs.Multiple.{◌·◌, eqZ}
+use lib.Signed.{le_z}
+use Rattle.integer.specs.Multiple.{eqZ}
+use Rattle.integer.specs.Parts.{posPart}
+use Rattle.integer.specs.Range.{mostSigned}
 use Rattle.integer.proofs.MachineInteger.{equal-tested}
 use Rattle.integer.proofs.PartLaws.{parts-fit}
-use Rattle.lists.specs.Table.{table}
-use Rattle.lists.proofs.TableLaws.{table-zero, drop-table-end}
 use Rattle.specification.specs.Tests.{some}
 use Rattle.specification.specs.Axis.{Axis, is_empty}
-use Rattle.specification.specs.Layout.{LayoutM, rank}
-use Rattle.specification.specs.Normal.{continues}
-use Rattle.specification.specs.Record.{isMerged, isEmptyForm}
-use Rattle.specification.proofs.OutcomeLaws.{false-unless}
+use Rattle.specification.specs.Layout.{LayoutM, lowest, highest}
+use Rattle.specification.specs.Normal.{continues, overfull}
+use Rattle.specification.specs.Views.{axisAt}
+use Rattle.specification.specs.Record.{isMerged, isEmptyForm, isNormal, withBuffer}
 use Rattle.specification.proofs.ReachLaws.{and-true}
-use Rattle.view.specs.Model.{axisOf, axesIn}
-use Rattle.view.proofs.ModelLaws.{drop-axesIn}
-
--- ---- merged axes, from axis i on
-
-module _ (es : List ℕ) (ss : List ℤ) (n i : ℕ) where
-  drop-two : i + 1 < n → drop i (axesIn es ss n) ≡ axisOf es ss i ∷ axisOf es ss (i + 1) ∷ drop (i + 1 + 1) (axesIn es ss n)
-  drop-two h = drop-axesIn es ss n i (omega arith) ∙ ap (λ (r : List Axis). axisOf es ss i ∷ r) (drop-axesIn es ss n (i + 1) h)
-
-  pub merged-short : i + 1 < n → get_or es i 0 ≤ 1 → isMerged (drop i (axesIn es ss n)) ≡ false
-  unfolding isMerged
-  merged-short h e = rw (drop-two h, le-ltb 1 (get_or es i 0) e)
-
-  pub merged-continued : i + 1 < n → eqZ (get_or ss (i + 1) (pos 0)) (get_or es i 0 · get_or ss i (pos 0)) ≡ true → isMerged (drop i (axesIn es ss n)) ≡ false
-  unfolding isMerged
-  merged-continued h e = rw (drop-two h, e) (by (ltb 1 (get_or es i 0)))
-    where
-      by : (t : Bool) → ((t && false) && isMerged (axisOf es ss (i + 1) ∷ drop (i + 1 + 1) (axesIn es ss n))) ≡ false
-      by true = refl
-      by false = refl
-
-  pub merged-behind : i + 1 < n → 1 < get_or es i 0 → eqZ (get_or ss (i + 1) (pos 0)) (get_or es i 0 · get_or ss i (pos 0)) ≡ false
-      → isMerged (drop i (axesIn es ss n)) ≡ isMerged (drop (i + 1) (axesIn es ss n))
-  unfolding isMerged
-  merged-behind h e c = rw (drop-two h, lt-ltb 1 (get_or es i 0) e, c) (ap isMerged (sym (drop-axesIn es ss n (i + 1) h)))
-
-  pub merged-last : i + 1 ≡ n → isMerged (drop i (axesIn es ss n)) ≡ ltb 1 (get_or es i 0)
-  unfolding isMerged
-  merged-last h = rw (drop-axesIn es ss n i (omega arith), drop-table-end (axisOf es ss) n (i + 1) (omega arith))
-
-pub merged-none : (es : List ℕ) (ss : List ℤ) → isMerged (axesIn es ss 0) ≡ true
-unfolding isMerged
-merged-none es ss = rw (table-zero (axisOf es ss))
+use Rattle.record.specs.Reader.{is_empty_form, in_range, highest_told, needed_length}
 
 -- no extent of merged axes is 0
 pub merged-full : (axes : List Axis) → isMerged axes ≡ true → is_empty axes ≡ false
@@ -68,28 +38,24 @@ merged-full (a ∷ b ∷ rest) e =
 
 -- ---- the empty form
 
--- it has one axis
-pub empty-form-rank : (l : LayoutM) → (rank l ≡ 1 → ⊥) → isEmptyForm l ≡ false
-empty-form-rank l h = by l.axes h
-  where
-    by : (axes : List Axis) → (length axes ≡ 1 → ⊥) → isEmptyForm (record { buffer = l.buffer; offset = l.offset; axes = axes }) ≡ false
-    by [] k = refl
-    by (a ∷ rest) k = false-unless _ (λ e.
-        let p = and-true (eqZ l.offset (pos 0) && eqb (length rest) 0 && eqb a.extent 0) (eqZ a.stride (pos 0)) e in
-        let q = and-true (eqZ l.offset (pos 0) && eqb (length rest) 0) (eqb a.extent 0) p.0 in
-        let r = and-true (eqZ l.offset (pos 0)) (eqb (length rest) 0) q.0 in
-        let z : length rest ≡ 0 = eqb-true (length rest) 0 r.1 in
-        omega arith) k
-
 -- of one axis, its extent and stride decide with the offset
-pub empty-form-one : (buffer : ℕ) (offset : ℤ) (es : List ℕ) (ss : List ℤ)
-    → isEmptyForm (record { buffer = buffer; offset = offset; axes = axesIn es ss 1 }) ≡ (eqZ offset (pos 0) && true && eqb (get_or es 0 0) 0 && eqZ (get_or ss 0 (pos 0)) (pos 0))
-unfolding table
-empty-form-one buffer offset es ss = refl
+pub empty_form_one : (offset : ℤ) (axes : List Axis) → length axes ≡ 1
+    → is_empty_form offset axes ≡ (eqZ offset (pos 0) && true && eqb (axisAt axes 0).extent 0 && eqZ (axisAt axes 0).stride (pos 0))
+empty_form_one offset [] e = absurd (omega arith)
+empty_form_one offset (a ∷ []) e = refl
+empty_form_one offset (a ∷ b ∷ axes) e = absurd (omega arith)
+
+-- the test on offset and axes is the definition's
+pub empty-form-is : (l : LayoutM) → is_empty_form l.offset l.axes ≡ isEmptyForm l
+empty-form-is l = by l.axes
+  where
+    by : (axes : List Axis) → is_empty_form l.offset axes ≡ isEmptyForm (record { buffer = l.buffer; offset = l.offset; axes = axes })
+    by [] = refl
+    by (a ∷ rest) = refl
 
 -- whether the machine's number is 0
-pub zero-tested : (z : ℤ) → SFits w64 z → eqZ z (pos 0) ≡ eqb (of_z w64 z) 0
-zero-tested z f = sym (equal-tested z (pos 0) f (parts-fit {z = pos 0} (omega arith) (omega arith)))
+pub zero_tested : (z : ℤ) → SFits w64 z → eqZ z (pos 0) ≡ eqb (of_z w64 z) 0
+zero_tested z f = sym (equal-tested z (pos 0) f (parts-fit {z = pos 0} (omega arith) (omega arith)))
 
 -- it is empty
 pub empty-form-empty : (l : LayoutM) → isEmptyForm l ≡ true → is_empty l.axes ≡ true
@@ -101,3 +67,34 @@ empty-form-empty l h = by l.axes h
     by (a ∷ rest) e =
         let p = and-true (eqZ l.offset (pos 0) && eqb (length rest) 0 && eqb a.extent 0) (eqZ a.stride (pos 0)) e in
         rw (and-true (eqZ l.offset (pos 0) && eqb (length rest) 0) (eqb a.extent 0) p.0).1
+
+-- ---- the test by its parts, and the buffer length that it gives
+
+module _ (l : LayoutM) where
+  normal-by-parts : isNormal l ≡ (is_empty_form l.offset l.axes || ((isMerged l.axes && not (overfull l.axes)) && in_range l))
+  unfolding isNormal
+  normal-by-parts = rw (empty-form-is l, regrouped (isMerged l.axes && not (overfull l.axes)) (le_z (pos 0) (lowest l)) (le_z (highest l) (pos mostSigned)))
+    where
+      regrouped : (x p q : Bool) → ((x && p) && q) ≡ (x && (p && q))
+      regrouped true p q = refl
+      regrouped false p q = refl
+
+  pub length_empty : is_empty_form l.offset l.axes ≡ true → needed_length l ≡ Some 0
+  unfolding withBuffer
+  length_empty e = rw (normal-by-parts, e, empty-form-empty l (sym (empty-form-is l) ∙ e))
+
+  pub length_unmerged : is_empty_form l.offset l.axes ≡ false → isMerged l.axes ≡ false → needed_length l ≡ None
+  length_unmerged e m = rw (normal-by-parts, e, m)
+
+  pub length_overfull : is_empty_form l.offset l.axes ≡ false → isMerged l.axes ≡ true → overfull l.axes ≡ true → needed_length l ≡ None
+  length_overfull e m o = rw (normal-by-parts, e, m, o)
+
+  module _ (empty : is_empty_form l.offset l.axes ≡ false) (merged : isMerged l.axes ≡ true) (few : overfull l.axes ≡ false) where
+    -- both ends decide
+    pub length_by_ends : (r : Option ℕ) → r ≡ highest_told l → needed_length l ≡ option_map (λ n. n + 1) r
+    unfolding withBuffer
+    length_by_ends r e = rw (normal-by-parts, empty, merged, few, merged-full l.axes merged, e) (by (in_range l))
+      where
+        by : (t : Bool) → (if t then Some (posPart (highest l) + 1) else None) ≡ option_map (λ n. n + 1) (if t then Some (posPart (highest l)) else None)
+        by true = refl
+        by false = refl

@@ -1,5 +1,5 @@
 -- Laws of what front bytes tell: the axes one by one, and the reader as its first part and the judgement.
-use Rattle.std.specs.Prelude.{if◌then◌else◌}
+use Rattle.std.specs.Prelude.{if◌then◌else◌, None, Option, Some}
 use mathlib.Core.Path.{◌≡◌, refl, sym, ap, ◌∙◌}
 use mathlib.Core.Bool.{Bool, true, false, not, ◌&&◌}
 use mathlib.Core.List.{List, [], ◌∷◌, ◌++◌}
@@ -11,26 +11,24 @@ use lib.ListN.{get_or}
 use borrow.Author.Tests.{not-false}
 use Rattle.specification.specs.Axis.{Axis}
 use Rattle.specification.specs.Layout.{LayoutM, rank}
-use Rattle.specification.specs.Outcome.{Outcome, done, refused, pass, refuseIf, ◌>>◌, ◌>>=◌}
+use Rattle.specification.specs.Outcome.{Outcome, done, refused, refuseIf, ◌>>◌, ◌>>=◌}
 use Rattle.specification.specs.Verdict.{Judged, judge, freedBy}
-use Rattle.specification.specs.Record.{verdictByte, numberFrom, signedFrom, axesFrom, fieldsRight, isNormal, withBuffer, layoutFrom, WasRead, read_of, readFrees}
-use Rattle.specification.proofs.OutcomeLaws.{clash, passed, done_inj, refused-inj, refuse-yes, refuse-no}
+use Rattle.specification.specs.Record.{verdictByte, axesFrom, fieldsRight, isNormal, withBuffer, layoutFrom, WasRead, read_of, readFrees}
+use Rattle.specification.proofs.OutcomeLaws.{clash, passed, done_inj, refuse-yes, refuse-no}
 use Rattle.specification.proofs.ReaderLaws.{fields-tested, rank-told}
-use Rattle.record.specs.Reader.{toldBy, FrontM, frontOf, frontAfter}
+use Rattle.record.specs.declared.reader.Head.{Head}
+use Rattle.record.specs.Fields.{axis_told}
+use Rattle.record.specs.Reader.{head_told, layout_told, needed_length, FrontM, frontOf}
 
 -- ---- the axes one by one
 
--- the axis that 16 bytes from a place on tell
-abbrev pub axisFrom : List ℕ → ℕ → Axis
-axisFrom bytes at = record { extent = numberFrom bytes at 8; stride = signedFrom bytes (at + 8) }
-
-axesFrom-snoc : (bytes : List ℕ) (i n at : ℕ) → at ≡ i + 16 * n → axesFrom bytes i (suc n) ≡ axesFrom bytes i n ++ (axisFrom bytes at ∷ [])
+axesFrom-snoc : (bytes : List ℕ) (i n at : ℕ) → at ≡ i + 16 * n → axesFrom bytes i (suc n) ≡ axesFrom bytes i n ++ (axis_told bytes at ∷ [])
 unfolding axesFrom
 axesFrom-snoc bytes i zero at e = let z : i ≡ at = omega arith in rw z
-axesFrom-snoc bytes i (suc n) at e = ap (λ (r : List Axis). axisFrom bytes i ∷ r) (axesFrom-snoc bytes (i + 16) n at (omega arith))
+axesFrom-snoc bytes i (suc n) at e = ap (λ (r : List Axis). axis_told bytes i ∷ r) (axesFrom-snoc bytes (i + 16) n at (omega arith))
 
 -- one axis more
-pub axesFrom-more : (bytes : List ℕ) (i n : ℕ) → axesFrom bytes i (n + 1) ≡ axesFrom bytes i n ++ (axisFrom bytes (i + 16 * n) ∷ [])
+pub axesFrom-more : (bytes : List ℕ) (i n : ℕ) → axesFrom bytes i (n + 1) ≡ axesFrom bytes i n ++ (axis_told bytes (i + 16 * n) ∷ [])
 axesFrom-more bytes i n = rw add-one (axesFrom-snoc bytes i n (i + 16 * n) refl)
 
 pub axesFrom-none : (bytes : List ℕ) (i : ℕ) → axesFrom bytes i 0 ≡ []
@@ -44,34 +42,94 @@ abbrev wholeFront : List ℕ → FrontM
 wholeFront bytes = record { layout = layoutFrom bytes; verdict = get_or bytes 3 0 }
 
 module _ (bytes : List ℕ) where
+  -- the layout told by the rank byte
+  abbrev told : LayoutM
+  told = layout_told bytes (get_or bytes 4 0)
+
   -- the rank told is the rank byte
-  pub rank-toldBy : rank (toldBy bytes) ≡ get_or bytes 4 0
+  rank_told : rank told ≡ get_or bytes 4 0
   unfolding layoutFrom withBuffer
-  rank-toldBy = rank-told bytes
+  rank_told = rank-told bytes
 
   -- the buffer length is no part of the test
-  pub normal-told : isNormal (layoutFrom bytes) ≡ isNormal (toldBy bytes)
+  normal-told : isNormal (layoutFrom bytes) ≡ isNormal told
   unfolding isNormal layoutFrom withBuffer
   normal-told = refl
 
   -- the layout told, with its buffer length
-  pub told-filled : (l : LayoutM) → l ≡ toldBy bytes → record { buffer = (withBuffer l).buffer; offset = l.offset; axes = l.axes } ≡ layoutFrom bytes
+  told-filled : record { buffer = (withBuffer told).buffer; offset = told.offset; axes = told.axes } ≡ layoutFrom bytes
   unfolding layoutFrom withBuffer
-  told-filled l e = ap withBuffer e
+  told-filled = refl
 
   -- ---- the first part of the reader
 
-  pub front-wrong : fieldsRight bytes ≡ false → frontOf bytes ≡ refused 11 []
+  front_wrong : fieldsRight bytes ≡ false → frontOf bytes ≡ refused 11 []
   unfolding frontOf
-  front-wrong e = refuse-yes 11 [] _ (ap not e)
+  front_wrong e = refuse-yes 11 [] _ (ap not e)
 
-  pub front-unnormal : fieldsRight bytes ≡ true → isNormal (toldBy bytes) ≡ false → frontOf bytes ≡ refused 11 []
+  front_unnormal : fieldsRight bytes ≡ true → isNormal told ≡ false → frontOf bytes ≡ refused 11 []
   unfolding frontOf
-  front-unnormal e n = refuse-no 11 [] _ (ap not e) ∙ refuse-yes 11 [] _ (ap not (normal-told ∙ n))
+  front_unnormal e n = refuse-no 11 [] _ (ap not e) ∙ refuse-yes 11 [] _ (ap not (normal-told ∙ n))
 
-  pub front-whole : fieldsRight bytes ≡ true → isNormal (toldBy bytes) ≡ true → frontOf bytes ≡ done (wholeFront bytes)
+  front_whole : fieldsRight bytes ≡ true → isNormal told ≡ true
+      → frontOf bytes ≡ done (record { layout = record { buffer = (withBuffer told).buffer; offset = told.offset; axes = told.axes }; verdict = get_or bytes 3 0 })
   unfolding frontOf
-  front-whole e n = refuse-no 11 [] _ (ap not e) ∙ refuse-no 11 [] _ (ap not (normal-told ∙ n))
+  front_whole e n =
+      refuse-no 11 [] _ (ap not e) ∙ refuse-no 11 [] _ (ap not (normal-told ∙ n))
+      ∙ ap (λ (l : LayoutM). done (record { layout = l; verdict = get_or bytes 3 0 })) (sym told-filled)
+
+-- ---- the first part of the reader, by what its two parts answer
+
+-- a head was told: every field is right
+pub record Told (bytes : List ℕ) (h : Head) : Type 0 where
+  pub right : fieldsRight bytes ≡ true
+  pub is : h ≡ record { verdict = get_or bytes 3 0; rank = get_or bytes 4 0 }
+
+module _ (bytes : List ℕ) where
+  abbrev head-by : Bool → Option Head
+  head-by t = if t then Some (record { verdict = get_or bytes 3 0; rank = get_or bytes 4 0 }) else None
+
+  -- there is no head
+  pub front_headless : head_told bytes ≡ None → frontOf bytes ≡ refused 11 []
+  front_headless e = by (fieldsRight bytes) refl e
+    where
+      by : (t : Bool) → fieldsRight bytes ≡ t → head-by t ≡ None → frontOf bytes ≡ refused 11 []
+      by true p q = absurd cc
+      by false p q = front_wrong bytes p
+
+  pub head_is : (h : Head) → head_told bytes ≡ Some h → Told bytes h
+  head_is h e = by (fieldsRight bytes) refl e
+    where
+      by : (t : Bool) → fieldsRight bytes ≡ t → head-by t ≡ Some h → Told bytes h
+      by true p q = record { right = p; is = cc }
+      by false p q = absurd cc
+
+  module _ {h : Head} (t : Told bytes h) {l : LayoutM} (e : l ≡ layout_told bytes h.rank) where
+    told-by-rank : l ≡ told bytes
+    told-by-rank = e ∙ ap (λ (x : Head). layout_told bytes x.rank) t.is
+
+    pub rank_few : rank l ≤ 16
+    rank_few = omega (arith, ap rank told-by-rank, rank_told bytes, (fields-tested bytes t.right).rank-small)
+
+    -- it needs no buffer length: it is no normal form
+    pub front_formless : needed_length l ≡ None → frontOf bytes ≡ refused 11 []
+    front_formless n = by (isNormal l) refl n
+      where
+        by : (s : Bool) → isNormal l ≡ s → (if◌then◌else◌ {A = Option ℕ} s (Some (withBuffer l).buffer) None) ≡ None → frontOf bytes ≡ refused 11 []
+        by true p q = absurd cc
+        by false p q = front_unnormal bytes t.right (ap isNormal (sym told-by-rank) ∙ p)
+
+    -- it needs one
+    pub front_is : (n : ℕ) → needed_length l ≡ Some n → frontOf bytes ≡ done (record { layout = record { buffer = n; offset = l.offset; axes = l.axes }; verdict = h.verdict })
+    front_is n k = by (isNormal l) refl k
+      where
+        by : (s : Bool) → isNormal l ≡ s → (if◌then◌else◌ {A = Option ℕ} s (Some (withBuffer l).buffer) None) ≡ Some n
+            → frontOf bytes ≡ done (record { layout = record { buffer = n; offset = l.offset; axes = l.axes }; verdict = h.verdict })
+        by true p q =
+            let b : (withBuffer l).buffer ≡ n = cc in
+            front_whole bytes t.right (ap isNormal (sym told-by-rank) ∙ p)
+            ∙ rw (← b, t.is) (ap (λ (m : LayoutM). done (record { layout = record { buffer = (withBuffer m).buffer; offset = m.offset; axes = m.axes }; verdict = get_or bytes 3 0 })) (sym told-by-rank))
+        by false p q = absurd cc
 
 -- ---- the reader goes on with the judgement
 
@@ -102,16 +160,6 @@ front-few bytes {f} e =
     let q = passed (not (isNormal (layoutFrom bytes))) 11 [] p.1 in
     let same : rank f.layout ≡ rank (layoutFrom bytes) = ap (λ (x : FrontM). rank x.layout) (sym (done_inj q.1)) in
     omega (arith, rank-told bytes, (fields-tested bytes (not-false (fieldsRight bytes) p.0)).rank-small)
-
--- ---- an answer with its front, taken apart
-
-pub after-refused : (o : Outcome FrontM) {n : ℕ} {vs : List ℕ} → (frontAfter o).answer ≡ refused n vs → o ≡ refused n vs
-after-refused (done f) e = absurd (clash e)
-after-refused (refused n vs) e = let q = refused-inj e in cc
-
-pub after-done : (o : Outcome FrontM) → (frontAfter o).answer ≡ pass → o ≡ done (frontAfter o).front
-after-done (done f) e = refl
-after-done (refused n vs) e = absurd (clash (sym e))
 
 -- ---- the words freed
 

@@ -1,6 +1,11 @@
--- The pass from the left over the axes of two arrays: what the axes stored so far and those that are left come to, turn by turn.
+-- The pass from the left over the axes of an array: what the axes stored so far and those that are left come to, turn by turn.
+use Rattle.std.specs.Prelude.{if◌then◌else◌, None, Some}
+use Rattle.std.specs.Bool.{Decides, one_answer}
+use Rattle.std.specs.Option.{option_eq}
+use Rattle.std.specs.Ordering.{int_eq}
+use Rattle.std.proofs.lemmas.Bool.Decides.{Decides-int_eq}
 use mathlib.Core.Path.{◌≡◌, refl, sym, ap, subst, ◌∙◌}
-use mathlib.Core.Bool.{Bool, true, false}
+use mathlib.Core.Bool.{Bool, true, false, not, ◌&&◌}
 use mathlib.Core.List.{List, [], ◌∷◌, ◌++◌, append_assoc}
 use Prim.Native.Nat.{ℕ, zero, suc, ◌+◌, ◌*◌, ◌-◌, ◌≤◌, ◌<◌, ◌^◌}
 use native.Mathlib.Nat.{one-mul, mul_assoc, mul_left_comm, mul-zero, mul-suc}
@@ -8,49 +13,53 @@ use native.Mathlib.Omega.{arith}
 use native.Mathlib.Numerals.{add-one}
 use lib.Dec.{T, eqb}
 use lib.IntN.{ℤ, pos}
-use lib.ListN.{length, get_or, set}
-use lib.Seq.{get_or-set_same, get_or-set_other}
+use lib.ListN.{length, take, set}
+use lib.Seq.{get_or-set_same, get_or-take, take-suc, length-take-le}
+use Rattle.std.proofs.lemmas.List.{take-set}
 use borrow.Author.Tests.{eq-eqb, ne_eqb, eqb-true}
 use mir.Syntax.{w64}
 use mir.Val.{SFits}
 use Rattle.integer.specs.Multiple.{◌·◌, eqZ}
-use Rattle.integer.specs.Range.{fits}
+use Rattle.integer.specs.Range.{fits, checkedOf}
 use Rattle.integer.proofs.CheckedLaws.{fits-of-sfits}
-use Rattle.integer.proofs.MultipleLaws.{eqZ-yes}
-use Rattle.lists.proofs.TableLaws.{table-zero, table-ext}
+use Rattle.integer.proofs.MultipleLaws.{eqZ-yes, eqZ-no}
 use Rattle.specification.specs.Axis.{Axis, positions, product, is_empty}
-use Rattle.specification.specs.Normal.{both, overfull}
+use Rattle.specification.specs.Normal.{both, continues, overfull}
+use Rattle.specification.specs.Views.{axisAt}
 use Rattle.specification.proofs.OutcomeLaws.{false-unless}
 use Rattle.specification.proofs.NormalScan.{scan, start, scan-is-normal}
 use Rattle.specification.proofs.NormalAxes.{positions-of-normal}
 use Rattle.specification.proofs.NormalLaws.{full-pos, positions-pos}
-use Rattle.view.specs.Model.{axisOf, axesIn}
-use Rattle.view.proofs.ModelLaws.{axesIn-suc}
-use Rattle.record.specs.Normal.{continuesLast}
+use Rattle.record.specs.Normal.{continues_last}
 use Rattle.record.proofs.NormalAnswers.{few-positions}
+
+abbrev no_axis : Axis
+no_axis = record { extent = 0; stride = pos 0 }
 
 -- an integer of 64 bits differs from one that they do not hold
 pub over-differs : (x z : ℤ) → SFits w64 x → fits z ≡ false → eqZ x z ≡ false
 over-differs x z f e = false-unless (eqZ x z) (λ t. sym (fits-of-sfits x f) ∙ ap fits (eqZ-yes x z (subst T (sym t) tt)) ∙ e) (λ q. subst T q tt)
 
--- the last of some axes
-pub continues-last : (es : List ℕ) (ss : List ℤ) (stored : ℕ) (s : ℤ) → 0 < stored → continuesLast es ss stored s ≡ eqZ s (get_or es (stored - 1) 0 · (get_or ss (stored - 1) (pos 0)))
-continues-last es ss zero s h = absurd (omega arith)
-continues-last es ss (suc last) s h = let one_less : suc last - 1 ≡ last = omega arith in rw one_less
+-- a product in range is compared; one out of range equals no stride
+pub continues_tested : (s z : ℤ) → SFits w64 s → option_eq int_eq (checkedOf z) (Some s) ≡ eqZ s z
+continues_tested s z f = by (fits z) refl
+  where
+    decided : (x y : ℤ) → Decides (eqZ x y) (x ≡ y)
+    decided x y = (λ t. eqZ-yes x y (subst T (sym t) tt), λ p. yes (eqZ x y) refl p)
+      where
+        yes : (t : Bool) → eqZ x y ≡ t → x ≡ y → eqZ x y ≡ true
+        yes true e p = e
+        yes false e p = absurd (eqZ-no x y (subst (λ (t : Bool). T (not t)) (sym e) tt) p)
+
+    by : (t : Bool) → fits z ≡ t → option_eq int_eq (if t then Some z else None) (Some s) ≡ eqZ s z
+    by true e =
+        one_answer (int_eq z s) (eqZ s z) (λ t. sym ((Decides-int_eq z s).0 t), λ p. (Decides-int_eq z s).1 (sym p)) (decided s z)
+    by false e = sym (over-differs s z f e)
 
 -- what is continued is there
-pub continued-some : (es : List ℕ) (ss : List ℤ) (stored : ℕ) (s : ℤ) → continuesLast es ss stored s ≡ true → 0 < stored
-continued-some es ss zero s e = absurd (subst T (sym e) tt)
-continued-some es ss (suc last) s e = omega arith
-
--- ---- the first n axes, where a later entry is set
-
-module _ (es : List ℕ) (ss : List ℤ) (n i : ℕ) (past : n ≤ i) where
-  extent-past : (e : ℕ) → axesIn (set es i e) ss n ≡ axesIn es ss n
-  extent-past e = table-ext _ _ n (λ j l. rw (get_or-set_other es i j e 0 (λ q. absurd (omega arith))))
-
-  stride-past : (s : ℤ) → axesIn es (set ss i s) n ≡ axesIn es ss n
-  stride-past s = table-ext _ _ n (λ j l. rw (get_or-set_other ss i j s (pos 0) (λ q. absurd (omega arith))))
+pub continued_some : (stored : List Axis) (a : Axis) → continues_last stored a ≡ true → 0 < length stored
+continued_some [] a e = absurd (subst T (sym e) tt)
+continued_some (b ∷ stored) a e = omega arith
 
 -- ---- one turn
 
@@ -93,65 +102,84 @@ factor-within factor (suc rest) whole e h = omega (arith, mul-suc factor rest)
 
 -- ---- the pass
 
--- so many axes are stored in two arrays, the last of them in hand, and these are left
-unfoldable pub resume : List ℕ → List ℤ → ℕ → List Axis → List Axis
-resume es ss zero rest = start rest
-resume es ss (suc last) rest = axesIn es ss last ++ scan (axisOf es ss last) rest
+-- so many axes are stored in the first places, the last of them in hand, and these are left
+unfoldable pub resume : List Axis → ℕ → List Axis → List Axis
+resume axes zero rest = start rest
+resume axes (suc last) rest = take last axes ++ scan (axisAt axes last) rest
 
-module _ (es : List ℕ) (ss : List ℤ) (b : Axis) (rest : List Axis) where
+-- the last of the first axes
+last_tested : (axes : List Axis) (b : Axis) (last : ℕ) {t : Bool} → suc last ≤ length axes → continues_last (take (suc last) axes) b ≡ t → continues (axisAt axes last) b ≡ t
+last_tested axes b last {t} h e =
+    let n : length (take (suc last) axes) ≡ suc last = length-take-le (suc last) axes h in
+    let one_less : suc last - 1 ≡ last = omega arith in
+    let front = take (suc last) axes in
+    let k : continues_last front b ≡ (not (eqb (suc last) 0) && continues (axisAt front (suc last - 1)) b) = ap (λ (m : ℕ). not (eqb m 0) && continues (axisAt front (m - 1)) b) n in
+    let m : (not (eqb (suc last) 0) && continues (axisAt front (suc last - 1)) b) ≡ continues (axisAt front last) b
+    = rw (ne_eqb (suc last) 0 (λ q. absurd (omega arith)), one_less) in
+    let g : axisAt (take (suc last) axes) last ≡ axisAt axes last = get_or-take (suc last) axes last no_axis (omega arith) in
+    ap (λ (x : Axis). continues x b) (sym g) ∙ sym m ∙ sym k ∙ e
+
+module _ (axes : List Axis) (b : Axis) (rest : List Axis) where
   -- an axis of extent 1 is dropped
-  pub resume-dropped : (stored : ℕ) → b.extent ≡ 1 → resume es ss stored (b ∷ rest) ≡ resume es ss stored rest
+  pub resume-dropped : (stored : ℕ) → b.extent ≡ 1 → resume axes stored (b ∷ rest) ≡ resume axes stored rest
   unfolding resume
   resume-dropped zero e = start-turn b rest (eq-eqb b.extent 1 e)
-  resume-dropped (suc last) e = rw (scan-turn (axisOf es ss last) b rest (eq-eqb b.extent 1 e) refl)
+  resume-dropped (suc last) e = rw (scan-turn (axisAt axes last) b rest (eq-eqb b.extent 1 e) refl)
 
   -- an axis that continues the one in hand is merged into it
-  pub resume-merged : (stored : ℕ) → ¬ (b.extent ≡ 1) → stored - 1 < length es → continuesLast es ss stored b.stride ≡ true
-      → resume es ss stored (b ∷ rest) ≡ resume (set es (stored - 1) (get_or es (stored - 1) 0 * b.extent)) ss stored rest
+  pub resume-merged : (stored : ℕ) → ¬ (b.extent ≡ 1) → stored ≤ length axes → continues_last (take stored axes) b ≡ true
+      → resume axes stored (b ∷ rest) ≡ resume (set axes (stored - 1) (both (axisAt axes (stored - 1)) b)) stored rest
   unfolding resume
   resume-merged zero n h e = absurd (subst T (sym e) tt)
   resume-merged (suc last) n h e =
       let one_less : suc last - 1 ≡ last = omega arith in
-      rw (one_less, scan-turn (axisOf es ss last) b rest (ne_eqb b.extent 1 n) e, extent-past es ss last last (omega arith) (get_or es last 0 * b.extent), get_or-set_same es last (get_or es last 0 * b.extent) 0 (omega arith))
+      let c : continues (axisAt axes last) b ≡ true = last_tested axes b last h e in
+      rw (one_less, take-set axes last (both (axisAt axes last) b), get_or-set_same axes last (both (axisAt axes last) b) no_axis (omega arith))
+      (rw (scan-turn (axisAt axes last) b rest (ne_eqb b.extent 1 n) c))
 
   -- another is stored behind it
-  pub resume-stored : (stored : ℕ) → ¬ (b.extent ≡ 1) → stored < length es → stored < length ss → continuesLast es ss stored b.stride ≡ false
-      → resume es ss stored (b ∷ rest) ≡ resume (set es stored b.extent) (set ss stored b.stride) (stored + 1) rest
+  pub resume-stored : (stored : ℕ) → ¬ (b.extent ≡ 1) → stored < length axes → continues_last (take stored axes) b ≡ false
+      → resume axes stored (b ∷ rest) ≡ resume (set axes stored b) (stored + 1) rest
   unfolding resume
-  resume-stored zero n h k e = start-turn b rest (ne_eqb b.extent 1 n) ∙ rw (table-zero, get_or-set_same es 0 b.extent 0 h, get_or-set_same ss 0 b.stride (pos 0) k)
-  resume-stored (suc last) n h k e =
-      let same : axesIn (set es (suc last) b.extent) (set ss (suc last) b.stride) (suc last) ≡ axesIn es ss last ++ (axisOf es ss last ∷ []) =
-      extent-past es (set ss (suc last) b.stride) (suc last) (suc last) (omega arith) b.extent ∙ stride-past es ss (suc last) (suc last) (omega arith) b.stride ∙ rw (← add-one) (axesIn-suc es ss last) in
-      rw (add-one, scan-turn (axisOf es ss last) b rest (ne_eqb b.extent 1 n) e, same, get_or-set_same es (suc last) b.extent 0 h, get_or-set_same ss (suc last) b.stride (pos 0) k) (simp append_assoc)
+  resume-stored zero n h e = start-turn b rest (ne_eqb b.extent 1 n) ∙ rw (get_or-set_same axes 0 b no_axis h)
+  resume-stored (suc last) n h e =
+      let c : continues (axisAt axes last) b ≡ false = last_tested axes b last (omega arith) e in
+      rw (
+        add-one,
+        scan-turn (axisAt axes last) b rest (ne_eqb b.extent 1 n) c,
+        take-set axes (suc last) b,
+        take-suc axes last no_axis (omega arith),
+        get_or-set_same axes (suc last) b no_axis h,
+      ) (sym (append_assoc (take last axes) (axisAt axes last ∷ []) (scan b rest)))
 
   -- and the merged extent is at most the number of positions, where there are some
-  pub merged-extent : (stored : ℕ) → 0 < stored → 0 < positions (resume es ss stored (b ∷ rest)) → get_or es (stored - 1) 0 * b.extent ≤ positions (resume es ss stored (b ∷ rest))
+  pub merged-extent : (stored : ℕ) → 0 < stored → 0 < positions (resume axes stored (b ∷ rest)) → (axisAt axes (stored - 1)).extent * b.extent ≤ positions (resume axes stored (b ∷ rest))
   unfolding resume product
   merged-extent zero h k = absurd (omega arith)
   merged-extent (suc last) h k =
       let one_less : suc last - 1 ≡ last = omega arith in
-      let hand = axisOf es ss last in
-      let front = axesIn es ss last in
+      let hand = axisAt axes last in
+      let front = take last axes in
       let whole : hand.extent * b.extent * (positions front * positions rest) ≡ positions (front ++ scan hand (b ∷ rest)) =
       mul_left_comm (hand.extent * b.extent) (positions front) (positions rest)
       ∙ rw (positions-append front (scan hand (b ∷ rest)), positions-scan hand (b ∷ rest), mul_assoc hand.extent b.extent (positions rest)) in
       rw one_less (factor-within (hand.extent * b.extent) (positions front * positions rest) _ whole k)
 
 -- nothing is left: the axes stored
-pub resume-end : (es : List ℕ) (ss : List ℤ) (stored : ℕ) → resume es ss stored [] ≡ axesIn es ss stored
+pub resume-end : (axes : List Axis) (stored : ℕ) → stored ≤ length axes → resume axes stored [] ≡ take stored axes
 unfolding resume start scan
-resume-end es ss zero = sym (table-zero _)
-resume-end es ss (suc last) = rw (← add-one) (sym (axesIn-suc es ss last))
+resume-end axes zero h = refl
+resume-end axes (suc last) h = sym (take-suc axes last _ (omega arith))
 
 -- nothing is stored: the pass from the start
-pub resume-start : (es : List ℕ) (ss : List ℤ) (rest : List Axis) → resume es ss 0 rest ≡ start rest
+pub resume_start : (axes rest : List Axis) → resume axes 0 rest ≡ start rest
 unfolding resume
-resume-start es ss rest = refl
+resume_start axes rest = refl
 
 -- a merged extent fits 64 bits, where the number of positions does
-pub merged-fits : (es : List ℕ) (ss : List ℤ) (stored : ℕ) (b : Axis) (rest axes : List Axis) → is_empty axes ≡ false → overfull axes ≡ false → 0 < stored
-    → resume es ss stored (b ∷ rest) ≡ start axes → get_or es (stored - 1) 0 * b.extent < 2 ^ 64
-merged-fits es ss stored b rest axes f o h e =
-    let p = full-pos axes f in
-    let q : positions (resume es ss stored (b ∷ rest)) ≡ positions axes = ap positions (e ∙ scan-is-normal axes p) ∙ positions-of-normal axes in
-    omega (arith, merged-extent es ss b rest stored h (omega (arith, positions-pos p)), few-positions axes f o)
+pub merged_fits : (axes : List Axis) (stored : ℕ) (b : Axis) (rest whole : List Axis) → is_empty whole ≡ false → overfull whole ≡ false → 0 < stored
+    → resume axes stored (b ∷ rest) ≡ start whole → (axisAt axes (stored - 1)).extent * b.extent < 2 ^ 64
+merged_fits axes stored b rest whole f o h e =
+    let p = full-pos whole f in
+    let q : positions (resume axes stored (b ∷ rest)) ≡ positions whole = ap positions (e ∙ scan-is-normal whole p) ∙ positions-of-normal whole in
+    omega (arith, merged-extent axes b rest stored h (omega (arith, positions-pos p)), few-positions whole f o)

@@ -6,8 +6,7 @@ use lib.ListN.{length, take, drop}
 use lib.Seq.{take_at, length-take-le}
 use native.Mathlib.Omega.{arith}
 use Rattle.specification.specs.Layout.{LayoutM}
-use Rattle.specification.specs.Outcome.{Outcome, Check, done, refused, pass}
-use Rattle.specification.specs.Views.{After}
+use Rattle.specification.specs.Outcome.{Outcome, Check, done, refused}
 use Rattle.specification.specs.Verdict.{wordsNeeded}
 use Rattle.specification.specs.Calls.{Call, answersOf, end_of}
 use Rattle.specification.specs.Demand3.{Run}
@@ -21,7 +20,7 @@ use Rattle.view.specs.Model.{modelOf}
 use Rattle.record.specs.CallList.{calls_of}
 use Rattle.record.specs.Chain.{AsDefined}
 use Rattle.record.specs.Writer.{wroteOf}
-use Rattle.record.specs.Reading.{readAfter}
+use Rattle.record.specs.Reading.{layout_read}
 use Rattle.record.specs.RunningCode.{RunningDemand3, RunCallsDemand3, RunningRoundTrip}
 use Rattle.record.proofs.ChainLaws.{chain-claims}
 
@@ -50,10 +49,10 @@ running-demand3 a b end end' ha hb cs ds answers answers' c c' output scratch ou
     }
 
 pub run-calls-demand3 : RunCallsDemand3
-run-calls-demand3 a b ha hb cs ds ran ran' r r' output scratch output-then scratch-then output' scratch' output-then' scratch-then' wrote wrote' w w' =
+run-calls-demand3 a b ran ran' ha hb cs ds ended ended' r r' output scratch output-then scratch-then output' scratch' output-then' scratch-then' wrote wrote' w w' =
     demand3 (modelOf a) (modelOf b) ha hb (calls_of cs) (calls_of ds) output scratch output-then scratch-then output' scratch' output-then' scratch-then' (wroteOf wrote) (wroteOf wrote')
-    (subst (λ (x : LayoutM). Writing x output scratch (wroteOf wrote) output-then scratch-then) r.0 w)
-    (subst (λ (x : LayoutM). Writing x output' scratch' (wroteOf wrote') output-then' scratch-then') r'.0 w')
+    (subst (λ (x : LayoutM). Writing x output scratch (wroteOf wrote) output-then scratch-then) r.layout_is w)
+    (subst (λ (x : LayoutM). Writing x output' scratch' (wroteOf wrote') output-then' scratch-then') r'.layout_is w')
 
 -- ---- the round trip
 
@@ -69,9 +68,9 @@ made-record x output scratch output-then scratch-then {n} answer w e = by (writt
     by (refused number values) q r s = absurd (clash (sym r))
 
 -- a reader that answered a layout read it
-read_done : {l : LayoutM} (o : Outcome WasRead) → record { answer = pass; layout = l } ≡ readAfter o → (w : WasRead) × (o ≡ done w) × (l ≡ w.layout)
-read_done (done w) e = (w, refl, ap (λ (a : After). a.layout) e)
-read_done (refused number values) e = absurd (clash (ap (λ (a : After). a.answer) e))
+read_done : {l : LayoutM} (o : Outcome WasRead) → done l ≡ layout_read o → (w : WasRead) × (o ≡ done w) × (l ≡ w.layout)
+read_done (done w) e = (w, refl, cc)
+read_done (refused number values) e = absurd (clash e)
 
 pub running-round-trip : RunningRoundTrip
 unfolding writeAnswer
@@ -80,7 +79,7 @@ running-round-trip = record {
       let m = made-record (modelOf l) output scratch output-then scratch-then (wroteOf wrote) w e in
       let t = round_trip.write_read (modelOf l) (length output) (length scratch) (length scratch') m.0 (drop (length m.0.bytes) output) a m.1 h in
       let q : read_of output-then (length scratch') ≡ done t.0 = ap (λ (b : List ℕ). read_of b (length scratch')) m.2 ∙ t.1 in
-      r.answer-is ∙ ap readAfter q ∙ ap (λ (x : LayoutM). record { answer = pass; layout = x }) t.2;
+      r.answer-is ∙ ap layout_read q ∙ ap (λ (x : LayoutM). done x) t.2;
   read-write = λ bytes scratch scratch-then l b r output scratch' output-then scratch-then' answer h k w.
       let d = read_done (read_of bytes (length scratch)) r.answer-is in
       let enough : wordsNeeded d.0.layout.axes ≤ length scratch' = subst (λ (x : LayoutM). wordsNeeded x.axes ≤ length scratch') d.2 h in

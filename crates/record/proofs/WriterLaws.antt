@@ -3,57 +3,25 @@ use mathlib.Core.Path.{◌≡◌, refl, sym, ap, subst, ◌∙◌}
 use mathlib.Core.Bool.{false}
 use mathlib.Core.List.{List, [], ◌∷◌, ◌++◌, append_assoc}
 use Prim.Native.Nat.{ℕ, ◌≤◌, ◌<◌}
-use lib.IntN.{ℤ}
-use lib.ListN.{length, take, drop}
-use lib.Seq.{length-take-le}
-use borrow.Author.Tests.{lt-ltb, le-ltb, eq-eqb}
-use Rattle.specification.specs.Outcome.{Outcome, Check, done, refused, pass, refuseIf, ◌>>◌, ◌>>=◌}
+use lib.ListN.{length, drop}
+use borrow.Author.Tests.{lt-ltb, le-ltb}
+use Rattle.specification.specs.Outcome.{Outcome, done, refused, ◌>>=◌}
 use Rattle.specification.specs.Layout.{LayoutM, rank, Accepted, handed}
 use Rattle.specification.specs.Normal.{overfull, normalForm}
-use Rattle.specification.specs.Verdict.{Verdict, Judged, judge, verdict, freedBy, ScratchAfter}
+use Rattle.specification.specs.Verdict.{Verdict, Judged, judge, freedBy, ScratchAfter}
 use Rattle.specification.specs.Record.{recordLength, recordBytes, verdictByte, Made, written, writeFrees, writeAnswer, outputAfter, Writing}
-use Rattle.specification.specs.Views.{After}
-use Rattle.specification.proofs.OutcomeLaws.{clash, passed, passed-check, refuse-yes, refuse-no, bind_done, bind-refused, done_inj}
+use Rattle.specification.proofs.OutcomeLaws.{passed, passed-check, refuse-yes, refuse-no, bind_done, bind-refused, done_inj}
 use Rattle.specification.proofs.ReachLaws.{tested-no}
 use Rattle.specification.proofs.RecordFields.{length-recordBytes}
 use Rattle.specification.proofs.WriterLaws.{normal-accepted, normal-few}
 use Rattle.specification.proofs.WriterAnswers.{recordOf}
-use Rattle.view.specs.Model.{axesIn}
-use Rattle.view.proofs.HandedLaws.{handed-passed}
-use Rattle.view.proofs.ModelLaws.{axesOf-take}
+use Rattle.record.proofs.HandedLaws.{handed-passed}
 use Rattle.record.specs.Fields.{recordFields}
-use Rattle.record.specs.Normal.{orOld, normalView}
 
 -- the record by its fields, with the verdict's byte
 pub fields-are-record : (l : LayoutM) (v : Verdict) → recordFields l (verdictByte v) ≡ recordBytes l v
 unfolding recordBytes
 fields-are-record l v = simp append_assoc
-
--- the verdict on the first n entries of two arrays judges the axes that they hold
-pub verdict-judges : (es : List ℕ) (ss : List ℤ) (n words : ℕ) → n ≤ 16 → n ≤ length es → n ≤ length ss
-    → verdict (take n es) (take n ss) words ≡ judge (axesIn es ss n) words
-unfolding verdict refuseIf ◌>>◌
-verdict-judges es ss n words h p q =
-    let a : length (take n es) ≡ n = length-take-le n es p in
-    let b : length (take n ss) ≡ n = length-take-le n ss q in
-    rw (a, b, le-ltb 16 n h, eq-eqb n n refl, axesOf-take es ss n p q)
-
--- ---- what the normal form's answer tells
-
-module _ (l : LayoutM) {v : After} (e : v ≡ normalView l) where
-  pub form-is-done : v.answer ≡ pass → normalForm l ≡ done v.layout
-  form-is-done p = by (normalForm l) e
-    where
-      by : (o : Outcome LayoutM) → v ≡ orOld l o → o ≡ done v.layout
-      by (done n) q = ap done (sym (ap (λ (x : After). x.layout) q))
-      by (refused number values) q = absurd (clash (sym p ∙ ap (λ (x : After). x.answer) q))
-
-  pub form-is-refused : {number : ℕ} {values : List ℕ} → v.answer ≡ refused number values → normalForm l ≡ refused number values
-  form-is-refused {number} {values} p = by (normalForm l) e
-    where
-      by : (o : Outcome LayoutM) → v ≡ orOld l o → o ≡ refused number values
-      by (done n) q = absurd (clash (sym (ap (λ (x : After). x.answer) q) ∙ p))
-      by (refused m ws) q = let r : ◌≡◌ {A = Check} (refused m ws) (refused number values) = sym (ap (λ (x : After). x.answer) q) ∙ p in cc
 
 -- a normal form is accepted, so it has at most 16 axes, and 64 bits hold its positions
 pub record Formed (n : LayoutM) : Type 0 where

@@ -1,9 +1,7 @@
 -- A call list in numbers: for each call its kind (1 permute, 2 diagonal_view, 3 broadcast), how many numbers follow, and these.
-use Rattle.std.specs.Prelude.{Bool, ◌&&◌, List, [], ◌∷◌, ℕ, zero, suc, ◌+◌, eqb, leb, length, take, drop, get_or, if◌then◌else◌}
+use Rattle.std.specs.Prelude.{Bool, ◌&&◌, List, [], ◌∷◌, ℕ, zero, suc, ◌+◌, eqb, leb, length, take, drop, get_or, if◌then◌else◌, Err, Ok, Result, None, Option, Some}
 use Rattle.specification.specs.Views.{pairsOf}
 use Rattle.specification.specs.Calls.{Call, permuting, diagonal, broadcasting}
-use Rattle.record.specs.declared.calls.Ended.{Ended}
-use Rattle.record.specs.declared.calls.Ended.TheVariants.{All, IllFormed}
 
 -- the call of a kind with its numbers; the numbers of diagonal_view are its pairs, one after another
 abbrev pub call_of : ℕ → List ℕ → Call
@@ -13,9 +11,13 @@ call_of kind numbers = if eqb kind 1 then permuting numbers else (if eqb kind 2 
 abbrev pub wellFormed : ℕ → ℕ → List ℕ → Bool
 wellFormed kind count rest = leb 1 kind && leb kind 3 && leb count (length rest)
 
--- a call stands at a place of a list: its first two numbers are there, and with those behind them they are well-formed
-abbrev pub isCallAt : List ℕ → ℕ → Bool
-isCallAt calls place = leb (place + 2) (length calls) && wellFormed (get_or calls place 0) (get_or calls (place + 1) 0) (drop (place + 2) calls)
+-- the call at the front, and the numbers behind it: its first two numbers are there, and with those behind them they are well-formed
+abbrev pub first_of : List ℕ → Option (Call × List ℕ)
+first_of list =
+    let kind = get_or list 0 0 in
+    let count = get_or list 1 0 in
+    let rest = drop 2 list in
+    if leb 2 (length list) && wellFormed kind count rest then Some (call_of kind (take count rest), drop count rest) else None
 
 -- the calls from the front on, up to the first that is ill-formed; the first number bounds how many are looked for
 unfoldable pub calls_within : ℕ → List ℕ → List Call
@@ -36,5 +38,5 @@ takenWithin (suc n) (kind ∷ []) = 0
 takenWithin (suc n) (kind ∷ count ∷ rest) = if wellFormed kind count rest then 2 + count + takenWithin n (drop count rest) else 0
 
 -- the whole list was run, or it is ill-formed from a place on
-unfoldable pub ended_of : List ℕ → Ended
-ended_of list = let taken = takenWithin (length list) list in if eqb taken (length list) then All else IllFormed taken
+unfoldable pub ended_of : List ℕ → Result (Unit {0}) ℕ
+ended_of list = let taken = takenWithin (length list) list in if eqb taken (length list) then Ok tt else Err taken

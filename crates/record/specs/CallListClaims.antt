@@ -1,8 +1,7 @@
 -- Every list of calls can be given in numbers: for each call its kind, how many numbers it has, and these.
-use Rattle.std.specs.Prelude.{List, [], ◌∷◌, ◌++◌, ◌≡◌, ℕ, ◌^◌, ◌<◌, length}
+use Rattle.std.specs.Prelude.{List, [], ◌∷◌, ◌++◌, ◌≡◌, ℕ, ◌^◌, ◌<◌, length, Ok}
 use Rattle.specification.specs.Calls.{Call, permuting, diagonal, broadcasting}
-use Rattle.view.specs.Model.{AllBelow}
-use Rattle.record.specs.declared.calls.Ended.TheVariants.{All}
+use Rattle.view.specs.Refusals.{AllBelow}
 use Rattle.record.specs.CallList.{calls_of, ended_of}
 
 -- pairs one after another
@@ -35,6 +34,6 @@ InWords (c ∷ calls) = AllBelow (2 ^ 64) (argumentsOf c) × (length (argumentsO
 pub record CallListClaims : Type 0 where
   -- every list of calls is that of its numbers, and these are read to their end
   pub calls_are : (calls : List Call) → calls_of (numbersOf calls) ≡ calls
-  pub all_read : (calls : List Call) → ended_of (numbersOf calls) ≡ All
+  pub all_read : (calls : List Call) → ended_of (numbersOf calls) ≡ Ok tt
   -- and are machine words, which `run_calls` takes, where those of the calls are
   pub in_words : (calls : List Call) → InWords calls → AllBelow (2 ^ 64) (numbersOf calls)

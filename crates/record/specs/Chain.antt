@@ -1,6 +1,7 @@
 -- Calls of the views as they were made, one after another: what each call handed back, and the next call on that layout.
--- `Layout`, `Viewed` and `Ran` are what runs; the premises are the contracts of the calls, word for word (held to them in proofs/PremisesAreContracts).
-use Rattle.std.specs.Prelude.{List, [], ◌∷◌, ◌≡◌, ℕ}
+-- `Layout` and `Viewed` are what runs; the premises are promised by functions: `CallMade` by `after` and by what `run_calls` makes of numbers, `RunOf` by `run_calls`.
+use Rattle.std.specs.Prelude.{List, [], ◌∷◌, ◌≡◌, ℕ, Ok, Result}
+use Rattle.view.specs.declared.layout.Refusal.{Refusal}
 use Rattle.specification.specs.Outcome.{Check}
 use Rattle.specification.specs.Views.{permute, pairsOf, diagonalView, broadcast}
 use Rattle.specification.specs.Calls.{Call, permuting, diagonal, broadcasting, answersOf, end_of}
@@ -8,9 +9,8 @@ use Rattle.view.specs.declared.diagonal.AxisPair.{AxisPair}
 use Rattle.view.specs.declared.layout.Layout.{Layout}
 use Rattle.view.specs.declared.layout.Viewed.{Viewed}
 use Rattle.view.specs.Answers.{outcomeOf}
-use Rattle.view.specs.Model.{modelOf, viewedOf, pairsIn}
-use Rattle.record.specs.declared.calls.Ended.TheVariants.{All}
-use Rattle.record.specs.declared.calls.Ran.{Ran}
+use Rattle.view.specs.Model.{modelOf, viewedOf}
+use Rattle.view.specs.Ties.{pairsIn}
 use Rattle.record.specs.CallList.{calls_of, ended_of}
 use Rattle.record.specs.CallListClaims.{numbersOf}
 
@@ -39,9 +39,14 @@ pub record AsDefined (start : Layout) (calls : List Call) (answers : List Check)
   pub answers-are : answers ≡ answersOf (modelOf start) calls
   pub end_is : modelOf end ≡ end_of (modelOf start) calls
 
--- what `run_calls` ensures of a run
-abbrev pub RunOf : Layout → List ℕ → Ran → Type 0
-RunOf layout calls ran = (modelOf ran.layout ≡ end_of (modelOf layout) (calls_of calls)) × (ran.ended ≡ ended_of calls)
+-- what a call in place leaves and answers, as a call by value hands it back
+abbrev pub viewed_with : Layout → Result (Unit {0}) Refusal → Viewed
+viewed_with layout answer = record { layout = layout; answer = answer }
+
+-- a run of a call list in numbers: the layout at its end, and that it ended well or the place from which the list is ill-formed
+pub record RunOf (start : Layout) (calls : List ℕ) (end : Layout) (ended : Result (Unit {0}) ℕ) : Type 0 where
+  pub layout_is : modelOf end ≡ end_of (modelOf start) (calls_of calls)
+  pub ended_is : ended ≡ ended_of calls
 
 pub record ChainClaims : Type 0 where
   -- every chain is the definition's list
@@ -49,7 +54,7 @@ pub record ChainClaims : Type 0 where
   -- from every layout there is one of every list of calls, so that this is not said of nothing
   pub there : (start : Layout) (calls : List Call) → SomeChain start calls
   -- `run_calls` comes to the layout that the calls of its list come to where they are made one by one
-  pub as-run : (start end : Layout) (numbers : List ℕ) (answers : List Check) (ran : Ran) → RunOf start numbers ran → Chain start (calls_of numbers) answers end → modelOf ran.layout ≡ modelOf end
+  pub as-run : (start end ran : Layout) (numbers : List ℕ) (answers : List Check) (ended : Result (Unit {0}) ℕ) → RunOf start numbers ran ended → Chain start (calls_of numbers) answers end → modelOf ran ≡ modelOf end
   -- and every chain can be run by it: handed the numbers of the calls, it reads them to their end and comes to the chain's end layout
-  pub run-of-chain : (start end : Layout) (calls : List Call) (answers : List Check) (ran : Ran) → Chain start calls answers end → RunOf start (numbersOf calls) ran
-      → (modelOf ran.layout ≡ modelOf end) × (ran.ended ≡ All)
+  pub run-of-chain : (start end ran : Layout) (calls : List Call) (answers : List Check) (ended : Result (Unit {0}) ℕ) → Chain start calls answers end → RunOf start (numbersOf calls) ran ended
+      → (modelOf ran ≡ modelOf end) × (ended ≡ Ok tt)

@@ -1,43 +1,65 @@
 -- The reader's first part: all that stands before the verdict is judged.
-use Rattle.std.specs.Prelude.{not, List, [], ℕ, get_or}
-use Rattle.integer.specs.Range.{mostUnsigned}
-use Rattle.specification.specs.Layout.{LayoutM}
-use Rattle.specification.specs.Outcome.{Outcome, Check, done, refused, pass, refuseIf, ◌>>◌}
-use Rattle.specification.specs.Record.{signedFrom, axesFrom, fieldsRight, isNormal, layoutFrom}
-use Rattle.view.specs.Answers.{outcomeOf}
-use Rattle.view.specs.Model.{modelOf, no_layout}
+use Rattle.std.specs.Prelude.{Bool, false, not, ◌&&◌, List, [], ◌∷◌, ℕ, eqb, ltb, ℤ, pos, length, get_or, if◌then◌else◌, None, Option, Some}
+use Rattle.std.specs.Int.Signed.{le_z}
+use Rattle.integer.specs.Multiple.{eqZ}
+use Rattle.integer.specs.Parts.{posPart}
+use Rattle.integer.specs.Range.{mostSigned}
+use Rattle.specification.specs.Axis.{Axis}
+use Rattle.specification.specs.Layout.{LayoutM, lowest, highest}
+use Rattle.specification.specs.Outcome.{Outcome, done, refused, refuseIf, ◌>>◌}
+use Rattle.specification.specs.Record.{numberFrom, signedFrom, axesFrom, fieldsRight, isNormal, withBuffer, layoutFrom}
+use Rattle.view.specs.Model.{modelOf}
+use Rattle.record.specs.declared.reader.Head.{Head}
 use Rattle.record.specs.declared.reader.Front.{Front}
 
--- the layout over the longest buffer, which holds every offset to 2^63 - 1
-abbrev pub inLongest : LayoutM → LayoutM
-inLongest l = record { buffer = mostUnsigned; offset = l.offset; axes = l.axes }
+-- ---- the fields
 
--- the layout that the fields tell, before it has a buffer length
-abbrev pub toldBy : List ℕ → LayoutM
-toldBy bytes = record { buffer = 0; offset = signedFrom bytes 5; axes = axesFrom bytes 13 (get_or bytes 4 0) }
+-- the number that the first 2 bytes hold, where there are so many
+abbrev pub length_told : List ℕ → Option ℕ
+length_told bytes = if ltb (length bytes) 2 then None else Some (numberFrom bytes 0 2)
+
+-- the verdict's byte and the rank, where every field is right
+abbrev pub head_told : List ℕ → Option Head
+head_told bytes = if fieldsRight bytes then Some (record { verdict = get_or bytes 3 0; rank = get_or bytes 4 0 }) else None
+
+-- the layout of this rank that the fields tell, before it has a buffer length
+abbrev pub layout_told : List ℕ → ℕ → LayoutM
+layout_told bytes rank = record { buffer = 0; offset = signedFrom bytes 5; axes = axesFrom bytes 13 rank }
+
+-- ---- the test for a normal form
+
+-- one axis, and each number is 0: `isEmptyForm` of the definitions, said of offset and axes
+abbrev pub is_empty_form : ℤ → List Axis → Bool
+is_empty_form offset [] = false
+is_empty_form offset (a ∷ rest) = eqZ offset (pos 0) && eqb (length rest) 0 && eqb a.extent 0 && eqZ a.stride (pos 0)
+
+-- no offset is below 0 or above 2^63 - 1
+abbrev pub in_range : LayoutM → Bool
+in_range l = le_z (pos 0) (lowest l) && le_z (highest l) (pos mostSigned)
+
+-- the highest offset of such a layout
+abbrev pub highest_told : LayoutM → Option ℕ
+highest_told l = if in_range l then Some (posPart (highest l)) else None
+
+-- the buffer length that a normal form needs
+abbrev pub needed_length : LayoutM → Option ℕ
+needed_length l = if isNormal l then Some (withBuffer l).buffer else None
+
+-- ---- both
 
 -- a layout, and the byte of the verdict claimed for it
 pub record FrontM : Type 0 where
   pub layout : LayoutM
   pub verdict : ℕ
 
--- 11 unless the front bytes hold a whole record; `read_of` of 01's record goes on with the judgement
+-- 11 unless the front bytes hold a whole record; `read_of` of the definitions goes on with the judgement
 unfoldable pub frontOf : List ℕ → Outcome FrontM
 frontOf bytes = do
   refuseIf (not (fieldsRight bytes)) 11 []
   refuseIf (not (isNormal (layoutFrom bytes))) 11 []
   done (record { layout = layoutFrom bytes; verdict = get_or bytes 3 0 })
 
--- an answer with them
-pub record FrontAnswer : Type 0 where
-  pub answer : Check
-  pub front : FrontM
-
--- what the code answers
-abbrev pub frontTold : Front → FrontAnswer
-frontTold f = record { answer = outcomeOf f.answer; front = record { layout = modelOf f.layout; verdict = f.verdict } }
-
--- an outcome as such an answer; beside a refusal stand an empty layout and no verdict
-abbrev pub frontAfter : Outcome FrontM → FrontAnswer
-frontAfter (done f) = record { answer = pass; front = f }
-frontAfter (refused number values) = record { answer = refused number values; front = record { layout = no_layout; verdict = 0 } }
+-- what the code answers; without an answer the refusal is 11
+abbrev pub front_outcome : Option Front → Outcome FrontM
+front_outcome None = refused 11 []
+front_outcome (Some f) = done (record { layout = modelOf f.layout; verdict = f.verdict })

@@ -1,12 +1,11 @@
 -- Demand 3 and the round trip said of running code: what any two chains of calls, or runs of `run_calls`, and any calls of `write_record` and `read_record` come to.
--- `Layout`, `Ran` and a `Result` with a `BytePlace` are what the functions hand back; the premises are their contracts, word for word (held to them in proofs/PremisesAreContracts).
+-- `Layout` and a `Result` with a `BytePlace` are what the functions hand back; the premises are the contracts of functions: `Writing` of `write_record`, `Reading` of `read_record`, `RunOf` of `run_calls`.
 use Rattle.view.specs.declared.layout.Refusal.{Refusal}
 use Rattle.big_endian.specs.declared.BytePlace.{BytePlace}
 use Rattle.std.specs.Prelude.{List, ◌≡◌, ℕ, ◌≤◌, length, take, Result}
-use Rattle.specification.specs.Outcome.{Outcome, Check, done, pass}
+use Rattle.specification.specs.Outcome.{Outcome, Check, done}
 use Rattle.specification.specs.Layout.{LayoutM, Accepted}
 use Rattle.specification.specs.Normal.{normalOf}
-use Rattle.specification.specs.Views.{After}
 use Rattle.specification.specs.Verdict.{wordsNeeded}
 use Rattle.specification.specs.Record.{Writing, withBuffer, numberFrom}
 use Rattle.specification.specs.RecordClaims.{Bytes}
@@ -14,7 +13,6 @@ use Rattle.specification.specs.Calls.{Call}
 use Rattle.specification.specs.Demand3.{Run, Demand3}
 use Rattle.view.specs.declared.layout.Layout.{Layout}
 use Rattle.view.specs.Model.{modelOf}
-use Rattle.record.specs.declared.calls.Ran.{Ran}
 use Rattle.record.specs.CallList.{calls_of}
 use Rattle.record.specs.Chain.{Chain, AsDefined, RunOf}
 use Rattle.record.specs.Writer.{wroteOf}
@@ -41,10 +39,10 @@ RunningDemand3 = (a b end end' : Layout) → Accepted (modelOf a) → Accepted (
 
 -- with `run_calls` in place of the chains: every two call lists in numbers
 abbrev pub RunCallsDemand3 : Type 0
-RunCallsDemand3 = (a b : Layout) → Accepted (modelOf a) → Accepted (modelOf b) → (cs ds : List ℕ) (ran ran' : Ran) → RunOf a cs ran → RunOf b ds ran'
+RunCallsDemand3 = (a b ran ran' : Layout) → Accepted (modelOf a) → Accepted (modelOf b) → (cs ds : List ℕ) (ended ended' : Result (Unit {0}) ℕ) → RunOf a cs ran ended → RunOf b ds ran' ended'
     → (output scratch output-then scratch-then output' scratch' output-then' scratch-then' : List ℕ) (wrote wrote' : Result BytePlace Refusal)
-    → Writing (modelOf ran.layout) output scratch (wroteOf wrote) output-then scratch-then
-    → Writing (modelOf ran'.layout) output' scratch' (wroteOf wrote') output-then' scratch-then'
+    → Writing (modelOf ran) output scratch (wroteOf wrote) output-then scratch-then
+    → Writing (modelOf ran') output' scratch' (wroteOf wrote') output-then' scratch-then'
     → Demand3 (modelOf a) (modelOf b) (calls_of cs) (calls_of ds) output scratch output-then scratch-then output' scratch' output-then' scratch-then' (wroteOf wrote) (wroteOf wrote')
 
 -- the round trip, both ways, of any calls of writer and reader; the second is lent words of its own, enough for the verdict
@@ -52,10 +50,10 @@ pub record RunningRoundTrip : Type 0 where
   -- write then read: the output after the writer is read as the normal form, whatever stands behind the record
   pub write_read : (l : Layout) (output scratch output-then scratch-then : List ℕ) (wrote : Result BytePlace Refusal) (n : ℕ) → Accepted (modelOf l)
       → Writing (modelOf l) output scratch (wroteOf wrote) output-then scratch-then → wroteOf wrote ≡ done n
-      → (scratch' scratch-then' : List ℕ) (answer : After) → wordsNeeded (normalOf (modelOf l)).axes ≤ length scratch' → Reading output-then scratch' answer scratch-then'
-      → answer ≡ record { answer = pass; layout = withBuffer (normalOf (modelOf l)) }
+      → (scratch' scratch-then' : List ℕ) (answer : Outcome LayoutM) → wordsNeeded (normalOf (modelOf l)).axes ≤ length scratch' → Reading output-then scratch' answer scratch-then'
+      → answer ≡ done (withBuffer (normalOf (modelOf l)))
   -- read then write: a record of the same length is made, and it is the bytes of the front again
-  pub read-write : (bytes scratch scratch-then : List ℕ) (l : LayoutM) → Bytes bytes → Reading bytes scratch (record { answer = pass; layout = l }) scratch-then
+  pub read-write : (bytes scratch scratch-then : List ℕ) (l : LayoutM) → Bytes bytes → Reading bytes scratch (done l) scratch-then
       → (output scratch' output-then scratch-then' : List ℕ) (answer : Outcome ℕ) → wordsNeeded l.axes ≤ length scratch' → numberFrom bytes 0 2 ≤ length output
       → Writing l output scratch' answer output-then scratch-then'
       → (answer ≡ done (numberFrom bytes 0 2)) × (take (numberFrom bytes 0 2) output-then ≡ take (numberFrom bytes 0 2) bytes)

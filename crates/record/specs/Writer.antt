@@ -1,4 +1,4 @@
--- The writer's answer in 01's numbers and values.
+-- The writer's answer in numbers and values of the table.
 use Rattle.view.specs.declared.layout.Refusal.{Refusal}
 use Rattle.big_endian.specs.declared.BytePlace.{BytePlace}
 use Rattle.std.specs.Prelude.{ℕ, Err, Ok, Result}

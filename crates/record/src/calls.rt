@@ -1,89 +1,123 @@
-// Call lists: views of a layout, one after another, given in numbers.
-ghost use Rattle.std.specs.Prelude.{◌≡◌, ◌≤◌, length, take};
-ghost use Rattle.specification.specs.Views.{broadcast};
+//! Lists of calls: views of a layout, one after another. A list is given as calls, or in numbers: for each call its kind
+//! (1 permute, 2 diagonal_view, 3 broadcast), how many numbers follow, and these.
+ghost use Rattle.std.specs.Prelude.{◌≡◌, ◌≤◌, length, map, take, MatchOption, None, Some};
 ghost use Rattle.specification.specs.Calls.{after_call, end_of};
-ghost use Rattle.view.specs.Model.{modelOf, viewedOf};
-ghost use Rattle.record.specs.CallList.{call_of, isCallAt, calls_of, ended_of};
+ghost use Rattle.specification.specs.Views.{broadcast};
+ghost use Rattle.view.specs.Model.{modelOf, viewedOf, told};
+ghost use Rattle.record.specs.Calls.{call_in, listed_call};
+ghost use Rattle.record.specs.CallList.{first_of};
+ghost use Rattle.record.specs.Chain.{CallMade, viewed_with, RunOf};
 
-use view::layout::{Layout, Viewed};
-use view::numbers::diagonal_by_numbers;
+use view::diagonal::AxisPair;
+use view::layout::{Layout, Refusal, Viewed};
 
-// The whole list was run, or it is ill-formed from a place on.
+/// One call of a list, with its arguments.
 #[derive(Clone, Copy)]
-pub enum Ended {
-    All,
-    IllFormed(usize),
+pub enum Call<'a> {
+    Permute(&'a [usize]),
+    DiagonalView(&'a [AxisPair]),
+    Broadcast(&'a [u64]),
 }
 
-// The layout after the calls, and where the list ended.
-#[derive(Clone, Copy)]
-pub struct Ran {
-    pub layout: Layout,
-    pub ended: Ended,
+/// What a call answers, and the layout after it.
+#[tactic(auto, unfolding(specification::specs::Calls::after_call))]
+pub fn after(layout: Layout, call: Call<'_>) -> Viewed
+    ensures answer { viewedOf result ≡ after_call (modelOf layout) (call_in call.entry) }
+    ensures made { CallMade layout result (call_in call.entry) }
+{
+    match call {
+        Call::Permute(order) => layout.permute(order),
+        Call::DiagonalView(pairs) => layout.diagonal_view(pairs),
+        Call::Broadcast(targets) => layout.broadcast(targets),
+    }
 }
 
-// The first arguments of a call as targets.
-fn targets_of(arguments: &[usize], count: usize) -> [u64; 17]
-    requires few { count ≤ 17 }
-    requires there { count ≤ length arguments.now }
-    ensures { take count result ≡ take count arguments.now }
+/// The layout after a list of calls, each on the layout after the last; a call that is refused leaves it.
+pub fn run(start: Layout, calls: &[Call<'_>]) -> Layout
+    ensures { modelOf result ≡ end_of (modelOf start) (map call_in calls.now) }
+{
+    let mut layout = start;
+    for call in calls {
+        let viewed = after(layout, *call);
+        layout = viewed.layout;
+    }
+    layout
+}
+
+/// A call as it stands in a list of numbers, with its arguments in numbers.
+#[derive(Clone, Copy)]
+enum Listed<'a> {
+    Permute(&'a [usize]),
+    DiagonalView(&'a [usize]),
+    Broadcast(&'a [usize]),
+}
+
+/// The call at the front of a list of numbers, and the numbers behind it.
+fn first_call(numbers: &[usize]) -> Option<(Listed<'_>, &[usize])>
+    ensures { MatchOption result (first_of numbers.now ≡ None) (λ p. first_of numbers.now ≡ Some (listed_call p.0, p.1.now)) }
+{
+    let [kind, count, rest @ ..] = numbers else {
+        return None;
+    };
+    if rest.len() < *count {
+        return None;
+    }
+    let (arguments, behind) = rest.split_at(*count);
+    match kind {
+        1 => Some((Listed::Permute(arguments), behind)),
+        2 => Some((Listed::DiagonalView(arguments), behind)),
+        3 => Some((Listed::Broadcast(arguments), behind)),
+        _ => None,
+    }
+}
+
+/// Up to 17 arguments of a call as targets.
+fn targets_of(arguments: &[usize]) -> [u64; 17]
+    requires { length arguments.now ≤ 17 }
+    ensures { take (length arguments.now) result ≡ arguments.now }
 {
     let mut targets = [0u64; 17];
-    for i in 0..count {
-        targets[i] = arguments[i] as u64;
+    for (i, argument) in arguments.iter().enumerate() {
+        targets[i] = *argument as u64;
     }
     targets
 }
 
-// broadcast to targets in a list of any length: past 16 it is refused, whatever they are.
-fn broadcast_to(layout: Layout, arguments: &[usize]) -> Viewed
-    ensures { viewedOf result ≡ broadcast (modelOf layout) arguments.now }
+/// broadcast to targets in a list of any length: past 16 it is refused, whatever they are.
+fn broadcast_to(layout: &mut Layout, arguments: &[usize]) -> Result<(), Refusal>
+    ensures { told result layout.new ≡ broadcast (modelOf layout.old) arguments.now }
 {
     let count = arguments.len().min(17);
-    let targets = targets_of(arguments, count);
-    layout.broadcast(&targets[..count])
+    let targets = targets_of(&arguments[..count]);
+    layout.broadcast_in_place(&targets[..count])
 }
 
-// One call of a known kind.
-fn run_call(layout: Layout, kind: usize, arguments: &[usize]) -> Viewed
-    ensures { viewedOf result ≡ after_call (modelOf layout) (call_of kind arguments.now) }
+/// One call in numbers.
+#[tactic(auto, unfolding(specification::specs::Calls::after_call))]
+fn run_call(layout: &mut Layout, call: Listed<'_>) -> Result<(), Refusal>
+    ensures answer { told result layout.new ≡ after_call (modelOf layout.old) (listed_call call.entry) }
+    ensures made { CallMade layout.old (viewed_with layout.new result) (listed_call call.entry) }
 {
-    match kind {
-        1 => layout.permute(arguments),
-        2 => diagonal_by_numbers(layout, arguments),
-        _ => broadcast_to(layout, arguments),
+    match call {
+        Listed::Permute(order) => layout.permute_in_place(order),
+        Listed::DiagonalView(pairs) => layout.diagonal_by_numbers(pairs),
+        Listed::Broadcast(targets) => broadcast_to(layout, targets),
     }
 }
 
-// Whether a well-formed call stands at a place: a known kind, how many arguments follow, and these.
-fn is_call_at(calls: &[usize], at: usize) -> bool
-    requires { at ≤ length calls.now }
-    ensures { result ≡ isCallAt calls.now at }
+/// Each call in turn on the layout after the last; a call that is refused leaves it. `Err(place)`: the list is ill-formed
+/// from there on, and was run up to there.
+pub fn run_calls(layout: &mut Layout, calls: &[usize]) -> Result<(), usize>
+    ensures { RunOf layout.old calls.now layout.new result }
 {
-    let left = calls.len() - at;
-    left >= 2 && matches!(calls[at], 1..=3) && calls[at + 1] <= left - 2
-}
-
-// Each call in turn on the layout after the last, after a refusal on the old one. A list that is ill-formed is run up to there.
-pub fn run_calls(layout: Layout, calls: &[usize]) -> Ran
-    ensures { (modelOf result.layout ≡ end_of (modelOf layout) (calls_of calls.now)) × (result.ended ≡ ended_of calls.now) }
-{
-    let mut current = layout;
-    let mut at = 0;
-    while at < calls.len() {
-        if !is_call_at(calls, at) {
-            return Ran {
-                layout: current,
-                ended: Ended::IllFormed(at),
-            };
-        }
-        let start = at + 2;
-        let end = start + calls[at + 1];
-        current = run_call(current, calls[at], &calls[start..end]).layout;
-        at = end;
+    let mut rest = calls;
+    while let Some((call, behind)) = first_call(rest) {
+        let _refused = run_call(layout, call);
+        rest = behind;
     }
-    Ran {
-        layout: current,
-        ended: Ended::All,
+    if rest.is_empty() {
+        Ok(())
+    } else {
+        Err(calls.len() - rest.len())
     }
 }

@@ -1,88 +1,77 @@
-// The reader's test for a normal form, and the buffer length that it gives.
-ghost use Rattle.std.specs.Prelude.{◌≡◌, true, ◌≤◌};
+//! The reader's test for a normal form, and the buffer length that it gives.
+ghost use Rattle.std.specs.Prelude.{◌≡◌, ◌≤◌, length};
 ghost use Rattle.specification.specs.Normal.{overfull};
-ghost use Rattle.specification.specs.Record.{isMerged, isEmptyForm, isNormal, withBuffer};
-ghost use Rattle.view.specs.Model.{modelOf};
-ghost use Rattle.view.specs.Reach.{reachTold, reachOf};
-ghost use Rattle.record.specs.Reader.{inLongest};
+ghost use Rattle.specification.specs.Record.{isMerged};
+ghost use Rattle.view.specs.Model.{modelOf, modelFrom};
+ghost use Rattle.record.specs.Reader.{highest_told, is_empty_form, needed_length};
 
-use crate::normal::{continues, layout_count};
-use view::accepted::layout_reach;
-use view::bounds::Reach;
-use view::layout::Layout;
+use crate::normal::continues;
+use axis::Axis;
+use view::bounds::sum_spans;
+use view::count::element_count;
+use view::layout::{Layout, ReadingOffset};
 
-// Whether each extent is above 1 and no axis continues the one before it.
-fn is_merged(layout: Layout) -> bool
-    requires { layout.rank ≤ 16 }
-    ensures { result ≡ isMerged (modelOf layout).axes }
+/// Whether each extent is above 1 and no axis continues the one before it.
+#[tactic(auto, unfolding(specification::specs::Record::isMerged))]
+fn is_merged(axes: &[Axis]) -> bool
+    ensures { result ≡ isMerged axes.now }
 {
-    if layout.rank == 0 {
-        return true;
-    }
-    let last = layout.rank - 1;
-    for i in 0..last {
-        let extent = layout.extents[i];
-        if extent <= 1 {
-            return false;
-        }
-        if continues(extent, layout.strides[i], layout.strides[i + 1]) {
-            return false;
+    match axes {
+        [] => true,
+        [axis] => 1 < axis.extent,
+        [before, rest @ ..] => {
+            1 < before.extent && !continues(*before, rest[0]) && is_merged(rest)
         }
     }
-    1 < layout.extents[last]
 }
 
-// Whether the layout is the normal form of an empty one: offset 0, and one axis of extent 0 and stride 0.
-fn is_empty_form(layout: Layout) -> bool
-    ensures { result ≡ isEmptyForm (modelOf layout) }
+/// Whether these are the offset and the axes of an empty layout's normal form: offset 0, and one axis of extent 0 and stride 0.
+#[tactic(auto, using(crate::proofs::FormLaws::zero_tested, crate::proofs::FormLaws::empty_form_one))]
+fn is_empty_form(offset: ReadingOffset, axes: &[Axis]) -> bool
+    ensures { result ≡ is_empty_form offset.0 axes.now }
 {
-    if layout.rank != 1 || layout.offset.0 != 0 || layout.extents[0] != 0 {
+    let [axis] = axes else {
         return false;
-    }
-    layout.strides[0] == 0
-}
-
-// Whether there are more than 2^64 - 1 positions.
-fn is_overfull(layout: Layout) -> bool
-    requires { layout.rank ≤ 16 }
-    ensures { result ≡ overfull (modelOf layout).axes }
-{
-    layout_count(layout).is_err()
-}
-
-// The reach over the longest buffer, which holds every offset to 2^63 - 1.
-fn longest_reach(layout: Layout) -> Reach
-    requires { layout.rank ≤ 16 }
-    ensures { reachTold result ≡ reachOf (inLongest (modelOf layout)) }
-{
-    layout_reach(Layout {
-        len: u64::MAX,
-        ..layout
-    })
-}
-
-// Whether the layout is a normal form of at most 2^64 - 1 positions with offsets within 0 to 2^63 - 1.
-pub(crate) fn is_normal(layout: Layout) -> bool
-    requires { layout.rank ≤ 16 }
-    ensures { result ≡ isNormal (modelOf layout) }
-{
-    if is_empty_form(layout) {
-        return true;
-    }
-    if !is_merged(layout) || is_overfull(layout) {
-        return false;
-    }
-    matches!(longest_reach(layout), Reach::Between(_, _))
-}
-
-// The buffer length of such a layout: the highest offset + 1, or 0 where there is no position.
-pub(crate) fn buffer_length(layout: Layout) -> u64
-    requires few { layout.rank ≤ 16 }
-    requires normal { isNormal (modelOf layout) ≡ true }
-    ensures { result ≡ (withBuffer (modelOf layout)).buffer }
-{
-    let Reach::Between(_, high) = longest_reach(layout) else {
-        return 0;
     };
-    (high.0 as u64) + 1
+    if offset.0 != 0 || axis.extent != 0 {
+        return false;
+    }
+    axis.stride == 0
+}
+
+/// Whether there are more than 2^64 - 1 positions.
+fn is_overfull(axes: &[Axis]) -> bool
+    requires { length axes.now ≤ 16 }
+    ensures { result ≡ overfull axes.now }
+{
+    element_count(axes).is_err()
+}
+
+/// The highest offset, where none is below 0 or above 2^63 - 1 and a zero extent counts as 1.
+fn highest_offset(offset: ReadingOffset, axes: &[Axis]) -> Option<u64>
+    ensures { result ≡ highest_told (modelFrom 0 offset.0 axes.now) }
+{
+    if offset.0 < 0 {
+        return None;
+    }
+    let base = offset.0.unsigned_abs();
+    let spans = sum_spans(axes, i64::MAX as u64 - base, base)?;
+    Some(base + spans.up)
+}
+
+/// The buffer length that a layout needs, if it is a normal form of at most 2^64 - 1 positions with offsets within 0 to 2^63 - 1:
+/// the highest offset + 1, or 0 where there is no position.
+pub(crate) fn buffer_length(layout: &Layout) -> Option<u64>
+    requires { layout.now.rank ≤ 16 }
+    ensures { result ≡ needed_length (modelOf layout.now) }
+{
+    let axes = layout.axes();
+    if is_empty_form(layout.offset, axes) {
+        return Some(0);
+    }
+    if !is_merged(axes) || is_overfull(axes) {
+        return None;
+    }
+    let highest = highest_offset(layout.offset, axes)?;
+    Some(highest + 1)
 }

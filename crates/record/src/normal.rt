@@ -1,120 +1,87 @@
-// The normal form of a layout: axes of extent 1 dropped, neighbours merged.
-ghost use Rattle.view.specs.Answers.{outcomeOf};
-ghost use Rattle.std.specs.Prelude.{true, false, ◌≡◌, ◌≤◌};
-ghost use Rattle.integer.specs.Multiple.{◌·◌, eqZ};
+//! The normal form of a layout: axes of extent 1 dropped, neighbours merged.
+ghost use Rattle.std.specs.Prelude.{false, ◌≡◌, ◌≤◌, length};
 ghost use Rattle.specification.specs.Axis.{is_empty};
-ghost use Rattle.specification.specs.Normal.{normalOf, overfull};
-ghost use Rattle.view.specs.Count.{count_of};
-ghost use Rattle.view.specs.Model.{modelOf, viewedOf};
-ghost use Rattle.record.specs.Normal.{continuesLast, counted, normalView};
+ghost use Rattle.specification.specs.Normal.{continues, normalAxes, normalOf, overfull, normalForm};
+ghost use Rattle.view.specs.Model.{modelOf, first_axes, layout_outcome};
+ghost use Rattle.record.specs.Normal.{continues_last, empty_model};
 
+use axis::Axis;
 use integer::signed::checked_mul;
-use view::accepted::handed_refusal;
-use view::count::checked_element_count;
-use view::layout::{Layout, ReadingOffset, Refusal, Viewed};
+use view::count::element_count;
+use view::layout::{Layout, MOST_AXES, NO_AXIS, ReadingOffset, Refusal};
 
-// Whether the next stride is extent × stride. A product that 64 bits do not hold equals no stride.
-pub(crate) fn continues(extent: u64, stride: i64, next: i64) -> bool
-    ensures { result ≡ eqZ next (extent · stride) }
+/// Whether an axis goes on where the one before it ends: its stride is their extent × stride.
+/// A product that 64 bits do not hold equals no stride.
+pub(crate) fn continues(before: Axis, axis: Axis) -> bool
+    ensures { result ≡ continues before axis }
 {
-    match checked_mul(stride, extent) {
-        None => false,
-        Some(step) => next == step,
-    }
+    checked_mul(before.stride, before.extent) == Some(axis.stride)
 }
 
-// Whether an axis of this stride continues the last of the first `stored` axes.
-fn continues_last(layout: Layout, stored: usize, stride: i64) -> bool
-    requires { stored ≤ 16 }
-    ensures { result ≡ continuesLast layout.extents layout.strides stored stride }
+/// Whether an axis goes on where the last one stored ends.
+fn continues_last(stored: &[Axis], axis: Axis) -> bool
+    ensures { result ≡ continues_last stored.now axis }
 {
-    stored != 0
-        && continues(
-            layout.extents[stored - 1],
-            layout.strides[stored - 1],
-            stride,
-        )
+    stored.last().is_some_and(|last| continues(*last, axis))
 }
 
-// One pass from the left. The last axis stored is in hand: an axis that continues it is merged into it, another is stored behind it.
-fn merged(layout: Layout) -> Layout
-    requires few { layout.rank ≤ 16 }
-    requires full { is_empty (modelOf layout).axes ≡ false }
-    requires within { overfull (modelOf layout).axes ≡ false }
-    ensures { modelOf result ≡ normalOf (modelOf layout) }
+/// One pass from the left: how many axes come to stand in the first places. The last one stored is in hand:
+/// an axis that continues it is merged into it, another is stored behind it.
+fn merge_into(merged: &mut [Axis; 16], axes: &[Axis]) -> usize
+    requires few { length axes.now ≤ 16 }
+    requires full { is_empty axes.now ≡ false }
+    requires within { overfull axes.now ≡ false }
+    ensures few { result ≤ 16 }
+    ensures axes { first_axes merged.new result ≡ normalAxes axes.now }
 {
-    let mut next = layout;
     let mut stored = 0;
-    for i in 0..layout.rank {
-        let extent = layout.extents[i];
-        let stride = layout.strides[i];
-        if extent == 1 {
+    for axis in axes {
+        if axis.extent == 1 {
             continue;
         }
-        if continues_last(next, stored, stride) {
-            next.extents[stored - 1] *= extent;
+        if continues_last(&merged[..stored], *axis) {
+            merged[stored - 1].extent *= axis.extent;
         } else {
-            next.extents[stored] = extent;
-            next.strides[stored] = stride;
+            merged[stored] = *axis;
             stored += 1;
         }
     }
-    next.rank = stored;
-    next
+    stored
 }
 
-// One axis, extent 0, stride 0, offset 0; the buffer length stays.
-fn empty_form(layout: Layout) -> Layout
-    requires { is_empty (modelOf layout).axes ≡ true }
-    ensures { modelOf result ≡ normalOf (modelOf layout) }
+/// The normal form where there is a position.
+fn merged(layout: &Layout) -> Layout
+    requires few { layout.now.rank ≤ 16 }
+    requires full { is_empty (modelOf layout.now).axes ≡ false }
+    requires within { overfull (modelOf layout.now).axes ≡ false }
+    ensures { modelOf result ≡ normalOf (modelOf layout.now) }
+{
+    let mut form = *layout;
+    form.rank = merge_into(&mut form.axes, layout.axes());
+    form
+}
+
+/// One axis, extent 0, stride 0, offset 0; the buffer length stays.
+#[tactic(auto, unfolding(lists::specs::Table::table))]
+fn empty_form(len: u64) -> Layout
+    ensures { modelOf result ≡ empty_model len }
 {
     Layout {
+        len,
         offset: ReadingOffset(0),
         rank: 1,
-        extents: [0; 16],
-        strides: [0; 16],
-        ..layout
+        axes: [NO_AXIS; MOST_AXES],
     }
 }
 
-// The number of positions, or that 64 bits do not hold it.
-pub(crate) fn layout_count(layout: Layout) -> Result<u64, Refusal>
-    requires { layout.rank ≤ 16 }
-    ensures { outcomeOf result ≡ count_of (modelOf layout).axes }
+/// The normal form; or refusal 1, 3 or 8.
+pub fn normal_form(layout: &Layout) -> Result<Layout, Refusal>
+    ensures { layout_outcome result ≡ normalForm (modelOf layout.now) }
 {
-    checked_element_count(&layout.extents[..layout.rank])
-}
-
-// Refusal 8, or the normal form.
-fn counted_form(layout: Layout) -> Viewed
-    requires { layout.rank ≤ 16 }
-    ensures { viewedOf result ≡ counted (modelOf layout) }
-{
-    match layout_count(layout) {
-        Err(why) => Viewed {
-            layout,
-            answer: Err(why),
-        },
-        Ok(0) => Viewed {
-            layout: empty_form(layout),
-            answer: Ok(()),
-        },
-        Ok(_) => Viewed {
-            layout: merged(layout),
-            answer: Ok(()),
-        },
+    layout.handed_refusal(0)?;
+    let count = element_count(layout.axes())?;
+    if count == 0 {
+        return Ok(empty_form(layout.len));
     }
-}
-
-// The normal form; or refusal 1, 3 or 8, and the layout as it was.
-pub fn normal_form(layout: Layout) -> Viewed
-    ensures { viewedOf result ≡ normalView (modelOf layout) }
-{
-    match handed_refusal(layout, 0) {
-        Err(why) => Viewed {
-            layout,
-            answer: Err(why),
-        },
-        Ok(()) => counted_form(layout),
-    }
+    Ok(merged(layout))
 }

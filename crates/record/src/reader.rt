@@ -1,100 +1,88 @@
-// The reader's first part: a whole record at the front of bytes, up to the verdict that its byte claims.
-ghost use Rattle.std.specs.Prelude.{◌≡◌, [], ◌≤◌, length, get_or};
-ghost use Rattle.specification.specs.Outcome.{refused};
-ghost use Rattle.specification.specs.Record.{recordLength, fieldsRight};
-ghost use Rattle.view.specs.Model.{modelOf, no_layout};
-ghost use Rattle.record.specs.Reader.{toldBy, frontOf, frontTold, frontAfter};
+//! The reader's first part: a whole record at the front of bytes, up to the verdict that its byte claims.
+ghost use Rattle.std.specs.Prelude.{◌≡◌, ◌≤◌, ◌+◌, length};
+ghost use Rattle.specification.specs.Record.{recordLength};
+ghost use Rattle.view.specs.Model.{modelOf};
+ghost use Rattle.record.specs.Fields.{axis_told};
+ghost use Rattle.record.specs.Reader.{head_told, layout_told, frontOf, front_outcome};
 
-use crate::form::{buffer_length, is_normal};
+use crate::fields::{AXIS_BYTES, HEAD_BYTES, OFFSET_PLACE, VERSION, record_length};
+use crate::form::buffer_length;
 use crate::step::length_field;
+use axis::Axis;
 use big_endian::{BytePlace, from_twos, u64_at};
-use view::layout::{Layout, ReadingOffset, Refusal};
+use view::layout::{Layout, MOST_AXES, NO_AXIS, ReadingOffset};
 
-// The most axes that a layout has.
-const MOST_AXES: u8 = 16;
+/// What the first bytes of a record tell: the byte of its verdict, and how many axes follow.
+#[derive(Clone, Copy, Debug, PartialEq, Eq)]
+pub struct Head {
+    pub verdict: u8,
+    pub rank: usize,
+}
 
-// The layout and the byte of its verdict that front bytes tell, or refusal 11.
-#[derive(Clone, Copy)]
+/// A layout, and the byte of the verdict claimed for it.
+#[derive(Clone, Copy, Debug)]
 pub struct Front {
     pub layout: Layout,
     pub verdict: u8,
-    pub answer: Result<(), Refusal>,
 }
 
-// Whether the front bytes hold every field: length, version, verdict and rank.
-pub fn fields_right(bytes: &[u8]) -> bool
-    ensures { result ≡ fieldsRight bytes.now }
+/// The head, where the front bytes hold every field: length, version, verdict, rank, and as many bytes as these ask for.
+#[tactic(auto, unfolding(specification::specs::Record::fieldsRight))]
+pub fn read_head(bytes: &[u8]) -> Option<Head>
+    ensures { result ≡ head_told bytes.now }
 {
-    if bytes.len() < 13 || bytes[2] != 1 || bytes[3] < 1 || bytes[3] > 3 || bytes[4] > MOST_AXES {
-        return false;
-    }
-    let size = 13 + 16 * bytes[4] as usize;
-    length_field(bytes) == size && size <= bytes.len()
-}
-
-// The offset and the axes that the fields tell; the buffer length is not set yet.
-fn axes_from(bytes: &[u8]) -> Layout
-    requires few { get_or bytes.now 4 0 ≤ 16 }
-    requires whole { recordLength (get_or bytes.now 4 0) ≤ length bytes.now }
-    ensures { modelOf result ≡ toldBy bytes.now }
-{
-    let rank = bytes[4] as usize;
-    let mut next = Layout {
-        len: 0,
-        offset: ReadingOffset(from_twos(u64_at(bytes, BytePlace(5)))),
-        rank,
-        extents: [0; 16],
-        strides: [0; 16],
+    let [_, _, VERSION, verdict @ 1..=3, rank @ ..=16, ..] = bytes else {
+        return None;
     };
-    for i in 0..rank {
-        let at = 13 + 16 * i;
-        next.extents[i] = u64_at(bytes, BytePlace(at));
-        next.strides[i] = from_twos(u64_at(bytes, BytePlace(at + 8)));
+    let rank = usize::from(*rank);
+    let size = record_length(rank);
+    if length_field(bytes) != Some(size) || bytes.len() < size {
+        return None;
     }
-    next
+    Some(Head {
+        verdict: *verdict,
+        rank,
+    })
 }
 
-// The layout that stands beside a refusal: it is empty.
-pub(crate) fn no_layout() -> Layout
-    ensures { modelOf result ≡ no_layout }
+/// The axis that the 16 bytes from a place on hold.
+fn axis_at(bytes: &[u8], at: BytePlace) -> Axis
+    requires { at.0 + 16 ≤ length bytes.now }
+    ensures { result ≡ axis_told bytes.now at.0 }
 {
+    Axis {
+        extent: u64_at(bytes, at),
+        stride: from_twos(u64_at(bytes, BytePlace(at.0 + 8))),
+    }
+}
+
+/// The offset and the axes that the fields tell; the buffer length is not set yet.
+fn layout_at_front(bytes: &[u8], rank: usize) -> Layout
+    requires few { rank ≤ 16 }
+    requires whole { recordLength rank ≤ length bytes.now }
+    ensures { modelOf result ≡ layout_told bytes.now rank }
+{
+    let mut axes = [NO_AXIS; MOST_AXES];
+    for i in 0..rank {
+        axes[i] = axis_at(bytes, BytePlace(HEAD_BYTES + AXIS_BYTES * i));
+    }
     Layout {
         len: 0,
-        offset: ReadingOffset(0),
-        rank: 1,
-        extents: [0; 16],
-        strides: [0; 16],
+        offset: ReadingOffset(from_twos(u64_at(bytes, OFFSET_PLACE))),
+        rank,
+        axes,
     }
 }
 
-// Refusal 11, beside an empty layout.
-fn no_record() -> Front
-    ensures { frontTold result ≡ frontAfter (refused 11 []) }
+/// The layout of a whole record at the front, and the verdict that it claims.
+pub fn read_front(bytes: &[u8]) -> Option<Front>
+    ensures { front_outcome result ≡ frontOf bytes.now }
 {
-    Front {
-        layout: no_layout(),
-        verdict: 0,
-        answer: Err(Refusal::NotARecord),
-    }
-}
-
-// Refusal 11 unless the front bytes hold a whole record; or its layout, and the verdict that it claims.
-pub fn read_front(bytes: &[u8]) -> Front
-    ensures { frontTold result ≡ frontAfter (frontOf bytes.now) }
-{
-    if !fields_right(bytes) {
-        return no_record();
-    }
-    let layout = axes_from(bytes);
-    if !is_normal(layout) {
-        return no_record();
-    }
-    Front {
-        layout: Layout {
-            len: buffer_length(layout),
-            ..layout
-        },
-        verdict: bytes[3],
-        answer: Ok(()),
-    }
+    let head = read_head(bytes)?;
+    let mut layout = layout_at_front(bytes, head.rank);
+    layout.len = buffer_length(&layout)?;
+    Some(Front {
+        layout,
+        verdict: head.verdict,
+    })
 }

@@ -1,26 +1,28 @@
-// Stepping over a record: the part of the caller's bytes behind it.
-ghost use Rattle.std.specs.Prelude.{◌≡◌, ◌≤◌, length};
-ghost use Rattle.specification.specs.Record.{numberFrom, rest_of};
+//! Stepping over a record: the part of the caller's bytes behind it.
+ghost use Rattle.std.specs.Prelude.{◌≡◌};
+ghost use Rattle.specification.specs.Record.{rest_of};
+ghost use Rattle.record.specs.Reader.{length_told};
 
-// The length field: the number that the first 2 bytes hold.
-pub(crate) fn length_field(bytes: &[u8]) -> usize
-    requires { 2 ≤ length bytes.now }
-    ensures { result ≡ numberFrom bytes.now 0 2 }
+use crate::fields::HEAD_BYTES;
+
+/// The length field: the number that the first 2 bytes hold, where there are so many.
+#[tactic(auto, using(crate::proofs::FieldLaws::number_of_two))]
+pub(crate) fn length_field(bytes: &[u8]) -> Option<usize>
+    ensures { result ≡ length_told bytes.now }
 {
-    bytes[0] as usize * 256 + bytes[1] as usize
+    let [high, low, ..] = bytes else {
+        return None;
+    };
+    Some(usize::from(u16::from_be_bytes([*high, *low])))
 }
 
-// The bytes behind the record at the front; an empty part at the end where the length field is missing, below 13 or too long.
+/// The bytes behind the record at the front; an empty part at the end where the length field is missing, below 13 or too long.
+#[tactic(auto, unfolding(specification::specs::Record::rest_of))]
 pub fn step_over(bytes: &[u8]) -> &[u8]
     ensures { result.now ≡ rest_of bytes.now }
 {
-    let n = bytes.len();
-    if n < 2 {
-        return &bytes[n..];
+    match length_field(bytes) {
+        Some(size) if HEAD_BYTES <= size && size <= bytes.len() => &bytes[size..],
+        _ => &bytes[bytes.len()..],
     }
-    let size = length_field(bytes);
-    if size < 13 || n < size {
-        return &bytes[n..];
-    }
-    &bytes[size..]
 }

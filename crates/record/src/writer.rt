@@ -1,4 +1,4 @@
-// The writer: the record of a layout's normal form with its verdict, at the front of an output.
+//! The writer: the record of a layout's normal form with its verdict, at the front of an output.
 ghost use Rattle.std.specs.Prelude.{◌≡◌, ◌≤◌, length};
 ghost use Rattle.specification.specs.Verdict.{judge};
 ghost use Rattle.specification.specs.Record.{Writing};
@@ -6,13 +6,13 @@ ghost use Rattle.view.specs.Model.{modelOf};
 ghost use Rattle.injectivity.specs.Judgement.{JudgedAs};
 ghost use Rattle.record.specs.Writer.{byte_of, wroteOf};
 
-use crate::fields::put_record;
+use crate::fields::{put_record, record_length};
 use crate::normal::normal_form;
 use big_endian::BytePlace;
-use injectivity::{Judgement, is_injective_layout};
+use injectivity::{Judgement, judge_axes};
 use view::layout::{Layout, Refusal};
 
-// 1 Distinct, 2 Repeated, 3 Undecided.
+/// The byte of a verdict: 1 Distinct, 2 Repeated, 3 Undecided.
 pub(crate) fn verdict_byte(judged: Judgement) -> u8
     ensures { result ≡ byte_of judged }
 {
@@ -23,35 +23,29 @@ pub(crate) fn verdict_byte(judged: Judgement) -> u8
     }
 }
 
-// The verdict of a layout's axes.
-pub fn judge_layout(layout: Layout, scratch: &mut [u64]) -> Result<Judgement, Refusal>
-    requires { layout.rank ≤ 16 }
-    ensures { JudgedAs (judge (modelOf layout).axes (length scratch.old)) scratch.old scratch.new result }
+/// The verdict of a layout's axes.
+pub fn judge_layout(layout: &Layout, scratch: &mut [u64]) -> Result<Judgement, Refusal>
+    requires { layout.now.rank ≤ 16 }
+    ensures { JudgedAs (judge (modelOf layout.now).axes (length scratch.old)) scratch.old scratch.new result }
 {
-    is_injective_layout(
-        &layout.extents[..layout.rank],
-        &layout.strides[..layout.rank],
-        scratch,
-    )
+    judge_axes(layout.axes(), scratch)
 }
 
-// Refusals 1, 3, 8, then 10, then 9; or the record at the front, and the bytes past it as they were.
+/// Refusals 1, 3, 8, then 10, then 9; or the record at the front, and the bytes past it as they were.
 pub fn write_record(
-    layout: Layout,
+    layout: &Layout,
     out: &mut [u8],
     scratch: &mut [u64],
 ) -> Result<BytePlace, Refusal>
-    ensures { Writing (modelOf layout) out.old scratch.old (wroteOf result) out.new scratch.new }
+    ensures { Writing (modelOf layout.now) out.old scratch.old (wroteOf result) out.new scratch.new }
 {
-    let viewed = normal_form(layout);
-    viewed.answer?;
-    let form = viewed.layout;
-    let size = 13 + 16 * form.rank;
+    let form = normal_form(layout)?;
+    let size = record_length(form.rank);
     let short = out.len() < size;
     if short {
         return Err(Refusal::ShortOutput(size));
     }
-    let judged = judge_layout(form, scratch)?;
-    put_record(out, form, verdict_byte(judged));
+    let judged = judge_layout(&form, scratch)?;
+    put_record(out, &form, verdict_byte(judged));
     Ok(BytePlace(size))
 }

@@ -1,20 +1,12 @@
--- `run_call`: each kind is its call.
-use Rattle.std.proofs.Common.{◌∙◌, ◌≢◌, arith}
-use borrow.Author.Tests.{ne_eqb}
-use Rattle.specification.specs.Calls.{after_call}
+-- `run_call`: each kind of call is one that was made.
+use Rattle.record.specs.Chain.{permuted, fused-by-numbers, stretched}
 use Rattle.record.proofs.calls.run_call.Goals as goal
 
-pub returns-in-1 : goal.returns-in-1
-unfolding after_call
-returns-in-1 c = c.permute.ensures ∙ rw c.in-1.is
+pub returns-in-Permute-clause-made : goal.returns-in-Permute-clause-made
+returns-in-Permute-clause-made c = rw c.in-Permute.is (permuted _ c.permute_in_place.ensures.told)
 
-pub returns-in-2 : goal.returns-in-2
-unfolding after_call
-returns-in-2 c = c.diagonal_by_numbers.ensures ∙ rw c.in-2.is
+pub returns-in-DiagonalView-clause-made : goal.returns-in-DiagonalView-clause-made
+returns-in-DiagonalView-clause-made c = rw c.in-DiagonalView.is (fused-by-numbers _ c.diagonal_by_numbers.ensures.told)
 
-pub returns-in_default : goal.returns-in_default
-unfolding after_call
-returns-in_default c =
-    let one : c.args.kind ≢ 1 = omega arith in
-    let two : c.args.kind ≢ 2 = omega arith in
-    c.broadcast_to.ensures ∙ rw (ne_eqb _ _ one, ne_eqb _ _ two)
+pub returns-in-Broadcast-clause-made : goal.returns-in-Broadcast-clause-made
+returns-in-Broadcast-clause-made c = rw c.in-Broadcast.is (stretched _ c.broadcast_to.ensures)

@@ -1,33 +1,20 @@
--- `put_record`: the head is written, then axis after axis; once all are, the bytes are the record's.
-use Rattle.std.proofs.Common.{◌≡◌, ◌∙◌, arith, rules, [], ◌∷◌, ◌++◌, ◌+◌, get_or, w64, pos}
-use mir.ValLaws.{to_z-of_z}
-use Rattle.lists.proofs.TableLaws.{table-zero}
-use Rattle.view.specs.Model.{axesIn, axisOf}
-use Rattle.view.proofs.ModelLaws.{axesIn-suc, length-axesIn}
+-- `put_record`: the axes stand behind the head.
+use Rattle.std.proofs.Common.{◌≡◌, ◌∙◌, arith, length}
+use Rattle.view.specs.Model.{first_axes}
+use Rattle.view.proofs.AxesLaws.{length-first_axes}
 use Rattle.record.specs.Fields.{headBytes}
-use Rattle.record.proofs.FieldLaws.{Written, written_start, written-length, written-more, written-end, length-head}
+use Rattle.record.proofs.FieldLaws.{written_behind, length-head}
 use Rattle.record.proofs.fields.put_record.Goals as goal
 
-pub loop-i-init : goal.loop-i-init
-loop-i-init c = record { room = omega arith; written = written_start c.put_head.new.out _ (table-zero _) (omega arith) }
+pub put_axes-requires-clause-few : goal.put_axes-requires-clause-few
+put_axes-requires-clause-few c = let l = c.args.layout.now in rw c.axes.ensures.meaning (omega (arith, length-first_axes l.axes l.rank))
 
-pub put_axis_at-requires : goal.put_axis_at-requires
-put_axis_at-requires c = omega (arith, written-length c.loop-i.invariant.written)
-
-pub loop-i-preserved : goal.loop-i-preserved
-loop-i-preserved c =
-    let l = c.loop-i in
-    let w = c.args.layout in
-    let k : Written c.put_head.new.out (axesIn w.extents w.strides l.i ++ (axisOf w.extents w.strides l.i ∷ [])) (l.i + 1) c.put_axis_at.new.out
-    = written-more (axisOf w.extents w.strides l.i) l.invariant.written (omega arith)
-    (c.put_axis_at.ensures ∙ rw (to_z-of_z w64 (get_or w.strides l.i (pos 0)) (search rules))) in
-    record { room = l.invariant.room; written = rw (axesIn-suc w.extents w.strides l.i) k }
+pub put_axes-requires-clause-room : goal.put_axes-requires-clause-room
+put_axes-requires-clause-room c = let l = c.args.layout.now in rw c.axes.ensures.meaning (omega (arith, length-first_axes l.axes l.rank))
 
 pub returns : goal.returns
 returns c =
-    let w = c.args.layout in
-    let e : c.loop-i.i ≡ w.rank = omega arith in
-    let n = length-axesIn w.extents w.strides w.rank in
-    written-end (headBytes w.rank c.args.verdict w.offset.0) c.args.out.now (length-head w.rank c.args.verdict w.offset.0)
-    c.put_head.ensures c.loop-i.invariant.written
-    ∙ rw (n, e)
+    let l = c.args.layout.now in
+    let n : length (first_axes l.axes l.rank) ≡ l.rank = length-first_axes l.axes l.rank in
+    let w = written_behind (headBytes l.rank c.args.verdict l.offset.0) c.args.out.now (first_axes l.axes l.rank) (length-head l.rank c.args.verdict l.offset.0) in
+    c.put_axes.ensures ∙ rw (c.axes.ensures.meaning, c.put_head.ensures, n) (rw n at w)

@@ -1,20 +1,68 @@
 -- `normal_form`: refusals 1 and 3 of any call first, then what the count decides.
-use Rattle.std.proofs.Common.{refl, sym, ap, ◌∙◌, arith, []}
+use Rattle.std.proofs.Common.{◌≡◌, sym, ap, ◌∙◌, arith, ℕ, List, [], ◌≤◌, Result}
+use Rattle.std.proofs.lemmas.Result.{err_from_is_err_and}
+use Rattle.specification.specs.Axis.{Axis, extents}
+use Rattle.specification.specs.Layout.{LayoutM, handed}
+use Rattle.specification.specs.Outcome.{Check, done}
+use Rattle.specification.proofs.OutcomeLaws.{refused-inj}
+use Rattle.specification.proofs.NormalLaws.{normal-of-empty}
 use Rattle.view.specs.Answers.{outcomeOf}
+use Rattle.view.specs.Count.{elementCount, count_of}
 use Rattle.view.specs.Model.{modelOf}
-use Rattle.view.proofs.HandedLaws.{handed-passed}
-use Rattle.view.proofs.ListedLaws.{rank-modelOf}
-use Rattle.record.proofs.NormalAnswers.{form-refused, form-passed}
+use Rattle.view.specs.Reach.{handed_with}
+use Rattle.view.specs.declared.layout.Layout.{Layout}
+use Rattle.view.specs.declared.layout.Refusal.{Refusal}
+use Rattle.view.proofs.AxesLaws.{length-first_axes}
+use Rattle.view.proofs.CountLaws.{element-count-of-axes, counted_is, counted-refused}
+use Rattle.record.proofs.HandedLaws.{handed-with}
+use Rattle.record.proofs.NormalAnswers.{none-empty, some-full, form_refused, form_over, form_done}
 use Rattle.record.proofs.normal.normal_form.Goals as goal
 
-pub counted_form-requires : goal.counted_form-requires
-counted_form-requires c =
-    let l = c.args.layout in
-    let told = sym (c.handed_refusal.ensures [] refl) ∙ ap outcomeOf c.in-Ok.is in
-    omega (arith, rank-modelOf l, (handed-passed (modelOf l) [] told).0)
+-- the count of the axes, by the definition of the normal form
+counted : (l : Layout) (axes : List Axis) (r : Result ℕ Refusal) → l.rank ≤ 16 → axes ≡ (modelOf l).axes → outcomeOf r ≡ elementCount (extents axes) → outcomeOf r ≡ count_of (modelOf l).axes
+counted l axes r h e t =
+    t ∙ ap (λ (a : List Axis). elementCount (extents a)) e ∙ element-count-of-axes (modelOf l).axes (omega (arith, length-first_axes l.axes l.rank))
 
-pub returns-in-Err : goal.returns-in-Err
-returns-in-Err c = sym (form-refused (modelOf c.args.layout) (sym (c.handed_refusal.ensures [] refl) ∙ ap outcomeOf c.in-Err.is))
+-- nothing was refused before it
+passed : (l : LayoutM) (r : Result (Unit {0}) Refusal) → outcomeOf r ≡ handed_with l 0 → {o : Check} → outcomeOf r ≡ o → handed l [] ≡ o
+passed l r e p = handed-with l [] ∙ sym e ∙ p
 
-pub returns-in-Ok : goal.returns-in-Ok
-returns-in-Ok c = c.counted_form.ensures ∙ sym (form-passed (modelOf c.args.layout) (sym (c.handed_refusal.ensures [] refl) ∙ ap outcomeOf c.in-Ok.is))
+pub returns-in_err-handed_refusal : goal.returns-in_err-handed_refusal
+returns-in_err-handed_refusal c =
+    let p = err_from_is_err_and c.from_residual.result c.from_residual.ensures.1 in
+    rw (p.1, p.2) (sym (form_refused (modelOf c.args.layout.now) _ _ (passed _ _ c.handed_refusal.ensures.answer (ap outcomeOf c.in_err-handed_refusal.was))))
+
+pub returns-in_err-count : goal.returns-in_err-count
+returns-in_err-count c =
+    let l = c.args.layout.now in
+    let p = err_from_is_err_and c.from_residual-in_err-count.result c.from_residual-in_err-count.ensures.1 in
+    let none = passed _ _ c.handed_refusal.ensures.answer (ap outcomeOf c.in_ok-handed_refusal.was) in
+    let w = counted-refused (modelOf l).axes (counted l _ _ c.in_ok-handed_refusal.ensures.few_axes c.axes.ensures.meaning c.element_count.ensures) c.in_err-count.was in
+    let e = refused-inj w.1 in
+    rw (p.1, p.2, e.0, e.1) (sym (form_over (modelOf l) none w.0))
+
+pub merged-requires-clause-full : goal.merged-requires-clause-full
+merged-requires-clause-full c =
+    let l = c.args.layout.now in
+    let k = counted_is (modelOf l).axes (counted l _ _ c.in_ok-handed_refusal.ensures.few_axes c.axes.ensures.meaning c.element_count.ensures) c.in_ok-count.was in
+    some-full (modelOf l).axes (λ z. c.if-count-eq0.false (sym k.1 ∙ z))
+
+pub merged-requires-clause-within : goal.merged-requires-clause-within
+merged-requires-clause-within c =
+    let l = c.args.layout.now in
+    (counted_is (modelOf l).axes (counted l _ _ c.in_ok-handed_refusal.ensures.few_axes c.axes.ensures.meaning c.element_count.ensures) c.in_ok-count.was).0
+
+pub returns-then-count-eq0 : goal.returns-then-count-eq0
+returns-then-count-eq0 c =
+    let l = c.args.layout.now in
+    let none = passed _ _ c.handed_refusal.ensures.answer (ap outcomeOf c.in_ok-handed_refusal.was) in
+    let k = counted_is (modelOf l).axes (counted l _ _ c.in_ok-handed_refusal.ensures.few_axes c.axes.ensures.meaning c.element_count.ensures) c.in_ok-count.was in
+    ap done (c.empty_form.ensures ∙ sym (normal-of-empty (modelOf l) (none-empty (modelOf l).axes (k.1 ∙ c.if-count-eq0.true))))
+    ∙ sym (form_done (modelOf l) none k.0)
+
+pub returns : goal.returns
+returns c =
+    let l = c.args.layout.now in
+    let none = passed _ _ c.handed_refusal.ensures.answer (ap outcomeOf c.in_ok-handed_refusal.was) in
+    let k = counted_is (modelOf l).axes (counted l _ _ c.in_ok-handed_refusal.ensures.few_axes c.axes.ensures.meaning c.element_count.ensures) c.in_ok-count.was in
+    ap done c.merged.ensures ∙ sym (form_done (modelOf l) none k.0)

@@ -1,55 +1,49 @@
 -- `read_record`: the front, then the verdict judged, then held against the byte.
-use Rattle.std.specs.Prelude.{Ok}
-use Rattle.std.proofs.Common.{◌≡◌, refl, sym, ap, ◌∙◌, arith, ℕ, List}
-use Rattle.specification.specs.Outcome.{done}
-use Rattle.view.specs.Answers.{outcomeOf}
+use Rattle.std.specs.Prelude.{None, Option, Some}
+use Rattle.std.proofs.lemmas.Result.{err_from_is_err_and}
+use Rattle.std.proofs.Common.{◌≡◌, refl, sym, ap, ◌∙◌, arith, ℕ, List, []}
+use Rattle.specification.specs.Outcome.{done, refused}
 use Rattle.view.specs.Model.{modelOf}
-use Rattle.view.proofs.ListedLaws.{rank-modelOf}
+use Rattle.view.proofs.ListedLaws.{rank-model_of}
 use Rattle.record.specs.declared.reader.Front.{Front}
-use Rattle.record.specs.Reader.{FrontAnswer, frontOf, frontTold, frontAfter}
-use Rattle.record.proofs.FrontLaws.{after-refused, after-done, front-few}
+use Rattle.record.specs.Reader.{FrontM, frontOf, front_outcome}
+use Rattle.record.proofs.FrontLaws.{front-few}
 use Rattle.record.proofs.JudgedLaws.{byte-told, refusal-told}
 use Rattle.record.proofs.ReadLaws.{reading-no-record, reading-unjudged, reading-false, reading-true}
 use Rattle.record.proofs.read.read_record.Goals as goal
 
--- an answer that passed has the front there
-is_front : (bytes : List ℕ) (front : Front) → frontTold front ≡ frontAfter (frontOf bytes) → front.answer ≡ (Ok tt)
-    → frontOf bytes ≡ done (record { layout = modelOf front.layout; verdict = front.verdict })
-is_front bytes front e d =
-    after-done (frontOf bytes) (sym (ap (λ (a : FrontAnswer). a.answer) e) ∙ ap outcomeOf d)
-    ∙ ap (λ (a : FrontAnswer). done a.front) (sym e)
+-- what the front is by the definition
+abbrev front_of : Front → FrontM
+front_of f = record { layout = modelOf f.layout; verdict = f.verdict }
 
-pub returns-in-Err : goal.returns-in-Err
-returns-in-Err c =
-    let b = c.args.bytes.now in
-    reading-no-record b c.args.scratch.now
-    (after-refused (frontOf b) (sym (ap (λ (a : FrontAnswer). a.answer) c.read_front-front.ensures) ∙ ap outcomeOf c.in-Err.is)) c.not_read.ensures
+is_front : (bytes : List ℕ) (r : Option Front) (f : Front) → front_outcome r ≡ frontOf bytes → r ≡ Some f → frontOf bytes ≡ done (front_of f)
+is_front bytes r f e d = sym e ∙ ap front_outcome d
+
+no_front : (bytes : List ℕ) (r : Option Front) → front_outcome r ≡ frontOf bytes → r ≡ None → frontOf bytes ≡ refused 11 []
+no_front bytes r e d = sym e ∙ ap front_outcome d
+
+pub returns-in_default : goal.returns-in_default
+returns-in_default c = reading-no-record c.args.bytes.now c.args.scratch.now (no_front _ _ c.read_front.ensures c.in_default.is) refl
 
 pub judge_layout-requires : goal.judge_layout-requires
 judge_layout-requires c =
-    let b = c.args.bytes.now in
-    let f = c.read_front-front.result in
-    omega (arith, front-few b (is_front b f c.read_front-front.ensures c.in_default.is), rank-modelOf f.layout)
+    let f = c.in-Some.front in
+    omega (arith, front-few c.args.bytes.now (is_front _ _ f c.read_front.ensures c.in-Some.is), rank-model_of f.layout)
 
-pub returns-in-Err-judge_layout : goal.returns-in-Err-judge_layout
-returns-in-Err-judge_layout c =
-    let b = c.args.bytes.now in
-    let f = c.read_front-front.result in
-    reading-unjudged b c.args.scratch.now (is_front b f c.read_front-front.ensures c.in_default.is)
-    (refusal-told _ _ c.in-Err-judge_layout.ensures.told) c.judge_layout.ensures.scratch c.not_read-in-Err-judge_layout.ensures
-
-pub returns-else-not-confirmed : goal.returns-else-not-confirmed
-returns-else-not-confirmed c =
-    let b = c.args.bytes.now in
-    let f = c.read_front-front.result in
-    let w = byte-told _ _ c.in-Ok.ensures.told in
-    reading-true b c.args.scratch.now (is_front b f c.read_front-front.ensures c.in_default.is) w.is
-    (w.byte-is ∙ sym c.verdict_byte.ensures ∙ c.if-not-confirmed.false) c.judge_layout.ensures.scratch refl
+pub returns-in_err-judged : goal.returns-in_err-judged
+returns-in_err-judged c =
+    let p = err_from_is_err_and c.from_residual.result c.from_residual.ensures.1 in
+    rw (p.1, p.2) (reading-unjudged c.args.bytes.now c.args.scratch.now (is_front _ _ c.in-Some.front c.read_front.ensures c.in-Some.is)
+    (refusal-told _ _ c.in_err-judged.ensures.told) c.judge_layout.ensures.scratch refl)
 
 pub returns-then-not-confirmed : goal.returns-then-not-confirmed
 returns-then-not-confirmed c =
-    let b = c.args.bytes.now in
-    let f = c.read_front-front.result in
-    let w = byte-told _ _ c.in-Ok.ensures.told in
-    reading-false b c.args.scratch.now (is_front b f c.read_front-front.ensures c.in_default.is) w.is
-    (λ q. c.if-not-confirmed.true (c.verdict_byte.ensures ∙ sym w.byte-is ∙ q)) c.judge_layout.ensures.scratch c.not_read-then-not-confirmed.ensures
+    let w = byte-told _ _ c.in_ok-judged.ensures.told in
+    reading-false c.args.bytes.now c.args.scratch.now (is_front _ _ c.in-Some.front c.read_front.ensures c.in-Some.is) w.is
+    (λ q. c.if-not-confirmed.true (c.verdict_byte.ensures ∙ sym w.byte-is ∙ q)) c.judge_layout.ensures.scratch refl
+
+pub returns : goal.returns
+returns c =
+    let w = byte-told _ _ c.in_ok-judged.ensures.told in
+    reading-true c.args.bytes.now c.args.scratch.now (is_front _ _ c.in-Some.front c.read_front.ensures c.in-Some.is) w.is
+    (w.byte-is ∙ sym c.verdict_byte.ensures ∙ c.if-not-confirmed.false) c.judge_layout.ensures.scratch refl

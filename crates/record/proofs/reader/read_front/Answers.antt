@@ -1,52 +1,38 @@
 -- `read_front`: refusal 11 where a test fails, else the layout that the fields tell with its buffer length.
-use Rattle.std.proofs.Common.{◌≡◌, sym, ap, ◌∙◌, arith, true, ℕ, List, ◌≤◌, get_or}
-use Rattle.specification.specs.Layout.{LayoutM, rank}
-use Rattle.specification.specs.Outcome.{pass}
-use Rattle.specification.specs.Record.{fieldsRight, isNormal, layoutFrom}
+use Rattle.std.proofs.Common.{sym, ◌∙◌, arith}
 use Rattle.specification.proofs.ReaderLaws.{fields-tested}
-use Rattle.view.specs.declared.layout.Layout.{Layout}
 use Rattle.view.specs.Model.{modelOf}
-use Rattle.view.proofs.ListedLaws.{rank-modelOf}
-use Rattle.record.specs.Reader.{toldBy, frontAfter}
-use Rattle.record.proofs.FrontLaws.{rank-toldBy, told-filled, front-wrong, front-unnormal, front-whole}
+use Rattle.view.proofs.AxesLaws.{length-first_axes}
+use Rattle.record.proofs.FrontLaws.{front_headless, head_is, rank_few, front_formless, front_is}
 use Rattle.record.proofs.reader.read_front.Goals as goal
 
--- the layout that right fields tell has at most 16 axes
-few : (bytes : List ℕ) (l : Layout) → fieldsRight bytes ≡ true → modelOf l ≡ toldBy bytes → l.rank ≤ 16
-few bytes l f e = omega (arith, ap rank e ∙ rank-toldBy bytes, rank-modelOf l, (fields-tested bytes f).rank-small)
+pub returns-in_err-head : goal.returns-in_err-head
+returns-in_err-head c = rw c.from_residual.ensures (sym (front_headless c.args.bytes.now (sym c.read_head.ensures ∙ c.in_err-head.was)))
 
-pub returns-then-not-fields_right : goal.returns-then-not-fields_right
-returns-then-not-fields_right c = c.no_record.ensures ∙ sym (ap frontAfter (front-wrong c.args.bytes.now (sym c.fields_right.ensures ∙ c.if-not-fields_right.true)))
+pub layout_at_front-layout-requires-clause-few : goal.layout_at_front-layout-requires-clause-few
+layout_at_front-layout-requires-clause-few c =
+    let t = head_is c.args.bytes.now _ (sym c.read_head.ensures ∙ c.in_ok-head.was) in
+    rw t.is (fields-tested c.args.bytes.now t.right).rank-small
 
-pub axes_from-layout-requires : goal.axes_from-layout-requires
-axes_from-layout-requires c = let f = fields-tested c.args.bytes.now (sym c.fields_right.ensures ∙ c.if-not-fields_right.false) in record { few = f.rank-small; whole = f.whole-there }
-
-pub is_normal-requires : goal.is_normal-requires
-is_normal-requires c = few c.args.bytes.now c.axes_from-layout.result (sym c.fields_right.ensures ∙ c.if-not-fields_right.false) c.axes_from-layout.ensures
-
-pub returns-then-not-is_normal : goal.returns-then-not-is_normal
-returns-then-not-is_normal c =
-    let fields = sym c.fields_right.ensures ∙ c.if-not-fields_right.false in
-    let told = ap isNormal (sym c.axes_from-layout.ensures) ∙ sym c.is_normal.ensures ∙ c.if-not-is_normal.true in
-    c.no_record-then-not-is_normal.ensures ∙ sym (ap frontAfter (front-unnormal c.args.bytes.now fields told))
+pub layout_at_front-layout-requires-clause-whole : goal.layout_at_front-layout-requires-clause-whole
+layout_at_front-layout-requires-clause-whole c =
+    let t = head_is c.args.bytes.now _ (sym c.read_head.ensures ∙ c.in_ok-head.was) in
+    rw t.is (fields-tested c.args.bytes.now t.right).whole-there
 
 pub buffer_length-requires : goal.buffer_length-requires
 buffer_length-requires c =
-    record {
-      few = few c.args.bytes.now c.axes_from-layout.result (sym c.fields_right.ensures ∙ c.if-not-fields_right.false) c.axes_from-layout.ensures;
-      normal = sym c.is_normal.ensures ∙ c.if-not-is_normal.false;
-    }
+    let l = c.layout_at_front-layout.result in
+    let t = head_is c.args.bytes.now _ (sym c.read_head.ensures ∙ c.in_ok-head.was) in
+    omega (arith, rank_few c.args.bytes.now t {l = modelOf l} c.layout_at_front-layout.ensures, length-first_axes l.axes l.rank)
 
-pub bounds-bytes-3 : goal.bounds-bytes-3
-bounds-bytes-3 c = omega (arith, (fields-tested c.args.bytes.now (sym c.fields_right.ensures ∙ c.if-not-fields_right.false)).front-there)
+pub returns-in_err-layout : goal.returns-in_err-layout
+returns-in_err-layout c =
+    let b = c.args.bytes.now in
+    let t = head_is b _ (sym c.read_head.ensures ∙ c.in_ok-head.was) in
+    rw c.from_residual-in_err-layout.ensures (sym (front_formless b t c.layout_at_front-layout.ensures (sym c.buffer_length.ensures ∙ c.in_err-layout.was)))
 
 pub returns : goal.returns
 returns c =
     let b = c.args.bytes.now in
-    let l = c.axes_from-layout.result in
-    let fields = sym c.fields_right.ensures ∙ c.if-not-fields_right.false in
-    let told = ap isNormal (sym c.axes_from-layout.ensures) ∙ sym c.is_normal.ensures ∙ c.if-not-is_normal.false in
-    let same : record { buffer = c.buffer_length.result; offset = l.offset.0; axes = (modelOf l).axes } ≡ layoutFrom b
-    = rw c.buffer_length.ensures (told-filled b (modelOf l) c.axes_from-layout.ensures) in
-    ap (λ (m : LayoutM). record { answer = pass; front = record { layout = m; verdict = get_or b 3 0 } }) same
-    ∙ sym (ap frontAfter (front-whole b fields told))
+    let t = head_is b _ (sym c.read_head.ensures ∙ c.in_ok-head.was) in
+    sym (front_is b t c.layout_at_front-layout.ensures _ (sym c.buffer_length.ensures ∙ c.in_ok-layout.was))

@@ -1,0 +1,12 @@
+-- `after`: each kind of call is one that was made.
+use Rattle.record.specs.Chain.{permuted, fused, stretched}
+use Rattle.record.proofs.calls.after.Goals as goal
+
+pub returns-in-Permute-clause-made : goal.returns-in-Permute-clause-made
+returns-in-Permute-clause-made c = rw c.in-Permute.is (permuted _ c.permute.ensures)
+
+pub returns-in-DiagonalView-clause-made : goal.returns-in-DiagonalView-clause-made
+returns-in-DiagonalView-clause-made c = rw c.in-DiagonalView.is (fused _ c.diagonal_view.ensures)
+
+pub returns-in-Broadcast-clause-made : goal.returns-in-Broadcast-clause-made
+returns-in-Broadcast-clause-made c = rw c.in-Broadcast.is (stretched _ c.broadcast.ensures)

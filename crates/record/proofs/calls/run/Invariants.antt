@@ -1,0 +1,8 @@
+use Rattle.std.proofs.Common.{◌≡◌, map, drop}
+use Rattle.specification.specs.Calls.{end_of}
+use Rattle.view.specs.Model.{modelOf}
+use Rattle.record.specs.Calls.{call_in}
+use Rattle.record.proofs.calls.run.Given as goal
+
+abbrev pub invariant-loop-call : goal.invariant-loop-call
+invariant-loop-call l = end_of (modelOf l.layout) (drop l.call-index (map call_in l.calls)) ≡ end_of (modelOf l.fn.start) (map call_in l.calls)
