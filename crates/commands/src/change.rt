@@ -1,16 +1,23 @@
 // The commands that change the current layout. Each leaves it as it was where it is not obeyed.
-ghost use Rattle.std.specs.Prelude.{◌≡◌, ◌≢◌, Err, IfOk, IfErr, length, take, vec_len};
+ghost use Rattle.std.specs.Prelude.{◌≡◌, ◌≢◌, Ok, Err, IfOk, IfErr, length, take, vec_len};
+ghost use Rattle.commands.specs.declared.fault.Fault.TheVariants.{UnequalLists};
+ghost use Rattle.commands.specs.declared.fault.Problem.TheVariants.{Told};
+ghost use Rattle.commands.specs.declared.reply.Reply.TheVariants.{Done};
+ghost use Rattle.specification.specs.Axis.{axesOf};
 ghost use Rattle.commands.specs.Refused.{IsToldBy};
 
-use crate::problem::Problem;
+use crate::fault::{Fault, Problem};
+use crate::memory::{Memory, grow};
+use crate::reply::Reply;
 use crate::spelled::Lent;
 use crate::word::Word;
+use axis::Axis;
 use record::read::read_record;
 use std::alloc::Global;
-use view::layout::{Layout, ReadingOffset, Viewed};
-use view::numbers::diagonal_by_numbers;
+use view::axes::pair_into;
+use view::layout::{Layout, MOST_AXES, NO_AXIS, ReadingOffset, Viewed};
 
-// LEN OFFSET EXTENTS STRIDES, as a line gives them.
+/// LEN OFFSET EXTENTS STRIDES, as a line gives them.
 #[derive(Drop)]
 pub struct Given {
     pub len: u64,
@@ -20,9 +27,12 @@ pub struct Given {
 }
 
 impl Given {
-    // What the four words spell, from the left.
-    pub fn read(alloc: Global, words: [Word<'_>; 4]) -> Result<Given, Problem> {
-        let [len, offset, extents, strides] = words;
+    /// What the four words spell, from the left.
+    pub fn read(
+        alloc: Global,
+        words: (Word<'_>, Word<'_>, Word<'_>, Word<'_>),
+    ) -> Result<Given, Problem> {
+        let (len, offset, extents, strides) = words;
         Ok(Given {
             len: len.one()?,
             offset: ReadingOffset(offset.one()?),
@@ -32,76 +42,91 @@ impl Given {
     }
 }
 
-// The layout that a call answers with, where it is not refused.
+/// The layout that a call answers with, where it is not refused.
 pub fn accepted(view: Viewed) -> Result<Layout, Problem>
     ensures ok { IfOk result (λ layout. (view.answer ≡ Ok tt) × (layout ≡ view.layout)) }
     ensures err { IfErr result (IsToldBy view.answer) }
 {
-    match view.answer {
-        Ok(()) => Ok(view.layout),
-        Err(why) => Err(Problem::Refused(why)),
-    }
+    view.answer?;
+    Ok(view.layout)
 }
 
-// A layout that is checked in.
+/// A layout that is checked in.
 pub fn new_layout(given: &Given) -> Result<Layout, Problem> {
     let extents = given.extents.as_slice();
     let strides = given.strides.as_slice();
-    accepted(Layout::new(given.len, given.offset, extents, strides))
+    Ok(Layout::new(given.len, given.offset, extents, strides)?)
 }
 
-// The first 16 entries of a list, and another value behind a shorter one.
-fn sixteen<T: Copy>(list: &[T], other: T) -> [T; 16]
-    ensures { take (length list.now) result ≡ take 16 list.now }
+// The first 16 axes that two lists give.
+fn sixteen(extents: &[u64], strides: &[i64]) -> [Axis; 16]
+    requires { length strides.now ≡ length extents.now }
+    ensures { take (length extents.now) result ≡ axesOf (take 16 extents.now) (take 16 strides.now) }
 {
-    let mut places = [other; 16];
-    let held = list.len().min(16);
-    places[..held].copy_from_slice(&list[..held]);
+    let mut places = [NO_AXIS; MOST_AXES];
+    let held = extents.len().min(16);
+    pair_into(&mut places[..held], &extents[..held], &strides[..held]);
     places
 }
 
-// A layout of any rank with no check, its first 16 axes in place.
+/// A layout of any rank with no check, its first 16 axes in place.
 pub fn set_layout(given: &Given) -> Result<Layout, Problem>
-    ensures unequal { vec_len given.now.extents ≢ vec_len given.now.strides → result ≡ Err Problem.UnequalLists }
+    ensures unequal { vec_len given.now.extents ≢ vec_len given.now.strides → result ≡ Err (Told UnequalLists) }
     ensures rank { IfOk result (λ layout. layout.rank ≡ vec_len given.now.extents) }
-    ensures extents { IfOk result (λ layout. take layout.rank layout.extents ≡ take 16 given.now.extents.items) }
-    ensures strides { IfOk result (λ layout. take layout.rank layout.strides ≡ take 16 given.now.strides.items) }
+    ensures axes { IfOk result (λ layout. take layout.rank layout.axes
+        ≡ axesOf (take 16 given.now.extents.items) (take 16 given.now.strides.items)) }
 {
     let rank = given.extents.len();
     if rank != given.strides.len() {
-        return Err(Problem::UnequalLists);
+        return Err(Problem::Told(Fault::UnequalLists));
     }
     Ok(Layout {
         len: given.len,
         offset: given.offset,
         rank,
-        extents: sixteen(given.extents.as_slice(), 0),
-        strides: sixteen(given.strides.as_slice(), 0),
+        axes: sixteen(given.extents.as_slice(), given.strides.as_slice()),
     })
 }
 
-// The axes in the order of a list.
+/// The axes in the order of a list.
 pub fn permute(alloc: Global, current: Layout, order: Word<'_>) -> Result<Layout, Problem> {
     let order = order.list(alloc)?;
     accepted(current.permute(order.as_slice()))
 }
 
-// Axes of extent 1 stretched to the extents of a list.
+/// Axes of extent 1 stretched to the extents of a list.
 pub fn broadcast(alloc: Global, current: Layout, targets: Word<'_>) -> Result<Layout, Problem> {
     let targets = targets.list(alloc)?;
     accepted(current.broadcast(targets.as_slice()))
 }
 
-// The axes of each pair tied into one.
+/// The axes of each pair tied into one.
 pub fn diagonal(alloc: Global, current: Layout, pairs: Word<'_>) -> Result<Layout, Problem> {
     let pairs = pairs.list::<[usize; 2]>(alloc)?;
-    accepted(diagonal_by_numbers(current, pairs.as_slice().as_flattened()))
+    let mut layout = current;
+    layout.diagonal_by_numbers(pairs.as_slice().as_flattened())?;
+    Ok(layout)
 }
 
-// The layout of a record, read with so many words of scratch.
-pub fn read(alloc: Global, bytes: Word<'_>, words: Word<'_>) -> Result<Layout, Problem> {
+/// The layout of a record, read with so many words of scratch.
+pub fn read(
+    alloc: Global,
+    memory: &mut Memory,
+    words: (Word<'_>, Word<'_>),
+) -> Result<Layout, Problem> {
+    let (bytes, scratch) = words;
     let bytes = bytes.bytes(alloc)?;
-    let Lent(words) = words.one()?;
-    let mut scratch = vec![in alloc; 0u64; words]?;
-    accepted(read_record(bytes.as_slice(), scratch.as_mut_slice()))
+    let Lent(count) = scratch.one()?;
+    grow(&mut memory.scratch, count, 0)?;
+    let scratch = &mut memory.scratch.as_mut_slice()[..count];
+    Ok(read_record(bytes.as_slice(), scratch)?)
+}
+
+/// Puts another layout in the place of the current one, where there is one.
+pub fn replace(current: &mut Layout, next: Result<Layout, Problem>) -> Result<Reply, Problem>
+    ensures ok { IfOk result (λ reply. (next ≡ Ok current.new) × (reply ≡ Done)) }
+    ensures err { IfErr result (λ p. (next ≡ Err p) × (current.new ≡ current.old)) }
+{
+    *current = next?;
+    Ok(Reply::Done)
 }

@@ -1,7 +1,5 @@
 // The commands: their names, and the words that each takes.
-ghost use Rattle.std.specs.Prelude.{◌≡◌, ◌≢◌, Some, IfSome, IfNone};
-
-use std::fmt;
+ghost use Rattle.std.specs.Prelude.{◌≡◌, ◌≢◌, IfSome, IfNone};
 
 #[derive(Clone, Copy)]
 pub enum Command {
@@ -46,9 +44,9 @@ const COMMANDS: [Command; 17] = [
 ];
 
 impl Command {
-    ghost use Rattle.commands.specs.Names.{name_of};
+    ghost use Rattle.commands.specs.Names.{name_of, usage_of};
 
-    // The word that a line begins with.
+    /// The word that a line begins with.
     pub fn name(self) -> &'static str
         ensures { result.now ≡ name_of self }
     {
@@ -73,7 +71,7 @@ impl Command {
         }
     }
 
-    // The command with a name, if there is one.
+    /// The command with a name, if there is one.
     pub fn named(name: &[u8]) -> Option<Command>
         ensures found { IfSome result (λ command. name_of command ≡ name.now) }
         ensures missing { IfNone result ((command : Command) → name_of command ≢ name.now) }
@@ -84,8 +82,10 @@ impl Command {
             .copied()
     }
 
-    // The words that the command takes, as its usage names them.
-    pub fn words(self) -> &'static str {
+    /// The words that the command takes, as its usage names them.
+    pub fn usage(self) -> &'static str
+        ensures { result.now ≡ usage_of self }
+    {
         match self {
             Command::New | Command::Bounds | Command::Set => "LEN OFFSET EXTENTS STRIDES",
             Command::Permute | Command::Broadcast | Command::Offset => "LIST",
@@ -99,15 +99,5 @@ impl Command {
             Command::Column | Command::Row => "EXTENTS",
             Command::Show | Command::Normal => "none",
         }
-    }
-}
-
-impl fmt::Display for Command {
-    ghost use Rattle.commands.specs.Names.{name_of};
-
-    ghost output = { λ command. Some (name_of command) };
-
-    fn fmt<W: fmt::Write>(&self, f: &mut fmt::Formatter<W>) -> fmt::Result {
-        f.write_str(self.name())
     }
 }

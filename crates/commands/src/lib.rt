@@ -3,9 +3,10 @@
 
 mod change;
 mod command;
+mod fault;
 mod list;
+mod memory;
 mod obey;
-mod problem;
 mod query;
 mod reply;
 mod session;

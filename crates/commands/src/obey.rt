@@ -1,78 +1,66 @@
 // A line of words obeyed: which function each command is.
 ghost use Rattle.std.specs.Prelude.{◌≡◌, OnErr};
 
-use crate::change::{Given, broadcast, diagonal, new_layout, permute, read, set_layout};
+use crate::change::{Given, broadcast, diagonal, new_layout, permute, read, replace, set_layout};
 use crate::command::Command;
-use crate::problem::Problem;
+use crate::fault::{Fault, Problem};
+use crate::memory::Memory;
 use crate::query::{bounds, dense, injective, normal, offset, order, record, rest, verdict};
 use crate::reply::Reply;
-use crate::word::{Word, words_of};
+use crate::word::{Words, words_of};
 use dense::{checked_col_major_strides, checked_row_major_strides};
 use std::alloc::Global;
 use view::layout::Layout;
 
-// The layout after a command that changes the current one; none for another command.
-fn changed(
+// What a command answers with the words behind its name, or why it is not obeyed; then the current layout stays.
+fn run(
     alloc: Global,
-    current: Layout,
-    command: Command,
-    words: &[Word<'_>],
-) -> Result<Option<Layout>, Problem> {
-    let layout = match (command, words) {
-        (Command::New, [len, offset, extents, strides]) => {
-            new_layout(&Given::read(alloc, [*len, *offset, *extents, *strides])?)?
+    current: &mut Layout,
+    memory: &mut Memory,
+    words: Words<'_>,
+) -> Result<Reply, Problem>
+    ensures { OnErr result (current.new ≡ current.old) }
+{
+    match words.command {
+        Command::New => replace(current, new_layout(&Given::read(alloc, words.four()?)?)),
+        Command::Set => replace(current, set_layout(&Given::read(alloc, words.four()?)?)),
+        Command::Permute => replace(current, permute(alloc, *current, words.one()?)),
+        Command::Diagonal => replace(current, diagonal(alloc, *current, words.one()?)),
+        Command::Broadcast => replace(current, broadcast(alloc, *current, words.one()?)),
+        Command::Read => replace(current, read(alloc, memory, words.two()?)),
+        Command::Bounds => bounds(&Given::read(alloc, words.four()?)?),
+        Command::Show => {
+            words.none()?;
+            Ok(Reply::Current(*current))
         }
-        (Command::Set, [len, offset, extents, strides]) => {
-            set_layout(&Given::read(alloc, [*len, *offset, *extents, *strides])?)?
+        Command::Offset => offset(alloc, current, words.one()?),
+        Command::Normal => {
+            words.none()?;
+            normal(current)
         }
-        (Command::Permute, [order]) => permute(alloc, current, *order)?,
-        (Command::Diagonal, [pairs]) => diagonal(alloc, current, *pairs)?,
-        (Command::Broadcast, [targets]) => broadcast(alloc, current, *targets)?,
-        (Command::Read, [bytes, scratch]) => read(alloc, *bytes, *scratch)?,
-        _ => return Ok(None),
-    };
-    Ok(Some(layout))
-}
-
-// What a command answers that leaves the current layout.
-fn asked(
-    alloc: Global,
-    current: Layout,
-    command: Command,
-    words: &[Word<'_>],
-) -> Result<Reply, Problem> {
-    match (command, words) {
-        (Command::Bounds, [len, offset, extents, strides]) => {
-            bounds(&Given::read(alloc, [*len, *offset, *extents, *strides])?)
-        }
-        (Command::Show, []) => Ok(Reply::Current(current)),
-        (Command::Offset, [index]) => offset(alloc, current, *index),
-        (Command::Normal, []) => normal(current),
-        (Command::Verdict, [scratch]) => verdict(alloc, current, *scratch),
-        (Command::Injective, [extents, strides, scratch]) => {
-            injective(alloc, [*extents, *strides, *scratch])
-        }
-        (Command::Record, [room, scratch]) => record(alloc, current, *room, *scratch),
-        (Command::Rest, [bytes]) => rest(alloc, *bytes),
-        (Command::Order, [strides, places]) => order(alloc, *strides, *places),
-        (Command::Column, [extents]) => dense(alloc, *extents, checked_col_major_strides),
-        (Command::Row, [extents]) => dense(alloc, *extents, checked_row_major_strides),
-        _ => Err(Problem::WordCount(command)),
+        Command::Verdict => verdict(current, memory, words.one()?),
+        Command::Injective => injective(alloc, memory, words.three()?),
+        Command::Record => record(alloc, current, memory, words.two()?),
+        Command::Rest => rest(alloc, words.one()?),
+        Command::Order => order(alloc, words.two()?),
+        Command::Column => dense(alloc, words.one()?, checked_col_major_strides),
+        Command::Row => dense(alloc, words.one()?, checked_row_major_strides),
     }
 }
 
-// What a line answers, or why it is not obeyed; then the current layout stays.
-pub fn obey(alloc: Global, current: &mut Layout, line: &[u8]) -> Result<Reply, Problem>
+/// What a line answers, or why it is not obeyed; then the current layout stays.
+pub fn obey(
+    alloc: Global,
+    current: &mut Layout,
+    memory: &mut Memory,
+    line: &[u8],
+) -> Result<Reply, Problem>
     ensures { OnErr result (current.new ≡ current.old) }
 {
     let words = words_of(alloc, line)?;
-    let [name, words @ ..] = words.as_slice() else {
-        return Err(Problem::UnknownCommand);
+    let [name, texts @ ..] = words.as_slice() else {
+        return Err(Problem::Told(Fault::UnknownCommand));
     };
-    let command = Command::named(name.text).ok_or(Problem::UnknownCommand)?;
-    if let Some(layout) = changed(alloc, *current, command, words)? {
-        *current = layout;
-        return Ok(Reply::Done);
-    }
-    asked(alloc, *current, command, words)
+    let command = Command::named(*name).ok_or(Fault::UnknownCommand)?;
+    run(alloc, current, memory, Words { command, texts })
 }

@@ -1,15 +1,15 @@
 // The commands that answer and leave the current layout.
-ghost use Rattle.commands.specs.Refused.{IsVerdict};
-
-use crate::change::{Given, accepted};
-use crate::problem::Problem;
+use crate::change::Given;
+use crate::fault::Problem;
+use crate::list::first;
+use crate::memory::{Memory, grow};
 use crate::reply::Reply;
 use crate::spelled::Lent;
 use crate::word::Word;
 use auxiliary::index_order_into;
 use big_endian::BytePlace;
-use dense::Dense;
-use injectivity::{Judgement, is_injective_layout};
+use dense::DenseStrides;
+use injectivity::is_injective_layout;
 use record::normal::normal_form;
 use record::step::step_over;
 use record::writer::{judge_layout, write_record};
@@ -17,7 +17,10 @@ use std::alloc::Global;
 use view::bounds::validate_bounds;
 use view::layout::{Layout, ReadingOffset, Refusal};
 
-// Whether check-in finds the bounds of a layout right.
+/// The most entries of a list.
+const ENTRIES_MOST: usize = 64;
+
+/// Whether check-in finds the bounds of a layout right.
 pub fn bounds(given: &Given) -> Result<Reply, Problem> {
     let extents = given.extents.as_slice();
     let strides = given.strides.as_slice();
@@ -25,88 +28,81 @@ pub fn bounds(given: &Given) -> Result<Reply, Problem> {
     Ok(Reply::Done)
 }
 
-// The offset of an index vector.
-pub fn offset(alloc: Global, current: Layout, index: Word<'_>) -> Result<Reply, Problem> {
+/// The offset of an index vector.
+pub fn offset(alloc: Global, current: &Layout, index: Word<'_>) -> Result<Reply, Problem> {
     let index = index.list(alloc)?;
     let ReadingOffset(offset) = current.indexed_offset(index.as_slice())?;
     Ok(Reply::Offset(offset))
 }
 
-// The normal form of the current layout.
-pub fn normal(current: Layout) -> Result<Reply, Problem> {
-    Ok(Reply::Current(accepted(normal_form(current))?))
+/// The normal form of the current layout.
+pub fn normal(current: &Layout) -> Result<Reply, Problem> {
+    Ok(Reply::Current(normal_form(current)?))
 }
 
-// What a verdict answers.
-fn judged(judgement: Judgement) -> Reply
-    ensures { IsVerdict judgement result }
-{
-    match judgement {
-        Judgement::Distinct(looked_at) => Reply::Distinct(looked_at),
-        Judgement::Repeated(looked_at) => Reply::Repeated(looked_at),
-        Judgement::Undecided => Reply::Undecided,
-    }
-}
-
-// The verdict on a layout's axes. One of more axes than it holds places for is refused as a list of so many is.
-pub fn verdict(alloc: Global, current: Layout, words: Word<'_>) -> Result<Reply, Problem> {
-    let Lent(words) = words.one()?;
+/// The verdict on a layout's axes. One of more axes than it holds places for is refused as a list of so many is.
+pub fn verdict(current: &Layout, memory: &mut Memory, scratch: Word<'_>) -> Result<Reply, Problem> {
+    let Lent(count) = scratch.one()?;
     if 16 < current.rank {
-        return Err(Problem::Refused(Refusal::TooManyAxes));
+        return Err(Refusal::TooManyAxes.into());
     }
-    let mut scratch = vec![in alloc; 0u64; words]?;
-    let judgement = judge_layout(current, scratch.as_mut_slice())?;
-    Ok(judged(judgement))
+    grow(&mut memory.scratch, count, 0)?;
+    let scratch = &mut memory.scratch.as_mut_slice()[..count];
+    Ok(Reply::Judged(judge_layout(current, scratch)?))
 }
 
-// The verdict on two lists.
-pub fn injective(alloc: Global, words: [Word<'_>; 3]) -> Result<Reply, Problem> {
-    let [extents, strides, words] = words;
+/// The verdict on two lists.
+pub fn injective(
+    alloc: Global,
+    memory: &mut Memory,
+    words: (Word<'_>, Word<'_>, Word<'_>),
+) -> Result<Reply, Problem> {
+    let (extents, strides, scratch) = words;
     let extents = extents.list(alloc)?;
     let strides = strides.list(alloc)?;
-    let Lent(words) = words.one()?;
-    let mut scratch = vec![in alloc; 0u64; words]?;
-    let judgement = is_injective_layout(
-        extents.as_slice(),
-        strides.as_slice(),
-        scratch.as_mut_slice(),
-    )?;
-    Ok(judged(judgement))
+    let Lent(count) = scratch.one()?;
+    grow(&mut memory.scratch, count, 0)?;
+    let scratch = &mut memory.scratch.as_mut_slice()[..count];
+    let judgement = is_injective_layout(extents.as_slice(), strides.as_slice(), scratch)?;
+    Ok(Reply::Judged(judgement))
 }
 
-// The record of the current layout, in so many bytes and with so many words of scratch.
+/// The record of the current layout, in so many bytes and with so many words of scratch.
 pub fn record(
     alloc: Global,
-    current: Layout,
-    room: Word<'_>,
-    words: Word<'_>,
+    current: &Layout,
+    memory: &mut Memory,
+    words: (Word<'_>, Word<'_>),
 ) -> Result<Reply, Problem> {
-    let Lent(room) = room.one()?;
-    let Lent(words) = words.one()?;
-    let mut bytes = vec![in alloc; 0u8; room]?;
-    let mut scratch = vec![in alloc; 0u64; words]?;
-    let BytePlace(end) = write_record(current, bytes.as_mut_slice(), scratch.as_mut_slice())?;
-    bytes.truncate(end);
-    Ok(Reply::Bytes(bytes))
+    let (room, scratch) = words;
+    let Lent(bytes) = room.one()?;
+    let Lent(count) = scratch.one()?;
+    grow(&mut memory.room, bytes, 0)?;
+    grow(&mut memory.scratch, count, 0)?;
+    let room = &mut memory.room.as_mut_slice()[..bytes];
+    let scratch = &mut memory.scratch.as_mut_slice()[..count];
+    let BytePlace(end) = write_record(current, room, scratch)?;
+    Ok(Reply::bytes(alloc, first(end, room))?)
 }
 
-// The bytes behind the record at the front.
+/// The bytes behind the record at the front.
 pub fn rest(alloc: Global, bytes: Word<'_>) -> Result<Reply, Problem> {
     let bytes = bytes.bytes(alloc)?;
-    Ok(Reply::Bytes(Vec::from_slice(alloc, step_over(bytes.as_slice()))?))
+    Ok(Reply::bytes(alloc, step_over(bytes.as_slice()))?)
 }
 
-// The index order of strides. A list has at most 64, so an output of more places is answered as one of 65.
-pub fn order(alloc: Global, strides: Word<'_>, places: Word<'_>) -> Result<Reply, Problem> {
+/// The index order of strides. An output of more places than a list has entries is answered as one of one more.
+pub fn order(alloc: Global, words: (Word<'_>, Word<'_>)) -> Result<Reply, Problem> {
+    let (strides, places) = words;
     let strides = strides.list(alloc)?;
     let places: usize = places.one()?;
-    let mut order = vec![in alloc; 0usize; places.min(65)]?;
+    let mut order = vec![in alloc; 0usize; places.min(ENTRIES_MOST + 1)]?;
     index_order_into(strides.as_slice(), order.as_mut_slice())?;
     Ok(Reply::Order(order))
 }
 
-// The strides of an extent list by a rule, by column or by row.
-pub(crate) fn dense<F: FnOnce(&[u64]) -> Dense>(
+/// The strides of an extent list by a rule, by column or by row.
+pub(crate) fn dense<F: FnOnce(&[u64]) -> Result<DenseStrides, Refusal>>(
     alloc: Global,
     extents: Word<'_>,
     strides_of: F,
@@ -114,7 +110,5 @@ pub(crate) fn dense<F: FnOnce(&[u64]) -> Dense>(
     requires { F.IsAlwaysCallable strides_of }
 {
     let extents = extents.list(alloc)?;
-    let dense = strides_of(extents.as_slice());
-    dense.answer?;
-    Ok(Reply::Strides(dense))
+    Ok(Reply::Strides(strides_of(extents.as_slice())?))
 }

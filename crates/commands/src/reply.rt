@@ -1,6 +1,8 @@
 // What an obeyed line answers.
-use crate::list::{Digits, List, first};
-use dense::Dense;
+use crate::list::{Column, List, Part, first};
+use dense::DenseStrides;
+use injectivity::Judgement;
+use std::alloc::{AllocError, Global};
 use std::fmt;
 use view::layout::Layout;
 
@@ -9,33 +11,51 @@ pub enum Reply {
     Done,
     Current(Layout),
     Offset(i64),
-    Distinct(u64),
-    Repeated(u64),
-    Undecided,
-    Bytes(Vec<u8>),
+    Judged(Judgement),
+    Bytes(String),
     Order(Vec<usize>),
-    Strides(Dense),
+    Strides(DenseStrides),
+}
+
+impl Reply {
+    ghost use Rattle.std.specs.Prelude.{◌≡◌, IfOk, string_bytes};
+    ghost use Rattle.commands.specs.Replies.{bytes_text, IsBytes};
+
+    /// Bytes as two digits each; `-` for none.
+    pub fn bytes(alloc: Global, bytes: &[u8]) -> Result<Reply, AllocError>
+        ensures { IfOk result (IsBytes bytes.now) }
+    {
+        if bytes.is_empty() {
+            return Ok(Reply::Bytes(String::from_str(alloc, "-")?));
+        }
+        Ok(Reply::Bytes(hex::encode(alloc, bytes)?))
+    }
 }
 
 // LEN OFFSET EXTENTS STRIDES; above rank 16 the 16 places that a layout holds.
 fn fmt_layout<W: fmt::Write>(layout: &Layout, f: &mut fmt::Formatter<W>) -> fmt::Result {
-    let extents = List(first(layout.rank, &layout.extents));
-    let strides = List(first(layout.rank, &layout.strides));
+    let axes = first(layout.rank, &layout.axes);
+    let extents = Column(axes, Part::Extent);
+    let strides = Column(axes, Part::Stride);
     write!(f, "{} {} {extents} {strides}", layout.len, layout.offset.0)
 }
 
 impl fmt::Display for Reply {
+    ghost use Rattle.commands.specs.Replies.{reply_text};
+
+    ghost output = { reply_text };
+
     fn fmt<W: fmt::Write>(&self, f: &mut fmt::Formatter<W>) -> fmt::Result {
         match self {
-            Reply::Done => write!(f, "ok"),
+            Reply::Done => f.write_str("ok"),
             Reply::Current(layout) => fmt_layout(layout, f),
             Reply::Offset(offset) => write!(f, "{offset}"),
-            Reply::Distinct(looked_at) => write!(f, "distinct {looked_at}"),
-            Reply::Repeated(looked_at) => write!(f, "repeated {looked_at}"),
-            Reply::Undecided => write!(f, "undecided 0"),
-            Reply::Bytes(bytes) => write!(f, "{}", Digits(bytes.as_slice())),
+            Reply::Judged(Judgement::Distinct(looked_at)) => write!(f, "distinct {looked_at}"),
+            Reply::Judged(Judgement::Repeated(looked_at)) => write!(f, "repeated {looked_at}"),
+            Reply::Judged(Judgement::Undecided) => f.write_str("undecided 0"),
+            Reply::Bytes(digits) => f.write_str(digits.as_str()),
             Reply::Order(axes) => write!(f, "{}", List(axes.as_slice())),
-            Reply::Strides(dense) => write!(f, "{}", List(first(dense.count, &dense.strides))),
+            Reply::Strides(dense) => write!(f, "{}", List(dense.as_slice())),
         }
     }
 }

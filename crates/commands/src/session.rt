@@ -1,24 +1,26 @@
 // Standard input a line at a time, each answered in order on standard output.
-ghost use Rattle.std.specs.Prelude.{◌≡◌, ◌↔◌, ◌⊎◌, Some, IsTrue, All, slice_get};
+ghost use Rattle.std.specs.Prelude.{◌≡◌, ◌↔◌, ◌⊎◌, ◌<◌, ◌++◌, ◌∷◌, [], Some, OnOk, IsTrue, All, length, slice_get};
+ghost use Rattle.std.specs.Io.KnownBytes.{Appends};
+ghost use Rattle.commands.specs.Texts.{long_line};
 
+use crate::fault::{Fault, Problem};
+use crate::memory::Memory;
 use crate::obey::obey;
-use crate::problem::Problem;
-use spelling::line::gather;
-use std::alloc::Global;
+use std::alloc::{AllocError, Global};
 use std::io;
-use std::io::{BufWriter, Read, Write};
-use view::layout::{Layout, ReadingOffset};
+use std::io::{BufRead, BufReader, BufWriter, Read, Write};
+use view::layout::{Layout, MOST_AXES, NO_AXIS, ReadingOffset};
 
 // The most bytes that a line has, its line feed not counted.
 const LINE_BYTES: usize = 4096;
 
-// How many bytes of a line have come: one more than its most where it is too long.
-#[derive(Drop)]
-struct Session {
-    alloc: Global,
-    layout: Layout,
-    line: [u8; LINE_BYTES],
-    filled: usize,
+// The bytes that are read, and written, at once.
+const BUFFER_BYTES: usize = 65536;
+
+fn is_too_long(line: &[u8]) -> bool
+    ensures { IsTrue result ↔ (4096 < length line.now) }
+{
+    LINE_BYTES < line.len()
 }
 
 // Whether a line answers nothing: it is blank, or begins with `#`.
@@ -32,94 +34,81 @@ fn is_silent(line: &[u8]) -> bool
 fn answer<W: Write + Drop>(
     alloc: Global,
     layout: &mut Layout,
+    memory: &mut Memory,
     line: &[u8],
     out: &mut W,
-) -> io::Result<()> {
+) -> io::Result<()>
+    ensures long { 4096 < length line.now → OnOk result (Appends (W.contents out.old) (W.contents out.new) (long_line ++ 10 ∷ [])) }
+    ensures kept { 4096 < length line.now → layout.new ≡ layout.old }
+{
+    if is_too_long(line) {
+        return writeln!(out, "{}", Fault::LongLine);
+    }
     if is_silent(line) {
         return Ok(());
     }
-    match obey(alloc, layout, line) {
+    match obey(alloc, layout, memory, line) {
         Ok(reply) => writeln!(out, "{reply}"),
-        Err(Problem::OutOfMemory(error)) => Err(error.into()),
-        Err(problem) => writeln!(out, "{problem}"),
+        Err(Problem::Memory) => Err(AllocError.into()),
+        Err(Problem::Told(fault)) => writeln!(out, "{fault}"),
     }
 }
 
-impl Session {
-    // At the start the layout is empty.
-    fn new(alloc: Global) -> Session {
-        Session {
-            alloc,
-            layout: Layout {
-                len: 0,
-                offset: ReadingOffset(0),
-                rank: 1,
-                extents: [0; 16],
-                strides: [0; 16],
-            },
-            line: [0; LINE_BYTES],
-            filled: 0,
-        }
+// The next line without its line feed, and whether there is more behind it. Of a line that is too long one byte too many is kept.
+fn next_line<R: BufRead>(input: &mut R, line: &mut Vec<u8>) -> io::Result<bool> {
+    line.clear();
+    (&mut *input)
+        .take(LINE_BYTES as u64 + 1)
+        .read_until(b'\n', line)?;
+    if line.last() == Some(&b'\n') {
+        line.pop();
+        return Ok(true);
     }
-
-    // The answer to a line that has come whole.
-    fn end_line<W: Write + Drop>(&mut self, out: &mut W) -> io::Result<()>
-        ensures { self.new.filled ≡ 0 }
-    {
-        let filled = self.filled;
-        self.filled = 0;
-        match self.line.get(..filled) {
-            Some(line) => answer(self.alloc, &mut self.layout, line, out),
-            None => writeln!(out, "{}", Problem::LongLine),
-        }
+    let more = is_too_long(line.as_slice());
+    if more {
+        input.skip_until(b'\n')?;
     }
+    Ok(more)
+}
 
-    // Answers each line that ends in the input, and keeps what is behind the last.
-    fn take<W: Write + Drop>(&mut self, input: &[u8], out: &mut W) -> io::Result<()> {
-        for piece in input.split_inclusive(|byte| *byte == b'\n') {
-            match piece {
-                [part @ .., b'\n'] => {
-                    self.filled = gather(&mut self.line, self.filled, part);
-                    self.end_line(out)?;
-                }
-                part => self.filled = gather(&mut self.line, self.filled, part),
-            }
-        }
-        Ok(())
-    }
-
-    // Answers a last line that has no line feed.
-    fn finish<W: Write + Drop>(&mut self, out: &mut W) -> io::Result<()> {
-        if 0 < self.filled {
-            self.end_line(out)?;
-        }
-        Ok(())
+// At the start the layout is empty.
+fn empty() -> Layout {
+    Layout {
+        len: 0,
+        offset: ReadingOffset(0),
+        rank: 1,
+        axes: [NO_AXIS; MOST_AXES],
     }
 }
 
-// Answers a reader's lines, those that one read ends before the next. A read that fails ends them.
+// Answers a reader's lines in order. What is answered is written before a read waits for more. A read that fails ends them.
 fn answer_all<R: Read + Drop, W: Write + Drop>(
     alloc: Global,
-    mut input: R,
+    mut input: BufReader<R>,
     mut out: W,
 ) -> io::Result<()> {
-    let mut session = Session::new(alloc);
-    let mut part = [0u8; 65536];
+    let mut layout = empty();
+    let mut memory = Memory::new(alloc);
+    let mut line = Vec::with_capacity(alloc, LINE_BYTES + 1)?;
     for _ in 0..u64::MAX {
-        let count = input.read(&mut part).unwrap_or(0);
-        if count == 0 {
+        if !input.buffer().contains(&b'\n') {
+            out.flush()?;
+        }
+        let more = next_line(&mut input, &mut line).unwrap_or(false);
+        if more || !line.is_empty() {
+            answer(alloc, &mut layout, &mut memory, line.as_slice(), &mut out)?;
+        }
+        if !more {
             break;
         }
-        session.take(&part[..count], &mut out)?;
-        out.flush()?;
     }
-    session.finish(&mut out)?;
     out.flush()
 }
 
-// Reads standard input to its end.
+/// Reads standard input to its end.
 pub fn run(rt: HostRuntime) -> io::Result<()> {
     let alloc = rt.alloc();
-    let out = BufWriter::with_capacity(alloc, 65536, rt.stdout())?;
-    answer_all(alloc, rt.stdin(), out)
+    let input = BufReader::with_capacity(alloc, BUFFER_BYTES, rt.stdin())?;
+    let out = BufWriter::with_capacity(alloc, BUFFER_BYTES, rt.stdout())?;
+    answer_all(alloc, input, out)
 }

@@ -1,19 +1,28 @@
 // What a word, or an entry of a list, can spell.
 ghost use Rattle.std.specs.Prelude.{◌≡◌, ◌<◌, List, ℕ, Option, IfSome, length};
+ghost use Rattle.commands.specs.declared.fault.Form.{Form};
+ghost use Rattle.commands.specs.declared.fault.Form.TheVariants.{Unsigned, Signed, Pair, Lent as lent_form};
 ghost use Rattle.commands.specs.Spelled.{unsigned, signed, lent, colon, pair};
 
+use crate::fault::Form;
 use spelling::number::{read_signed, read_unsigned};
 
-// A number of words or of bytes that a line lends to a call.
+/// The most words or bytes that a line lends to a call.
+const LENT_MOST: usize = 65536;
+
+/// A number of words or of bytes that a line lends to a call.
 #[derive(Clone, Copy)]
 pub struct Lent(pub usize);
 
-// A value that a text can spell, in one way.
+/// A value that a text can spell, in one way.
 pub trait Spelled: Drop {
     ghost spelled: { List ℕ → Option Self };
 
-    // What the text should have been, for the error.
-    const FORM: &'static str;
+    // What the text should have been, for the fault.
+    ghost form: { Form };
+
+    fn form() -> Form
+        ensures { result ≡ form };
 
     // The value that the text spells, if it is one.
     fn read(text: &[u8]) -> Option<Self>
@@ -23,7 +32,11 @@ pub trait Spelled: Drop {
 impl Spelled for u64 {
     ghost spelled = { unsigned };
 
-    const FORM: &'static str = "number from 0 to 18446744073709551615";
+    ghost form = { Unsigned };
+
+    fn form() -> Form {
+        Form::Unsigned
+    }
 
     fn read(text: &[u8]) -> Option<u64> {
         read_unsigned(text)
@@ -33,7 +46,11 @@ impl Spelled for u64 {
 impl Spelled for i64 {
     ghost spelled = { signed };
 
-    const FORM: &'static str = "number from -9223372036854775808 to 9223372036854775807";
+    ghost form = { Signed };
+
+    fn form() -> Form {
+        Form::Signed
+    }
 
     fn read(text: &[u8]) -> Option<i64> {
         read_signed(text)
@@ -44,7 +61,11 @@ impl Spelled for i64 {
 impl Spelled for usize {
     ghost spelled = { unsigned };
 
-    const FORM: &'static str = "number from 0 to 18446744073709551615";
+    ghost form = { Unsigned };
+
+    fn form() -> Form {
+        Form::Unsigned
+    }
 
     fn read(text: &[u8]) -> Option<usize> {
         Some(u64::read(text)? as usize)
@@ -63,7 +84,11 @@ fn colon(text: &[u8]) -> Option<usize>
 impl Spelled for [usize; 2] {
     ghost spelled = { pair };
 
-    const FORM: &'static str = "pair a:b of numbers from 0 to 18446744073709551615";
+    ghost form = { Pair };
+
+    fn form() -> Form {
+        Form::Pair
+    }
 
     fn read(text: &[u8]) -> Option<[usize; 2]> {
         let at = colon(text)?;
@@ -76,11 +101,15 @@ impl Spelled for [usize; 2] {
 impl Spelled for Lent {
     ghost spelled = { lent };
 
-    const FORM: &'static str = "number from 0 to 65536";
+    ghost form = { lent_form };
+
+    fn form() -> Form {
+        Form::Lent
+    }
 
     fn read(text: &[u8]) -> Option<Lent> {
         let count = usize::read(text)?;
-        if count <= 65536 {
+        if count <= LENT_MOST {
             Some(Lent(count))
         } else {
             None

@@ -1,35 +1,131 @@
 // Words of a line, and what they spell.
-ghost use Rattle.std.specs.Prelude.{◌≡◌, ◌≤◌, IfOk, vec_len, map, Some};
-ghost use Rattle.std.specs.Result.{result_ok};
-ghost use Rattle.std.specs.List.{range_with_len};
-ghost use Rattle.commands.specs.Words.{words, is_none, entries, bytes};
+ghost use Rattle.std.specs.Prelude.{◌≡◌, IfOk, map};
+ghost use Rattle.commands.specs.Words.{Gives, words, no_word, one_word, two_words, three_words, four_words, is_none, entries, one_of, list_of, listed, bytes_of};
 
-use crate::problem::{Place, Problem};
+use crate::command::Command;
+use crate::fault::{Fault, Place, Problem};
 use crate::spelled::Spelled;
-use spelling::hexadecimal::{byte_list, some_not_hexadecimal};
+use spelling::hexadecimal::{HexadecimalError, read_bytes};
 use std::alloc::{AllocError, Global};
 
-// Counted from 1, the command's own.
+/// A word, with its number in the line, counted from 1.
 #[derive(Clone, Copy)]
 pub struct Word<'a> {
     pub number: usize,
     pub text: &'a [u8],
 }
 
-// The words between the spaces of a line.
-pub fn words_of(alloc: Global, line: &[u8]) -> Result<Vec<Word<'_>>, AllocError>
-    ensures texts { IfOk result (λ v. map (λ word. word.text.now) v.items ≡ words line.now) }
-    ensures numbers { IfOk result (λ v. map (λ word. word.number) v.items ≡ range_with_len 1 (vec_len v)) }
+/// The words behind the name of a command, which takes so many of them.
+#[derive(Clone, Copy)]
+pub struct Words<'a> {
+    pub command: Command,
+    pub texts: &'a [&'a [u8]],
+}
+
+/// The words between the spaces of a line.
+pub fn words_of(alloc: Global, line: &[u8]) -> Result<Vec<&[u8]>, AllocError>
+    ensures { IfOk result (λ v. map (λ text. text.now) v.items ≡ words line.now) }
 {
-    let mut words = Vec::new(alloc);
-    for text in line
-        .split(|byte| *byte == b' ')
+    line.split(|byte| *byte == b' ')
         .filter(|text| !text.is_empty())
+        .collect(alloc)
+}
+
+impl<'a> Words<'a> {
+    #[tactic(auto, unfolding(crate::specs::Words::no_word))]
+    pub fn none(self) -> Result<(), Problem>
+        ensures { Gives (λ none. none) result (no_word self.entry.command (map (λ text. text.now) self.entry.texts.now)) }
     {
-        let number = words.len() + 1;
-        words.push(Word { number, text })?;
+        match self.texts {
+            [] => Ok(()),
+            [..] => Err(Problem::Told(Fault::WordCount(self.command))),
+        }
     }
-    Ok(words)
+
+    #[tactic(auto, unfolding(crate::specs::Words::one_word))]
+    pub fn one(self) -> Result<Word<'a>, Problem>
+        ensures { Gives (λ w. (w.number, w.text.now)) result (one_word self.entry.command (map (λ text. text.now) self.entry.texts.now)) }
+    {
+        match self.texts {
+            [a] => Ok(Word {
+                number: 2,
+                text: *a,
+            }),
+            [..] => Err(Problem::Told(Fault::WordCount(self.command))),
+        }
+    }
+
+    #[tactic(auto, unfolding(crate::specs::Words::two_words))]
+    pub fn two(self) -> Result<(Word<'a>, Word<'a>), Problem>
+        ensures { Gives (λ w. ((w.0.number, w.0.text.now), (w.1.number, w.1.text.now))) result
+            (two_words self.entry.command (map (λ text. text.now) self.entry.texts.now)) }
+    {
+        match self.texts {
+            [a, b] => Ok((
+                Word {
+                    number: 2,
+                    text: *a,
+                },
+                Word {
+                    number: 3,
+                    text: *b,
+                },
+            )),
+            [..] => Err(Problem::Told(Fault::WordCount(self.command))),
+        }
+    }
+
+    #[tactic(auto, unfolding(crate::specs::Words::three_words))]
+    pub fn three(self) -> Result<(Word<'a>, Word<'a>, Word<'a>), Problem>
+        ensures { Gives (λ w. ((w.0.number, w.0.text.now), (w.1.number, w.1.text.now), (w.2.number, w.2.text.now))) result
+            (three_words self.entry.command (map (λ text. text.now) self.entry.texts.now)) }
+    {
+        match self.texts {
+            [a, b, c] => Ok((
+                Word {
+                    number: 2,
+                    text: *a,
+                },
+                Word {
+                    number: 3,
+                    text: *b,
+                },
+                Word {
+                    number: 4,
+                    text: *c,
+                },
+            )),
+            [..] => Err(Problem::Told(Fault::WordCount(self.command))),
+        }
+    }
+
+    #[tactic(auto, unfolding(crate::specs::Words::four_words))]
+    pub fn four(self) -> Result<(Word<'a>, Word<'a>, Word<'a>, Word<'a>), Problem>
+        ensures { Gives (λ w. ((w.0.number, w.0.text.now), (w.1.number, w.1.text.now), (w.2.number, w.2.text.now), (w.3.number, w.3.text.now))) result
+            (four_words self.entry.command (map (λ text. text.now) self.entry.texts.now)) }
+    {
+        match self.texts {
+            [a, b, c, d] => Ok((
+                Word {
+                    number: 2,
+                    text: *a,
+                },
+                Word {
+                    number: 3,
+                    text: *b,
+                },
+                Word {
+                    number: 4,
+                    text: *c,
+                },
+                Word {
+                    number: 5,
+                    text: *d,
+                },
+            )),
+            [..] => Err(Problem::Told(Fault::WordCount(self.command))),
+        }
+    }
 }
 
 impl<'a> Word<'a> {
@@ -40,11 +136,14 @@ impl<'a> Word<'a> {
         matches!(self.text, [b'-'])
     }
 
-    // What the word spells.
+    /// What the word spells.
     pub fn one<T: Spelled>(self) -> Result<T, Problem>
-        ensures { result_ok result ≡ T.spelled self.entry.text.now }
+        ensures { Gives (λ x. x) result (one_of T.spelled T.form self.entry.number self.entry.text.now) }
     {
-        T::read(self.text).ok_or(Problem::Misspelled(Place::Word(self.number), T::FORM))
+        match T::read(self.text) {
+            Some(x) => Ok(x),
+            None => Err(Problem::Told(Fault::Misspelled(Place::Word(self.number), T::form()))),
+        }
     }
 
     // The texts of a list's entries.
@@ -57,38 +156,48 @@ impl<'a> Word<'a> {
         self.text.split(|byte| *byte == b',').collect(alloc)
     }
 
-    // What the entries of a list spell, at most 64.
+    /// What the entries of a list spell, at most 64.
+    #[tactic(auto, using(std::proofs::lemmas::Grind::common_steps), unfolding(crate::specs::Words::list_of))]
     pub fn list<T: Spelled>(self, alloc: Global) -> Result<Vec<T>, Problem>
-        ensures short { IfOk result (λ v. vec_len v ≤ 64) }
-        ensures spelled { IfOk result (λ v. map Some v.items ≡ map T.spelled (entries self.entry.text.now)) }
+        ensures { Gives (λ v. v.items) result (list_of T.spelled T.form self.entry.number self.entry.text.now) }
     {
         let entries = self.entries(alloc)?;
         if 64 < entries.len() {
-            return Err(Problem::ManyEntries(self.number));
+            return Err(Problem::Told(Fault::ManyEntries(self.number)));
         }
-        let mut list = Vec::new(alloc);
-        for text in &entries {
-            let place = Place::Entry(self.number, list.len() + 1);
-            list.push(T::read(*text).ok_or(Problem::Misspelled(place, T::FORM))?)?;
-        }
-        Ok(list)
+        spelled_by(alloc, self.number, entries.as_slice())
     }
 
-    // The bytes that pairs of hexadecimal digits write.
+    /// The bytes that pairs of hexadecimal digits write.
+    #[tactic(auto, unfolding(crate::specs::Words::bytes_of))]
     pub fn bytes(self, alloc: Global) -> Result<Vec<u8>, Problem>
-        ensures { IfOk result (λ v. v.items ≡ bytes self.entry.text.now) }
+        ensures { Gives (λ v. v.items) result (bytes_of self.entry.number self.entry.text.now) }
     {
         if self.is_none() {
             return Ok(Vec::new(alloc));
         }
-        if some_not_hexadecimal(self.text) {
-            return Err(Problem::BadDigit(self.number));
+        match read_bytes(alloc, self.text) {
+            Ok(bytes) => Ok(bytes),
+            Err(HexadecimalError::BadDigit) => Err(Problem::Told(Fault::BadDigit(self.number))),
+            Err(HexadecimalError::OddDigits) => Err(Problem::Told(Fault::OddDigits(self.number))),
+            Err(HexadecimalError::OutOfMemory) => Err(Problem::Memory),
         }
-        if self.text.len() % 2 == 1 {
-            return Err(Problem::OddDigits(self.number));
-        }
-        let mut bytes = vec![in alloc; 0u8; self.text.len() / 2]?;
-        byte_list(self.text, bytes.as_mut_slice());
-        Ok(bytes)
     }
+}
+
+// What each entry of the word of a number spells.
+fn spelled_by<T: Spelled>(alloc: Global, word: usize, entries: &[&[u8]]) -> Result<Vec<T>, Problem>
+    ensures { Gives (λ v. v.items) result (listed T.spelled T.form word 1 (map (λ text. text.now) entries.now)) }
+{
+    let mut list = Vec::new(alloc);
+    for text in entries {
+        match T::read(*text) {
+            Some(x) => list.push(x)?,
+            None => {
+                let place = Place::Entry(word, list.len() + 1);
+                return Err(Problem::Told(Fault::Misspelled(place, T::form())));
+            }
+        }
+    }
+    Ok(list)
 }

@@ -1,22 +1,34 @@
-use Rattle.std.proofs.Common.{arith, ap, refl, sym, ◌∙◌, ◌≡◌, ◌≤◌, ◌<◌, ◌⊎◌, inl, inr, ℕ, List, ◌++◌, length, take, drop, min}
+-- `sixteen`: the axes paired are all of them, or the first sixteen.
+use Rattle.std.proofs.Common.{arith, ap, refl, sym, ◌∙◌, ◌≡◌, ◌≤◌, ◌<◌, ◌⊎◌, inl, inr, ℕ, ℤ, List, ◌++◌, length, take, drop, min}
 use Rattle.std.proofs.lemmas.Bool.{cases_lt}
 use Rattle.std.proofs.lemmas.List.{take_all, drop_all, append-nil, take-append-le, length-take-le}
+use Rattle.specification.specs.Axis.{Axis, axesOf}
+use Rattle.view.proofs.AxesLaws.{length-axesOf}
 use Rattle.commands.proofs.change.sixteen.Goals as goal
 
-module _ {A : Type 0} (n : ℕ) (list front places : List A) where
-  by_length : (16 < length list) ⊎ (length list ≤ 16) → n ≡ min (length list) 16 → front ≡ take n list → length places ≡ 16
-      → take (length list) (front ++ drop n places) ≡ take 16 list
-  by_length (inl longer) held copied size =
+module _ (n : ℕ) (es : List ℕ) (ss : List ℤ) (alike : length ss ≡ length es) (front places : List Axis) where
+  -- as many axes as are held
+  paired : n ≤ length es → front ≡ axesOf (take n es) (take n ss) → length front ≡ n
+  paired few e =
+      let p = length-take-le n es few in
+      let q = length-take-le n ss (omega arith) in
+      ap length e ∙ length-axesOf (take n es) (take n ss) (p ∙ sym q) ∙ p
+
+  by_length : (16 < length es) ⊎ (length es ≤ 16) → n ≡ min (length es) 16 → front ≡ axesOf (take n es) (take n ss) → length places ≡ 16
+      → take (length es) (front ++ drop n places) ≡ axesOf (take 16 es) (take 16 ss)
+  by_length (inl longer) held e size =
       let all : n ≡ 16 = omega arith in
-      let kept : length front ≡ 16 = ap length (copied ∙ ap (λ k. take k list) all) ∙ length-take-le 16 list (omega arith) in
-      ap (λ rest. take (length list) (front ++ rest)) (drop_all n places (omega arith))
-      ∙ ap (take (length list)) (append-nil front) ∙ take_all (length list) front (omega arith)
-      ∙ copied ∙ ap (λ k. take k list) all
-  by_length (inr shorter) held copied size =
-      let all : n ≡ length list = omega arith in
-      let whole : front ≡ list = copied ∙ take_all n list (omega arith) in
-      take-append-le (length list) front (drop n places) (omega (arith, ap length whole))
-      ∙ take_all (length list) front (omega (arith, ap length whole)) ∙ whole ∙ sym (take_all 16 list shorter)
+      let kept = paired (omega arith) e in
+      ap (λ rest. take (length es) (front ++ rest)) (drop_all n places (omega arith))
+      ∙ ap (take (length es)) (append-nil front) ∙ take_all (length es) front (omega arith)
+      ∙ e ∙ ap (λ k. axesOf (take k es) (take k ss)) all
+  by_length (inr shorter) held e size =
+      let all : n ≡ length es = omega arith in
+      let kept = paired (omega arith) e in
+      take-append-le (length es) front (drop n places) (omega arith)
+      ∙ take_all (length es) front (omega arith)
+      ∙ e ∙ ap (λ xs. axesOf xs (take n ss)) (take_all n es (omega arith) ∙ sym (take_all 16 es shorter))
+      ∙ ap (axesOf (take 16 es)) (take_all n ss (omega arith) ∙ sym (take_all 16 ss (omega arith)))
 
 pub returns : goal.returns
-returns g c = by_length c.min-held.result c.args.list.now c.copy_from_slice.new.self _ (cases_lt 16 (length c.args.list.now)) c.min-held.ensures c.copy_from_slice.ensures.after refl
+returns c = by_length c.min-held.result c.args.extents.now c.args.strides.now c.requires c.pair_into.new.axes _ (cases_lt 16 (length c.args.extents.now)) c.min-held.ensures c.pair_into.ensures refl

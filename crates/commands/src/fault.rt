@@ -1,0 +1,174 @@
+// Why a line is not obeyed: its words are no command, or the library refuses it.
+ghost use Rattle.std.specs.Prelude.{◌≡◌};
+ghost use Rattle.commands.specs.declared.fault.Fault.TheVariants.{Refused};
+ghost use Rattle.commands.specs.declared.fault.Problem.TheVariants.{Memory, Told};
+
+use crate::command::Command;
+use std::alloc::{AllocError, AllocFailed};
+use std::fmt;
+use view::layout::Refusal;
+
+/// What a word, or an entry of a list, should have spelled.
+#[derive(Clone, Copy)]
+pub enum Form {
+    Unsigned,
+    Signed,
+    Pair,
+    Lent,
+}
+
+/// A word of the line, counted from 1, or an entry of the list that the word is, counted from 1 too.
+#[derive(Clone, Copy)]
+pub enum Place {
+    Word(usize),
+    Entry(usize, usize),
+}
+
+/// What a line is answered that is not obeyed. A word is given by its number.
+#[derive(Clone, Copy)]
+pub enum Fault {
+    LongLine,
+    UnknownCommand,
+    WordCount(Command),
+    UnequalLists,
+    Misspelled(Place, Form),
+    ManyEntries(usize),
+    OddDigits(usize),
+    BadDigit(usize),
+    Refused(Refusal),
+}
+
+/// A fault is told and the next line follows; where memory fails, so does the program.
+#[derive(Clone, Copy)]
+pub enum Problem {
+    Memory,
+    Told(Fault),
+}
+
+impl From<Fault> for Problem {
+    ghost from_gives = { λ fault p. p ≡ Told fault };
+
+    fn from(fault: Fault) -> Problem {
+        Problem::Told(fault)
+    }
+}
+
+impl From<Refusal> for Problem {
+    ghost from_gives = { λ why p. p ≡ Told (Refused why) };
+
+    fn from(why: Refusal) -> Problem {
+        Problem::Told(Fault::Refused(why))
+    }
+}
+
+impl From<AllocError> for Problem {
+    ghost from_gives = { λ _ p. p ≡ Memory };
+
+    fn from(_error: AllocError) -> Problem {
+        Problem::Memory
+    }
+}
+
+impl<T: Drop> From<AllocFailed<T>> for Problem {
+    ghost from_gives = { λ _ p. p ≡ Memory };
+
+    fn from(_failed: AllocFailed<T>) -> Problem {
+        Problem::Memory
+    }
+}
+
+impl fmt::Display for Form {
+    ghost use Rattle.std.specs.Prelude.{Some};
+    ghost use Rattle.commands.specs.Texts.{form_text};
+
+    ghost output = { λ form. Some (form_text form) };
+
+    fn fmt<W: fmt::Write>(&self, f: &mut fmt::Formatter<W>) -> fmt::Result {
+        f.write_str(match self {
+            Form::Unsigned => "number from 0 to 18446744073709551615",
+            Form::Signed => "number from -9223372036854775808 to 9223372036854775807",
+            Form::Pair => "pair a:b of numbers from 0 to 18446744073709551615",
+            Form::Lent => "number from 0 to 65536",
+        })
+    }
+}
+
+impl fmt::Display for Place {
+    ghost use Rattle.std.specs.Prelude.{Some};
+    ghost use Rattle.commands.specs.Texts.{place_text};
+
+    ghost output = { λ place. Some (place_text place) };
+
+    fn fmt<W: fmt::Write>(&self, f: &mut fmt::Formatter<W>) -> fmt::Result {
+        match self {
+            Place::Word(word) => write!(f, "word {word}"),
+            Place::Entry(word, entry) => write!(f, "word {word}, entry {entry}"),
+        }
+    }
+}
+
+// The number of a refusal, and its values.
+#[derive(Drop)]
+struct ByNumber(Refusal);
+
+#[tactic(auto, unfolding(crate::specs::Texts::refusal_text))]
+impl fmt::Display for ByNumber {
+    ghost use Rattle.std.specs.Prelude.{Some};
+    ghost use Rattle.commands.specs.Texts.{told_refusal};
+
+    ghost output = { λ why. Some (told_refusal why.0) };
+
+    fn fmt<W: fmt::Write>(&self, f: &mut fmt::Formatter<W>) -> fmt::Result {
+        let number = self.0.number();
+        match self.0 {
+            Refusal::WrongLength(a, b) | Refusal::BadAxis(a, b) => {
+                write!(f, "refused {number} {a} {b}")
+            }
+            Refusal::BadExtent(a)
+            | Refusal::BadIndex(a)
+            | Refusal::ShortScratch(a)
+            | Refusal::ShortOutput(a) => write!(f, "refused {number} {a}"),
+            Refusal::TooManyAxes
+            | Refusal::LengthsDiffer
+            | Refusal::OutOfRange
+            | Refusal::TooManyPositions
+            | Refusal::NotARecord => write!(f, "refused {number}"),
+        }
+    }
+}
+
+// A refusal by its number, and any other fault as an error.
+#[tactic(auto, unfolding(crate::specs::Texts::long_line, crate::specs::Texts::unknown_command, crate::specs::Texts::word_count, crate::specs::Texts::unequal_lists, crate::specs::Texts::misspelled, crate::specs::Texts::many_entries, crate::specs::Texts::odd_digits, crate::specs::Texts::bad_digit))]
+impl fmt::Display for Fault {
+    ghost use Rattle.std.specs.Prelude.{Some};
+    ghost use Rattle.commands.specs.Texts.{fault_text};
+
+    ghost output = { λ fault. Some (fault_text fault) };
+
+    fn fmt<W: fmt::Write>(&self, f: &mut fmt::Formatter<W>) -> fmt::Result {
+        match self {
+            Fault::LongLine => f.write_str("error: the line is longer than 4096 bytes"),
+            Fault::UnknownCommand => f.write_str("error: unknown command: word 1"),
+            Fault::WordCount(command) => write!(
+                f,
+                "error: wrong number of words: {} takes {}",
+                command.name(),
+                command.usage()
+            ),
+            Fault::UnequalLists => f.write_str(
+                "error: set takes as many strides as extents: words 4 and 5",
+            ),
+            Fault::Misspelled(place, form) => write!(f, "error: {place} is no {form}"),
+            Fault::ManyEntries(word) => { write!(f, "error: word {word} has more than 64 entries") }
+            Fault::OddDigits(word) => write!(
+                f,
+                "error: word {word} has an odd number of hexadecimal digits"
+            ),
+            Fault::BadDigit(word) => write!(
+                f,
+                "error: word {word} has a byte that is no hexadecimal digit"
+            ),
+            Fault::Refused(why) => write!(f, "{}", ByNumber(*why)),
+        }
+    }
+}
