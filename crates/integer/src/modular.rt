@@ -6,7 +6,7 @@ ghost use Rattle.integer.specs.Congruence.{Congruent, IsGcdInverse};
 const HALF_WORD: u64 = 0x1_0000_0000;
 
 /// A greatest common divisor of two numbers, and an inverse of the first modulo the second, up to that divisor.
-#[derive(Clone, Copy)]
+#[derive(Clone, Copy, Debug, PartialEq, Eq)]
 pub struct GcdInverse {
     pub gcd: u64,
     pub inverse: u64,

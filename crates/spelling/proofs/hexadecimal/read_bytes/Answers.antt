@@ -1,5 +1,5 @@
 -- Digits in pairs decode, so what does not decode is odd.
-use Rattle.std.proofs.Common.{arith, ◌≡◌, ◌∙◌, sym, ℕ, ◌%◌, List, length, true, Result, Ok, Err, inl, inr}
+use Rattle.std.proofs.Common.{rules, arith, refl, ◌≡◌, ◌∙◌, sym, ℕ, ◌%◌, List, length, true, Result, Ok, Err, inl, inr}
 use Rattle.std.proofs.lemmas.Bool.{cases_eq}
 use Rattle.std.proofs.lemmas.List.Sums.{AllPass-from_list_all}
 use Rattle.std.specs.List.{list_all}
@@ -17,4 +17,4 @@ odd_from_err text e digits err = elim (cases_eq (length text % 2) 0) [
 ]
 
 pub returns-in-Err-clause-odd_digits : goal.returns-in-Err-clause-odd_digits
-returns-in-Err-clause-odd_digits c = λ same. grind (arith, odd_from_err)
+returns-in-Err-clause-odd_digits c = (λ same. (search rules, grind (arith, odd_from_err)), λ both. refl)
