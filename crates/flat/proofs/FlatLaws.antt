@@ -4,7 +4,7 @@ use Rattle.std.proofs.lemmas.List.{get_or_past, length-take, take_at, take-take}
 use native.Mathlib.Decide.{dec_lt}
 use borrow.Rule.Slice.PartMut.{put_mid}
 use lib.Seq.{take_all, get_or-take, drop-append-add, drop-drop}
-use Rattle.lists.proofs.TableLaws.{table-ext}
+use Rattle.view.proofs.TableLaws.{table-ext}
 use Rattle.specification.specs.Axis.{Axis, axesOf}
 use Rattle.specification.specs.Views.{axisAt}
 use Rattle.view.specs.Model.{modelFrom, first_axes}

@@ -12,7 +12,7 @@ use lib.Seq.{drop-cons, ext_get_or, get_or-take, length-take-le, set-append_seam
 use borrow.Author.Tests.{le-ltb, lt-ltb, leb-true, leb-false}
 use Rattle.std.specs.List.{list_any, list_all}
 use Rattle.integer.specs.Range.{mostSigned}
-use Rattle.lists.proofs.TableLaws.{getD-table, length-table}
+use Rattle.view.proofs.TableLaws.{getD-table, length-table}
 use Rattle.specification.specs.Tests.{some}
 use Rattle.specification.specs.Axis.{Axis, axesOf, extents}
 use Rattle.specification.specs.CheckIn.{tooWide}
@@ -111,15 +111,18 @@ take-front front rest n e = rw (← e) (take-append_seam front rest)
 
 -- ---- axes in two lists
 
+pub length_lists : (es : List ℕ) (ss : List ℤ) → length ss ≡ length es → length (axesOf es ss) ≡ length es
+length_lists es ss h = length-axesOf es ss (sym h)
+
 pub extents_axesOf : (es : List ℕ) (ss : List ℤ) → length ss ≡ length es → extents (axesOf es ss) ≡ es
 unfolding axesOf
 extents_axesOf [] ss h = refl
 extents_axesOf (e ∷ es) [] h = absurd (omega arith)
 extents_axesOf (e ∷ es) (s ∷ ss) h = rw (extents_axesOf es ss (omega arith))
 
-pub stride-axesOf : (es : List ℕ) (ss : List ℤ) (i : ℕ) → length ss ≡ length es → i < length es → (axisAt (axesOf es ss) i).stride ≡ get_or ss i (pos 0)
+pub stride_axesOf : (es : List ℕ) (ss : List ℤ) (i : ℕ) → length ss ≡ length es → i < length es → (axisAt (axesOf es ss) i).stride ≡ get_or ss i (pos 0)
 unfolding axesOf
-stride-axesOf [] ss i h k = absurd (omega arith)
-stride-axesOf (e ∷ es) [] i h k = absurd (omega arith)
-stride-axesOf (e ∷ es) (s ∷ ss) zero h k = refl
-stride-axesOf (e ∷ es) (s ∷ ss) (suc i) h k = stride-axesOf es ss i (omega arith) (omega arith)
+stride_axesOf [] ss i h k = absurd (omega arith)
+stride_axesOf (e ∷ es) [] i h k = absurd (omega arith)
+stride_axesOf (e ∷ es) (s ∷ ss) zero h k = refl
+stride_axesOf (e ∷ es) (s ∷ ss) (suc i) h k = stride_axesOf es ss i (omega arith) (omega arith)

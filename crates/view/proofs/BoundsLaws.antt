@@ -113,6 +113,23 @@ module _ (l : LayoutM) where
 
 -- ---- the reach
 
+-- what is within is in reach; else only an empty layout is
+pub reach_within : (l : LayoutM) (t : Bool) → t ≡ within l → t ≡ true → t ≡ inReach l
+unfolding inReach
+reach_within l t e h = rw (← e, h) (or-true (is_empty l.axes))
+  where
+    or-true : (s : Bool) → true ≡ (s || true)
+    or-true true = refl
+    or-true false = refl
+
+pub reach_beyond : (l : LayoutM) (t z : Bool) → t ≡ within l → t ≡ false → z ≡ zeroAmong (extents l.axes) → z ≡ inReach l
+unfolding inReach
+reach_beyond l t z e h k = rw (← e, h, k, ← empty_extents l.axes) (or-false (is_empty l.axes))
+  where
+    or-false : (s : Bool) → s ≡ (s || false)
+    or-false true = refl
+    or-false false = refl
+
 pub reach-empty : (l : LayoutM) → is_empty l.axes ≡ true → reachOf l ≡ done none
 unfolding reachOf inReach refuseIf ◌>>◌
 reach-empty l e = rw e

@@ -10,7 +10,7 @@ use Rattle.specification.specs.Tests.{is_yes, some}
 use Rattle.specification.specs.Tied.{Tied, turned}
 use Rattle.specification.specs.TiedDecided.{tied?}
 use Rattle.specification.specs.Views.{class_of, kept}
-use Rattle.view.specs.Ties.{rootAt, isRoot, Rooted}
+use Rattle.view.specs.Ties.{rootAt, isRoot}
 use Rattle.view.proofs.TieLaws.{RootsOf}
 use Rattle.view.proofs.RangeLaws.{passing, passing-ext, some-none, some_one}
 
@@ -61,6 +61,3 @@ module _ {rank : ℕ} {pairs : List (ℕ × ℕ)} {roots : List ℕ} (few : rank
       by : (a : ℕ) → a < rank → (s : Bool) → isRoot roots a ≡ s → not (some (λ b. ltb b a) (class_of pairs rank a)) ≡ s
       by a h true e = rw (root-lowest a (eqb-true (root a) a e))
       by a h false e = rw (other-lower a h (eqb-false (root a) a e))
-
-  pub rooted : Rooted rank roots
-  rooted = record { low = λ a h. of.low a (omega arith); own = root-of-root }

@@ -3,7 +3,7 @@ use Rattle.std.specs.Prelude.{if◌then◌else◌, Err, Ok, Result}
 use mathlib.Core.Path.{◌≡◌, refl, sym, ap, subst, ◌∙◌}
 use mathlib.Core.Bool.{Bool, true, false, not, ◌&&◌, ◌||◌, and-false}
 use mathlib.Core.List.{List, [], ◌∷◌, map}
-use Prim.Native.Nat.{ℕ, zero, suc, ◌+◌, ◌*◌, ◌≤◌, ◌<◌}
+use Prim.Native.Nat.{ℕ, zero, suc, ◌+◌, ◌*◌, ◌-◌, ◌≤◌, ◌<◌}
 use native.Mathlib.Nat.{zero-mul, mul-zero, mul-suc, mul-pos, mul_assoc}
 use native.Mathlib.Numerals.{add-one}
 use native.Mathlib.Omega.{arith}
@@ -145,3 +145,7 @@ module _ {A : Type 0} (f : A → ℕ) (list : List A) (axes : List Axis) (es : L
 
   pub entry-extent : (i : ℕ) (a : A) → i < length list → a ≡ get_or list i a → f a ≡ (axisAt axes i).extent
   entry-extent i a h k = sym (extent-here f list es i a each h k) ∙ ap (λ (m : List ℕ). get_or m i 0) given ∙ extent-at axes i
+
+  -- the last index of an entry is that of its axis
+  pub entry-last : (i : ℕ) (a : A) → i < length list → a ≡ get_or list i a → (extent last : ℕ) → extent ≡ f a → last ≡ extent - 1 → (i < length axes) × (last ≡ (axisAt axes i).extent - 1)
+  entry-last i a h k extent last e m = (omega (arith, entry-length), omega (arith, entry-extent i a h k, e, m))

@@ -1,5 +1,5 @@
 -- diagonal_view by its pairs is the view by the roots that they leave; and which rule refuses.
-use mathlib.Core.Path.{◌≡◌, refl, sym, ap, subst, ◌∙◌}
+use mathlib.Core.Path.{◌≡◌, refl, sym, ap, ◌∙◌}
 use mathlib.Core.List.{List, [], map}
 use Prim.Native.Nat.{ℕ, ◌≤◌}
 use native.Mathlib.Omega.{arith}
@@ -13,12 +13,12 @@ use Rattle.specification.specs.Views.{unlessRefused, withAxes, axisAt, pairFault
 use Rattle.view.specs.Model.{modelOf}
 use Rattle.view.specs.Reach.{handed_with}
 use Rattle.view.specs.declared.layout.Layout.{Layout}
-use Rattle.view.specs.Ties.{rootAt, isRoot, own_roots, joined_all, Rooted, rooted_at, roots_below, fused_at, fused_axes, fused_fault, fused_view}
+use Rattle.view.specs.Ties.{rootAt, isRoot, own_roots, joined_all, rooted_at, roots_below, fused_at, fused_axes, fused_fault, fused_view}
 use Rattle.view.proofs.RangeLaws.{map-passing}
 use Rattle.view.proofs.TieLaws.{RootsOf, roots-of}
-use Rattle.view.proofs.ClassLaws.{class-of-root, kept-are-roots, rooted}
+use Rattle.view.proofs.ClassLaws.{class-of-root, kept-are-roots}
 use Rattle.view.proofs.StrideSumLaws.{faults-same}
-use Rattle.view.proofs.ListedLaws.{rank-model_of}
+use Rattle.view.proofs.ListedLaws.{rank_model_of}
 
 module _ (l : LayoutM) (pairs : List (ℕ × ℕ)) (few : rank l ≤ 16) (none : pairFault (rank l) pairs ≡ pass) where
   abbrev roots : List ℕ
@@ -40,9 +40,6 @@ module _ (l : LayoutM) (pairs : List (ℕ × ℕ)) (few : rank l ≤ 16) (none :
       (map-passing (isRoot roots) (fused l pairs) (fused_at l.axes roots) (rank l) (λ r h e.
       ap (λ (m : List Axis). record { extent = leastExtent m; stride = strideSum (pos 0) m }) (members-are r (eqb-true (rootAt roots r) r e))))
 
-  pub ties-rooted : Rooted (rank l) roots
-  ties-rooted = rooted few of
-
   -- where neither the layout nor a pair is refused
   pub by-roots : handed l [] ≡ pass → fused_view l roots ≡ diagonalView l pairs
   unfolding fused_view diagonalView ◌>>◌
@@ -60,7 +57,7 @@ module _ (s : Layout) (pairs : List (ℕ × ℕ)) where
   l = modelOf s
 
   faults : {c : Check} → c ≡ pairFault s.rank pairs → pairFault (rank l) pairs ≡ c
-  faults e = ap (λ (n : ℕ). pairFault n pairs) (rank-model_of s) ∙ sym e
+  faults e = ap (λ (n : ℕ). pairFault n pairs) (rank_model_of s) ∙ sym e
 
   pub diagonal_handed : (number : ℕ) (values : List ℕ) → refused number values ≡ handed_with l 0 → record { answer = refused number values; layout = l } ≡ diagonalView l pairs
   unfolding diagonalView unlessRefused ◌>>◌
@@ -72,11 +69,7 @@ module _ (s : Layout) (pairs : List (ℕ × ℕ)) where
     diagonal_paired number values e = rw (handed_none l, ← first, faults e)
 
     pub diagonal_fused : s.rank ≤ 16 → pass ≡ pairFault s.rank pairs → fused_view l (joined_all own_roots pairs) ≡ diagonalView l pairs
-    diagonal_fused few e = by-roots l pairs (omega (arith, rank-model_of s)) (faults e) (handed_none l ∙ sym first)
-
-  pub diagonal_rooted : s.rank ≤ 16 → pass ≡ pairFault s.rank pairs → Rooted s.rank (joined_all own_roots pairs)
-  diagonal_rooted few e =
-      subst (λ (n : ℕ). Rooted n (joined_all own_roots pairs)) (rank-model_of s) (ties-rooted l pairs (omega (arith, rank-model_of s)) (faults e))
+    diagonal_fused few e = by-roots l pairs (omega (arith, rank_model_of s)) (faults e) (handed_none l ∙ sym first)
 
 -- ---- the view by roots
 

@@ -2,6 +2,7 @@ pub mod MaskLaws
 pub mod OrderLaws
 pub mod HandedLaws
 pub mod BoundedLaws
+pub mod TableLaws
 pub mod AxesLaws
 pub mod BoundsLaws
 pub mod SpansLaws
@@ -14,6 +15,7 @@ pub mod RangeLaws
 pub mod RootLaws
 pub mod PairLaws
 pub mod TieLaws
+pub mod RootedLaws
 pub mod ClassLaws
 pub mod StrideSumLaws
 pub mod FusedLaws

@@ -14,8 +14,8 @@ use Rattle.view.specs.Reach.{handed_with}
 use Rattle.view.proofs.AxesLaws.{length-first_axes}
 
 -- the rank of the model is the layout's
-pub rank-model_of : (l : Layout) → rank (modelOf l) ≡ l.rank
-rank-model_of l = length-first_axes l.axes l.rank
+pub rank_model_of : (l : Layout) → rank (modelOf l) ≡ l.rank
+rank_model_of l = length-first_axes l.axes l.rank
 
 module _ {A : Type 0} (l : Layout) (list values : List ℕ) (next : Outcome A) where
   -- the chain of rules
@@ -28,8 +28,8 @@ module _ {A : Type 0} (l : Layout) (list values : List ℕ) (next : Outcome A) w
 
   pub listed_wrong : pass ≡ handed_with (modelOf l) (length list) → (length list ≡ l.rank → ⊥) → listed ≡ refused 4 values
   unfolding handed refuseIf ◌>>◌
-  listed_wrong e n = rw (← e, rank-model_of l, ne_eqb (length list) l.rank n)
+  listed_wrong e n = rw (← e, rank_model_of l, ne_eqb (length list) l.rank n)
 
   pub listed_next : pass ≡ handed_with (modelOf l) (length list) → length list ≡ l.rank → listed ≡ next
   unfolding handed refuseIf ◌>>◌
-  listed_next e n = rw (← e, rank-model_of l, eq-eqb (length list) l.rank n)
+  listed_next e n = rw (← e, rank_model_of l, eq-eqb (length list) l.rank n)

@@ -9,8 +9,8 @@ use native.Mathlib.Omega.{arith}
 use lib.Dec.{eqb}
 use lib.ListN.{length, length-append}
 use borrow.Author.Tests.{eqb-true, eqb-false}
-use Rattle.lists.specs.Table.{table}
-use Rattle.lists.proofs.TableLaws.{table-zero, table-suc}
+use Rattle.view.specs.Table.{table}
+use Rattle.view.proofs.TableLaws.{table-zero, table-suc}
 use Rattle.specification.specs.Tests.{some, those, up_from}
 use Rattle.view.proofs.OrderLaws.{some-snoc}
 

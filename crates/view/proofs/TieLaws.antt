@@ -17,7 +17,6 @@ use Rattle.specification.specs.Tied.{Among, Tied, itself, pair, turned, chain}
 use Rattle.specification.specs.Views.{pairFault}
 use Rattle.specification.proofs.OutcomeLaws.{clash, passed}
 use Rattle.view.specs.Ties.{rootAt, own_roots, renamed, joined, joined_all}
-use Rattle.view.specs.declared.diagonal.Ties.{Ties}
 
 -- ---- what pairs refuse
 
@@ -223,8 +222,3 @@ roots-all rank {ps} {roots} few of (p ∷ rest) e =
 
 pub roots-of : (rank : ℕ) (pairs : List (ℕ × ℕ)) → rank ≤ 16 → pairFault rank pairs ≡ pass → RootsOf pairs (joined_all own_roots pairs)
 roots-of rank pairs few e = roots-all rank few roots-none pairs e
-
--- ---- as a struct
-
-pub same-ties : (t u : Ties) → t.roots ≡ u.roots → t.rank ≡ u.rank → t ≡ u
-same-ties t u e f = λ i. record { roots = e i; rank = f i }

@@ -7,7 +7,7 @@ use lib.IntN.{pos}
 use lib.ListN.{length, take, get_or, length-map, length-append, get_or-append}
 use lib.Seq.{ext_get_or, length-take-le}
 use Rattle.std.proofs.lemmas.List.{get_or-map, take-append-le, take_all}
-use Rattle.lists.proofs.TableLaws.{getD-table}
+use Rattle.view.proofs.TableLaws.{getD-table}
 use Rattle.specification.specs.Axis.{Axis}
 use Rattle.specification.specs.Layout.{LayoutM}
 use Rattle.specification.specs.Outcome.{refused, pass}
@@ -69,3 +69,12 @@ first_axes_spread axes rest n targets e h =
     ∙ take-append-le n (spread (take n axes) targets) rest (omega (arith, s))
     ∙ take_all n (spread (take n axes) targets) (omega (arith, s))
     ∙ ap (λ (m : List Axis). spread m targets) (sym (first_axes_take axes n h))
+
+-- the layout with its first k axes stretched, where k is its rank
+pub stretched_told : (l : LayoutM) (axes : List Axis) (n k : ℕ) (targets : List ℕ) (front rest : List Axis) → l.axes ≡ first_axes axes n → length targets ≡ k → k ≡ n → n ≤ length axes
+    → front ≡ spread (take k axes) targets → broadcast_refusal l targets ≡ pass → record { answer = pass; layout = withAxes l (first_axes (front ++ rest) n) } ≡ broadcast l targets
+stretched_told l axes n k targets front rest is long ranked room e passes =
+    ap (λ (m : List Axis). record { answer = pass; layout = withAxes l m })
+    (ap (λ (f : List Axis). first_axes (f ++ rest) n) (e ∙ ap (λ (j : ℕ). spread (take j axes) targets) ranked)
+    ∙ first_axes_spread axes rest n targets (long ∙ ranked) room ∙ ap (λ (m : List Axis). spread m targets) (sym is))
+    ∙ sym (broadcast_done l targets passes)

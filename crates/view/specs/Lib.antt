@@ -1,4 +1,5 @@
 pub mod Answers
+pub mod Table
 pub mod Model
 pub mod Bounded
 pub mod Reach

@@ -1,7 +1,7 @@
 -- What a layout means: as many axes as the rank says, also above 16; places past the rank are no part of it.
 use Rattle.std.specs.Prelude.{List, ℕ, ℤ, Result}
 use Rattle.std.specs.Result.{result_map_both}
-use Rattle.lists.specs.Table.{table}
+use Rattle.view.specs.Table.{table}
 use Rattle.specification.specs.Axis.{Axis}
 use Rattle.specification.specs.Layout.{LayoutM}
 use Rattle.specification.specs.Outcome.{Outcome, done, refused, pass}

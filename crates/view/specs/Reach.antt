@@ -55,6 +55,10 @@ accepted_ends l = if within l then Some (ends (lowest l) (highest l)) else None
 abbrev pub none_wide : List ℕ → Bool
 none_wide = list_all (λ n. leb n (2 ^ 63))
 
+-- wide extents pass, or no extent is wide
+abbrev pub widths_pass : Bool → List Axis → Bool
+widths_pass wide axes = wide || none_wide (extents axes)
+
 -- what check-in's bounds let pass (`bounds` as one test)
 abbrev pub in_bounds : LayoutM → Bool
 in_bounds l = (within l && none_wide (extents l.axes)) || zeroAmong (extents l.axes)

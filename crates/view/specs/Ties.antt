@@ -7,11 +7,14 @@ use Rattle.specification.specs.Layout.{LayoutM, rank}
 use Rattle.specification.specs.Outcome.{Check, pass, ◌>>◌}
 use Rattle.specification.specs.Views.{After, unlessRefused, withAxes, axisAt, leastExtent, strideSum, strideFault}
 use Rattle.view.specs.declared.diagonal.AxisPair.{AxisPair}
-use Rattle.view.specs.declared.diagonal.Ties.{Ties}
 
 -- a pair of axes by its two numbers
 abbrev pub pair_of : AxisPair → ℕ × ℕ
 pair_of pair = (pair.0, pair.1)
+
+-- two numbers in a row as a pair of axes
+abbrev pub two_of : List ℕ → ℕ × ℕ
+two_of two = (get_or two 0 0, get_or two 1 0)
 
 -- the pairs that a list of structs holds
 abbrev pub pairsIn : List AxisPair → List (ℕ × ℕ)
@@ -39,14 +42,6 @@ joined roots pair = map (renamed (max (rootAt roots pair.0) (rootAt roots pair.1
 abbrev pub joined_all : List ℕ → List (ℕ × ℕ) → List ℕ
 joined_all roots [] = roots
 joined_all roots (pair ∷ rest) = joined_all (joined roots pair) rest
-
--- no pair tied yet
-abbrev pub untied : ℕ → Ties
-untied rank = record { roots = own_roots; rank = rank }
-
--- pairs tied in addition
-abbrev pub tied_by : Ties → List (ℕ × ℕ) → Ties
-tied_by ties pairs = record { roots = joined_all ties.roots pairs; rank = ties.rank }
 
 -- below n no root is above its axis, and each root is its own
 pub record Rooted (n : ℕ) (roots : List ℕ) : Type 0 where

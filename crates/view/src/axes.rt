@@ -1,5 +1,5 @@
 //! Axes as they are handed in: side by side, or as a list of extents and a list of strides.
-ghost use Rattle.std.specs.Prelude.{◌≡◌, ◌<◌, ◌≤◌, List, length};
+ghost use Rattle.std.specs.Prelude.{◌≡◌, ◌<◌, List, length, pos, slice_index_or};
 ghost use Rattle.specification.specs.Axis.{Axis as AxisM, axesOf, extents};
 ghost use Rattle.specification.specs.Views.{axisAt};
 
@@ -35,13 +35,20 @@ impl Axes for &[Axis] {
     }
 }
 
-/// Two lists of at most 16 entries that are as long as each other.
+/// Two lists that are as long as each other.
 #[derive(Clone, Copy)]
 pub struct Lists<'a> {
     pub extents: &'a [u64],
     pub strides: &'a [i64],
-    ghost few: { length extents.now ≤ 16 },
     ghost alike: { length strides.now ≡ length extents.now },
+}
+
+/// A list by itself: of a list inside a struct the check knows no size.
+fn stride_at(strides: &[i64], place: usize) -> i64
+    requires { place < length strides.now }
+    ensures { result ≡ slice_index_or strides.now place (pos 0) }
+{
+    strides[place]
 }
 
 impl Axes for Lists<'_> {
@@ -49,12 +56,14 @@ impl Axes for Lists<'_> {
 
     ghost axes_of = { λ lists. axesOf lists.extents.now lists.strides.now };
 
+    #[tactic(auto, using(crate::proofs::AxesLaws::extents_axesOf))]
     fn entries(&self) -> &[u64] {
         self.extents
     }
 
+    #[tactic(auto, using(crate::proofs::AxesLaws::length_lists, crate::proofs::AxesLaws::stride_axesOf))]
     fn stride(&self, place: usize) -> i64 {
-        self.strides[place]
+        stride_at(self.strides, place)
     }
 }
 

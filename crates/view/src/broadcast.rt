@@ -5,28 +5,30 @@ ghost use Rattle.view.specs.Answers.{outcomeOf};
 ghost use Rattle.view.specs.Model.{modelOf, viewedOf, told};
 ghost use Rattle.view.specs.Refusals.{broadcast_refusal};
 
+use crate::count::Extent;
 use crate::layout::{Layout, Refusal, Viewed};
 use axis::Axis;
 
 /// The first axis whose extent is neither equal to the target nor 1.
-fn target_fault(axes: &[Axis], targets: &[u64]) -> Result<(), Refusal>
+fn target_fault<E: Extent>(axes: &[Axis], targets: &[E]) -> Result<(), Refusal>
     requires { length targets.now ≡ length axes.now }
-    ensures { outcomeOf result ≡ targetFault 0 axes.now targets.now }
+    ensures { outcomeOf result ≡ targetFault 0 axes.now (E.extents_of targets.now) }
 {
-    for (i, axis) in axes.iter().enumerate() {
-        if axis.extent != targets[i] && axis.extent != 1 {
-            return Err(Refusal::BadExtent(i));
-        }
+    let unfit = axes.iter().zip(targets).position(|(axis, target)| axis.extent != target.extent()
+        && axis.extent != 1);
+    match unfit {
+        Some(axis) => Err(Refusal::BadExtent(axis)),
+        None => Ok(()),
     }
-    Ok(())
 }
 
 /// The targets for extents: an equal extent keeps its stride, a stretched axis stands still.
-fn stretch(axes: &mut [Axis], targets: &[u64])
+fn stretch<E: Extent>(axes: &mut [Axis], targets: &[E])
     requires { length targets.now ≡ length axes.old }
-    ensures { axes.new ≡ spread axes.old targets.now }
+    ensures { axes.new ≡ spread axes.old (E.extents_of targets.now) }
 {
-    for (i, &extent) in targets.iter().enumerate() {
+    for (i, target) in targets.iter().enumerate() {
+        let extent = target.extent();
         if axes[i].extent != extent {
             axes[i] = Axis { extent, stride: 0 };
         }
@@ -35,8 +37,8 @@ fn stretch(axes: &mut [Axis], targets: &[u64])
 
 impl Layout {
     /// Every refusal of broadcast, in order.
-    fn broadcast_refusal(&self, targets: &[u64]) -> Result<(), Refusal>
-        ensures answer { outcomeOf result ≡ broadcast_refusal (modelOf self.now) targets.now }
+    fn broadcast_refusal<E: Extent>(&self, targets: &[E]) -> Result<(), Refusal>
+        ensures answer { outcomeOf result ≡ broadcast_refusal (modelOf self.now) (E.extents_of targets.now) }
         ensures few { OnOk result (self.now.rank ≤ 16) }
         ensures listed { OnOk result (length targets.now ≡ self.now.rank) }
     {
@@ -48,9 +50,8 @@ impl Layout {
     }
 
     /// Stretched to the target extents; or the refusal, and the layout as it was.
-    #[tactic(auto, using(crate::proofs::ViewLaws::broadcast_refused, crate::proofs::ViewLaws::broadcast_done, crate::proofs::ViewLaws::first_axes_spread))]
-    pub fn broadcast_in_place(&mut self, targets: &[u64]) -> Result<(), Refusal>
-        ensures told { told result self.new ≡ broadcast (modelOf self.old) targets.now }
+    pub fn broadcast_in_place<E: Extent>(&mut self, targets: &[E]) -> Result<(), Refusal>
+        ensures told { told result self.new ≡ broadcast (modelOf self.old) (E.extents_of targets.now) }
         ensures kept { OnErr result (self.new ≡ self.old) }
         ensures past { drop self.new.rank self.new.axes ≡ drop self.new.rank self.old.axes }
     {

@@ -35,6 +35,20 @@ impl Extent for u64 {
     }
 }
 
+impl Extent for usize {
+    ghost use Rattle.view.specs.Count.{map-same};
+
+    ghost extents_of = { λ list. list };
+
+    ghost extent_of = { λ n. n };
+
+    ghost each = { map-same };
+
+    fn extent(self) -> u64 {
+        self as u64
+    }
+}
+
 impl Extent for Axis {
     ghost use Rattle.specification.specs.Axis.{extents};
     ghost use Rattle.view.specs.Count.{extents-map};

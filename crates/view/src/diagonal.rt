@@ -4,10 +4,11 @@ ghost use Rattle.std.specs.Int.Count.{ones};
 ghost use Rattle.specification.specs.Views.{pairFault, diagonalView};
 ghost use Rattle.view.specs.Answers.{outcomeOf};
 ghost use Rattle.view.specs.Model.{modelOf, viewedOf, told, first_axes};
-ghost use Rattle.view.specs.Ties.{pairsIn, untied, tied_by, renamed, mask_of, Rooted, roots_below, fused_axes, fused_fault, fused_view};
+ghost use Rattle.view.specs.Ties.{pairsIn, own_roots, joined, joined_all, renamed, mask_of, Rooted, roots_below, fused_axes, fused_fault, fused_view};
 
 use crate::bounds::bounds_refusal;
 use crate::layout::{Layout, NO_AXIS, Refusal, Viewed};
+use crate::numbers::Pair;
 use axis::Axis;
 use integer::signed::checked_add;
 
@@ -18,8 +19,10 @@ pub struct AxisPair(pub usize, pub usize);
 /// The root of each axis, which is the lowest axis of its class, for the pairs tied so far.
 #[derive(Drop)]
 pub(crate) struct Ties {
-    pub roots: [usize; 16],
-    pub rank: usize,
+    roots: [usize; 16],
+    rank: usize,
+    ghost few: { rank ≤ 16 },
+    ghost rooted: { Rooted rank roots },
 }
 
 /// Each axis whose root is `from` gets the root `to`.
@@ -36,8 +39,10 @@ fn relabel(roots: &mut [usize; 16], from: usize, to: usize)
 impl Ties {
     /// Each axis is a class of its own.
     #[tactic(auto, unfolding(specification::specs::Tests::up_from))]
-    pub(crate) fn new(rank: usize) -> Self
-        ensures { result ≡ untied rank }
+    fn new(rank: usize) -> Self
+        requires { rank ≤ 16 }
+        ensures roots { result.roots ≡ own_roots }
+        ensures rank { result.rank ≡ rank }
     {
         Ties {
             roots: [0, 1, 2, 3, 4, 5, 6, 7, 8, 9, 10, 11, 12, 13, 14, 15],
@@ -47,10 +52,10 @@ impl Ties {
 
     /// One pair more: 5 with the larger axis outside the rank, then 5 for equal axes; else both classes get the lower of their roots.
     #[tactic(auto, using(crate::proofs::TieLaws::fault_outside, crate::proofs::TieLaws::fault_equal, crate::proofs::TieLaws::fault_none))]
-    pub(crate) fn tie(&mut self, a: usize, b: usize) -> Result<(), Refusal>
-        requires { self.old.rank ≤ 16 }
+    fn tie(&mut self, a: usize, b: usize) -> Result<(), Refusal>
         ensures answer { outcomeOf result ≡ pairFault self.old.rank ((a, b) ∷ []) }
-        ensures tied { OnOk result (self.new ≡ tied_by self.old ((a, b) ∷ [])) }
+        ensures roots { OnOk result (self.new.roots ≡ joined self.old.roots (a, b)) }
+        ensures rank { self.new.rank ≡ self.old.rank }
     {
         let axis = a.max(b);
         if self.rank <= axis {
@@ -66,13 +71,14 @@ impl Ties {
     }
 
     /// The pairs in order, up to the first that is refused.
-    fn tie_pairs(&mut self, pairs: &[AxisPair]) -> Result<(), Refusal>
-        requires { self.old.rank ≤ 16 }
-        ensures answer { outcomeOf result ≡ pairFault self.old.rank (pairsIn pairs.now) }
-        ensures tied { OnOk result (self.new ≡ tied_by self.old (pairsIn pairs.now)) }
+    fn tie_all<P: Pair>(&mut self, pairs: &[P]) -> Result<(), Refusal>
+        ensures answer { outcomeOf result ≡ pairFault self.old.rank (map P.numbers_of pairs.now) }
+        ensures roots { OnOk result (self.new.roots ≡ joined_all self.old.roots (map P.numbers_of pairs.now)) }
+        ensures rank { self.new.rank ≡ self.old.rank }
     {
         for pair in pairs {
-            self.tie(pair.0, pair.1)?;
+            let (a, b) = pair.numbers();
+            self.tie(a, b)?;
         }
         Ok(())
     }
@@ -130,16 +136,15 @@ fn fuse(
 
 impl Layout {
     /// Each class as one axis, at the place of its root; or refusal 3 of a sum or of the bounds, and the layout as it was.
-    pub(crate) fn fuse_in_place(&mut self, roots: &[usize; 16]) -> Result<(), Refusal>
-        requires few { self.old.rank ≤ 16 }
-        requires rooted { Rooted self.old.rank roots.now }
-        ensures told { told result self.new ≡ fused_view (modelOf self.old) roots.now }
+    fn fuse_in_place(&mut self, ties: &Ties) -> Result<(), Refusal>
+        requires { ties.now.rank ≡ self.old.rank }
+        ensures told { told result self.new ≡ fused_view (modelOf self.old) ties.now.roots }
         ensures kept { OnErr result (self.new ≡ self.old) }
         ensures past { drop self.new.rank self.new.axes ≡ drop self.new.rank self.old.axes }
     {
-        let mask = root_mask(roots, self.rank);
+        let mask = root_mask(&ties.roots, self.rank);
         let mut fused = [NO_AXIS; 16];
-        fuse(&self.axes[..self.rank], roots, mask, &mut fused)?;
+        fuse(&self.axes[..self.rank], &ties.roots, mask, &mut fused)?;
         let rank = mask.count_ones() as usize;
         bounds_refusal(self.len, self.offset, &fused[..rank])?;
         self.rank = rank;
@@ -148,16 +153,25 @@ impl Layout {
     }
 
     /// Tied axes as one axis, for pairs in order; or the refusal, and the layout as it was.
-    #[tactic(auto, using(crate::proofs::DiagonalLaws::diagonal_handed, crate::proofs::DiagonalLaws::diagonal_paired, crate::proofs::DiagonalLaws::diagonal_fused, crate::proofs::DiagonalLaws::diagonal_rooted))]
-    pub fn diagonal_in_place(&mut self, pairs: &[AxisPair]) -> Result<(), Refusal>
-        ensures told { told result self.new ≡ diagonalView (modelOf self.old) (pairsIn pairs.now) }
+    #[tactic(auto, using(crate::proofs::DiagonalLaws::diagonal_handed, crate::proofs::DiagonalLaws::diagonal_paired, crate::proofs::DiagonalLaws::diagonal_fused))]
+    pub(crate) fn diagonal_by<P: Pair>(&mut self, pairs: &[P]) -> Result<(), Refusal>
+        ensures told { told result self.new ≡ diagonalView (modelOf self.old) (map P.numbers_of pairs.now) }
         ensures kept { OnErr result (self.new ≡ self.old) }
         ensures past { drop self.new.rank self.new.axes ≡ drop self.new.rank self.old.axes }
     {
         self.handed_refusal(0)?;
         let mut ties = Ties::new(self.rank);
-        ties.tie_pairs(pairs)?;
-        self.fuse_in_place(&ties.roots)
+        ties.tie_all(pairs)?;
+        self.fuse_in_place(&ties)
+    }
+
+    /// Tied axes as one axis, for pairs in order; or the refusal, and the layout as it was.
+    pub fn diagonal_in_place(&mut self, pairs: &[AxisPair]) -> Result<(), Refusal>
+        ensures told { told result self.new ≡ diagonalView (modelOf self.old) (pairsIn pairs.now) }
+        ensures kept { OnErr result (self.new ≡ self.old) }
+        ensures past { drop self.new.rank self.new.axes ≡ drop self.new.rank self.old.axes }
+    {
+        self.diagonal_by(pairs)
     }
 
     /// The layout after it, or the refusal and the layout as it was.

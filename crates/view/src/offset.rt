@@ -42,6 +42,7 @@ fn sum_indexed(
 
 impl Layout {
     /// Refusals 1, 3, 4, then axis by axis 7 or 3; or the offset of the index vector.
+    #[tactic(auto, unfolding(specification::specs::Beside::indexedOffset), using(crate::proofs::ListedLaws::rank_model_of, crate::proofs::ListedLaws::listed_refused, crate::proofs::ListedLaws::listed_wrong, crate::proofs::ListedLaws::listed_next))]
     pub fn indexed_offset(&self, index: &[u64]) -> Result<ReadingOffset, Refusal>
         ensures { indexedOf result ≡ indexedOffset (modelOf self.now) index.now }
     {

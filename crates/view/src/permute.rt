@@ -38,6 +38,7 @@ fn reorder(axes: &mut [Axis; 16], order: &[usize])
 
 impl Layout {
     /// Every refusal of permute, in order.
+    #[tactic(auto, using(crate::proofs::ListedLaws::rank_model_of, crate::proofs::ListedLaws::listed_refused, crate::proofs::ListedLaws::listed_wrong, crate::proofs::ListedLaws::listed_next))]
     fn permute_refusal(&self, order: &[usize]) -> Result<(), Refusal>
         ensures answer { outcomeOf result ≡ permute_refusal (modelOf self.now) order.now }
         ensures few { OnOk result (self.now.rank ≤ 16) }

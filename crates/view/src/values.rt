@@ -2,7 +2,6 @@
 ghost use Rattle.std.specs.Prelude.{◌≡◌, ◌≤◌};
 
 /// The first `count` of two values.
-#[repr(C)]
 #[derive(Clone, Copy, Debug)]
 pub struct Values {
     pub count: usize,

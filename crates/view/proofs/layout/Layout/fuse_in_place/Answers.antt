@@ -35,12 +35,12 @@ returns-in_err-fuse-clause-told c =
     let s = c.args.self.now in
     let is = first_axes_take s.axes s.rank (search rules) in
     let p = err_from_is_err_and c.from_residual.result c.from_residual.ensures.1 in
-    rw (p.1, p.2) (sum_refused (modelOf s) c.args.roots.now _ _ (fault-is (modelOf s) c.args.roots.now is c.in_err-fuse.ensures.answer))
+    rw (p.1, p.2) (sum_refused (modelOf s) c.args.ties.now.roots _ _ (fault-is (modelOf s) c.args.ties.now.roots is c.in_err-fuse.ensures.answer))
 
 pub returns-in_err-bounds_refusal-clause-told : goal.returns-in_err-bounds_refusal-clause-told
 returns-in_err-bounds_refusal-clause-told c =
     let s = c.args.self.now in
-    let roots = c.args.roots.now in
+    let roots = c.args.ties.now.roots in
     let fused = c.fuse.new.fused in
     let n : ℕ = ones c.root_mask-mask.result in
     let is = first_axes_take s.axes s.rank (search rules) in
@@ -52,7 +52,7 @@ returns-in_err-bounds_refusal-clause-told c =
 pub returns-clause-told : goal.returns-clause-told
 returns-clause-told c =
     let s = c.args.self.now in
-    let roots = c.args.roots.now in
+    let roots = c.args.ties.now.roots in
     let fused = c.fuse.new.fused in
     let n : ℕ = ones c.root_mask-mask.result in
     let is = first_axes_take s.axes s.rank (search rules) in

@@ -1,7 +1,7 @@
--- A list given by a function of the place: what a loop over 0, 1, .. fills.
+-- A list given by a function of the place.
 use Rattle.std.specs.Prelude.{List, [], ◌∷◌, ◌++◌, ℕ, zero, suc}
 
--- f 0, .., f (n - 1); a turn of a loop adds the last one
+-- f 0, .., f (n - 1)
 unfoldable pub table : {A : Type 0} → ℕ → (ℕ → A) → List A
 table zero f = []
 table (suc n) f = table n f ++ (f n ∷ [])

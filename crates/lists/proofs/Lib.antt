@@ -1,2 +1,0 @@
-pub mod TableLaws
-pub mod PartLaws
