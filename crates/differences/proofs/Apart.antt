@@ -15,7 +15,7 @@ use Rattle.differences.specs.Differences.{IsDistance, distance_at}
 use Rattle.differences.specs.AxisDifferences.{axes_of, number_of, up_of, down_of, IsSmall}
 use Rattle.differences.proofs.VectorLaws.{digit_of, number-low}
 use Rattle.differences.proofs.DistanceLaws.{distance-of}
-use Rattle.differences.proofs.ZeroVector.{head-some}
+use Rattle.differences.proofs.AxisLaws.{head-some}
 use Rattle.differences.proofs.Swapping.{IsLevel, opposite, opposite-axes, opposite-small, opposite-up, opposite-down, opposite-level, opposite-number, own-level, level-own}
 
 pub record Apart (axes : List ActiveAxis) (n : ℕ) : Type 0 where

@@ -1,7 +1,7 @@
 -- The vector that the code holds is the definitions' vector of its number, and its distance is how far the two sums are apart.
 use mathlib.Core.List.{List, [], ◌∷◌}
 use mathlib.Core.Logic.{◌⊎◌, inl, inr}
-use mathlib.Core.Path.{◌≡◌, refl, sym, ap, ap₂, ◌∙◌}
+use mathlib.Core.Path.{◌≡◌, refl, sym, ap, ap₂, subst, ◌∙◌}
 use Prim.Native.Nat.{ℕ, ◌+◌, ◌*◌, ◌-◌, ◌/◌, ◌%◌, ◌<◌}
 use native.Mathlib.Omega.{arith}
 use lib.Arith.{digits_div, digits_mod}
@@ -12,7 +12,7 @@ use Rattle.integer.specs.Parts.{posPart, negPart}
 use Rattle.integer.proofs.PartLaws.{parts_add, posPart-scale, negPart-scale, natAbs-parts, one-part-zero}
 use Rattle.integer.proofs.SignedEquation.{shifted}
 use Rattle.specification.specs.Axis.{index_at}
-use Rattle.specification.specs.Search.{widths, differenceSum, fromDigits}
+use Rattle.specification.specs.Search.{widths, differenceSum, differenceAt, fromDigits}
 use Rattle.differences.specs.declared.AxisDifference.{AxisDifference}
 use Rattle.differences.specs.Differences.{distance_at}
 use Rattle.differences.specs.AxisDifferences.{axes_of, number_of, up_of, down_of, IsSmall}
@@ -59,7 +59,11 @@ gap-of z up down e = go (one-part-zero z)
     go (inl p) = omega (arith, natAbs-parts z)
     go (inr p) = omega (arith, natAbs-parts z)
 
+-- the sum of the vector with this number, in its two parts
+pub parts-at : (ds : List AxisDifference) → All IsSmall ds
+    → posPart (differenceSum (axes_of ds) (differenceAt (axes_of ds) (number_of ds))) + down_of ds ≡ up_of ds + negPart (differenceSum (axes_of ds) (differenceAt (axes_of ds) (number_of ds)))
+parts-at ds h = subst (λ (x : List ℕ). posPart (differenceSum (axes_of ds) (fromDigits (axes_of ds) x)) + down_of ds ≡ up_of ds + negPart (differenceSum (axes_of ds) (fromDigits (axes_of ds) x)))
+    (sym (digits-of-number ds h)) (sum-parts ds h)
+
 pub distance-of : (ds : List AxisDifference) → All IsSmall ds → up_of ds - down_of ds + (down_of ds - up_of ds) ≡ distance_at (axes_of ds) (number_of ds)
-distance-of ds h =
-    gap-of (differenceSum (axes_of ds) (fromDigits (axes_of ds) (digits_of ds))) (up_of ds) (down_of ds) (sum-parts ds h)
-    ∙ ap (λ (x : List ℕ). nat_abs (differenceSum (axes_of ds) (fromDigits (axes_of ds) x))) (sym (digits-of-number ds h))
+distance-of ds h = gap-of (differenceSum (axes_of ds) (differenceAt (axes_of ds) (number_of ds))) (up_of ds) (down_of ds) (parts-at ds h)

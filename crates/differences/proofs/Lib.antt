@@ -1,8 +1,10 @@
 -- The laws of differences, lowest first.
-mod VectorLaws
+pub mod AxisLaws
+pub mod VectorLaws
 mod Advancing
-mod DistanceLaws
+pub mod DistanceLaws
 pub mod ZeroVector
+pub mod BoxLaws
 mod Swapping
 mod Apart
 pub mod Meeting

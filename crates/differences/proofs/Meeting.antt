@@ -16,9 +16,11 @@ use Rattle.specification.proofs.Digits.{PositiveExtents, none, more}
 use Rattle.specification.proofs.Differences.{EqualSums}
 use Rattle.specification.proofs.SearchLaws.{same-pair, no_same}
 use Rattle.differences.specs.declared.AxisDifference.{AxisDifference}
-use Rattle.differences.specs.Differences.{Meets, in_first, in_second, in_both, Walkable}
+use Rattle.differences.specs.Differences.{IsDistance, Meets, in_first, in_second, in_both, Walkable}
 use Rattle.differences.specs.AxisDifferences.{axes_of, up_of, down_of, IsSmall}
-use Rattle.differences.proofs.ZeroVector.{head-some, zero_vector, zero-axes, zero-small, zero-up, zero-down}
+use Rattle.differences.proofs.AxisLaws.{head-some}
+use Rattle.differences.proofs.BoxLaws.{some-total}
+use Rattle.differences.proofs.ZeroVector.{zero_vector, zero-axes, zero-small, zero-up, zero-down}
 use Rattle.differences.proofs.Swapping.{IsLevel, opposite, opposite-axes, opposite-small, opposite-up, opposite-down}
 use Rattle.differences.proofs.Apart.{Apart, turned, apart-distance, distance-apart}
 
@@ -80,8 +82,8 @@ level-sums (d ∷ v) h = ap₂ (λ (i n : ℕ). i * d.axis.stride + n) (All-head
 -- ---- the two parts
 
 module _ (u v : List ActiveAxis) (hu : 0 < total u) (hv : 0 < total v) where
-  meets-whole : Meets u v → Apart (u ++ v) 0
-  meets-whole (in_first d) =
+  meets-apart : Meets u v → Apart (u ++ v) 0
+  meets-apart (in_first d) =
       let a = distance-apart hu d in
       record {
         vector = a.vector ++ zero_vector v;
@@ -90,7 +92,7 @@ module _ (u v : List ActiveAxis) (hu : 0 < total u) (hv : 0 < total v) where
         other = λ l. a.other (all-first IsLevel a.vector (zero_vector v) l);
         is = omega (arith, up-append a.vector (zero_vector v), down-append a.vector (zero_vector v), zero-up v, zero-down v, a.is);
       }
-  meets-whole (in_second d) =
+  meets-apart (in_second d) =
       let a = distance-apart hv d in
       record {
         vector = zero_vector u ++ a.vector;
@@ -99,7 +101,7 @@ module _ (u v : List ActiveAxis) (hu : 0 < total u) (hv : 0 < total v) where
         other = λ l. a.other (all-second IsLevel (zero_vector u) a.vector l);
         is = omega (arith, up-append (zero_vector u) a.vector, down-append (zero_vector u) a.vector, zero-up u, zero-down u, a.is);
       }
-  meets-whole (in_both n d f) =
+  meets-apart (in_both n d f) =
       let a = distance-apart hu d in
       let b = distance-apart hv f in
       record {
@@ -110,8 +112,8 @@ module _ (u v : List ActiveAxis) (hu : 0 < total u) (hv : 0 < total v) where
         is = omega (arith, up-append a.vector (opposite b.vector), down-append a.vector (opposite b.vector), opposite-up b.vector, opposite-down b.vector, a.is, b.is);
       }
 
-  whole-meets : Apart (u ++ v) 0 → Meets u v
-  whole-meets p = go (parted u v p.vector p.axes-are)
+  apart-meets : Apart (u ++ v) 0 → Meets u v
+  apart-meets p = go (parted u v p.vector p.axes-are)
     where
       go : Parted u v p.vector → Meets u v
       go s = pick (level? s.front) (level? s.back) (dec_le (down_of s.front) (up_of s.front))
@@ -217,12 +219,12 @@ pair-same l p = go (sameSum? l)
     go (yes s) = s
     go (no n) = absurd (p.other (no_same l n p.x p.y p.bx p.by p.same))
 
-total-append : (u v : List ActiveAxis) → total (u ++ v) ≡ total u * total v
+pub total-append : (u v : List ActiveAxis) → total (u ++ v) ≡ total u * total v
 unfolding product
 total-append [] v = omega arith
 total-append (a ∷ u) v = let z = ap (λ (n : ℕ). a.extent * n) (total-append u v) in omega arith
 
-span-append : (u v : List ActiveAxis) → spanSum (u ++ v) ≡ spanSum u + spanSum v
+pub span-append : (u v : List ActiveAxis) → spanSum (u ++ v) ≡ spanSum u + spanSum v
 unfolding spanSum
 span-append [] v = omega arith
 span-append (a ∷ u) v = omega (arith, span-append u v)
@@ -230,12 +232,22 @@ span-append (a ∷ u) v = omega (arith, span-append u v)
 both-some : (u v : List ActiveAxis) → 0 < total (u ++ v) → (0 < total u) × (0 < total v)
 both-some u v h = head-some (total u) (total v) (omega (arith, total-append u v))
 
+-- two positions have one sum exactly if 0 is a distance
+pub clash-distance : (l : List ActiveAxis) → 0 < total l → SameSum l → IsDistance l 0
+clash-distance l h s = apart-distance (pair-apart l (same-pair l (positive-extents l h) s))
+
+pub distance-clash : (l : List ActiveAxis) → IsDistance l 0 → SameSum l
+distance-clash l d = pair-same l (apart-pair (distance-apart (some-total l (omega (arith, d.below))) d))
+
+-- and 0 is a distance exactly if the distances of two parts meet
+pub meets-whole : (u v : List ActiveAxis) → 0 < total (u ++ v) → Meets u v → IsDistance (u ++ v) 0
+meets-whole u v h m = let b = both-some u v h in apart-distance (meets-apart u v b.0 b.1 m)
+
+pub whole_meets : (u v : List ActiveAxis) → 0 < total (u ++ v) → IsDistance (u ++ v) 0 → Meets u v
+whole_meets u v h d = let b = both-some u v h in apart-meets u v b.0 b.1 (distance-apart h d)
+
 pub meets-same : (u v : List ActiveAxis) → 0 < total (u ++ v) → Meets u v ↔ SameSum (u ++ v)
-meets-same u v h =
-    let b = both-some u v h in (
-      λ m. pair-same (u ++ v) (apart-pair (meets-whole u v b.0 b.1 m)),
-      λ s. whole-meets u v b.0 b.1 (pair-apart (u ++ v) (same-pair (u ++ v) (positive-extents (u ++ v) h) s)),
-    )
+meets-same u v h = (λ m. distance-clash (u ++ v) (meets-whole u v h m), λ s. whole_meets u v h (clash-distance (u ++ v) h s))
 
 -- each part of axes that can be walked over can
 pub first-walkable : (u v : List ActiveAxis) → Walkable (u ++ v) → Walkable u

@@ -3,7 +3,6 @@ use mathlib.Core.List.{List, [], ◌∷◌}
 use mathlib.Core.Path.{◌≡◌, refl, ap, ◌∙◌}
 use Prim.Native.Nat.{ℕ, zero, suc, ◌+◌, ◌*◌, ◌-◌, ◌<◌, ◌≤◌}
 use native.Mathlib.Nat.{mul-le-mul_left, mul-le-mul_right}
-use native.Mathlib.Numerals.{add-one}
 use native.Mathlib.Omega.{arith}
 use lib.ListN.{length, get_or, set, take}
 use Rattle.std.specs.List.{All}
@@ -12,10 +11,12 @@ use Rattle.specification.specs.Axis.{product}
 use Rattle.specification.specs.Search.{spanSum, box}
 use Rattle.differences.specs.declared.AxisDifference.{AxisDifference}
 use Rattle.differences.specs.AxisDifferences.{axes_of, number_of, up_of, down_of, IsSmall}
+use Rattle.differences.proofs.AxisLaws.{no_axis}
+use Rattle.differences.proofs.AxisLaws as axes
 
 -- what is read past the end
 abbrev pub nothing : AxisDifference
-nothing = record { axis = record { axis = 0; extent = 0; stride = 0 }; above = 0; below = 0 }
+nothing = record { axis = no_axis; above = 0; below = 0 }
 
 abbrev pub entry : List AxisDifference → ℕ → AxisDifference
 entry ds j = get_or ds j nothing
@@ -58,15 +59,14 @@ number-set [] j d h e = absurd (omega arith)
 number-set (c ∷ ds) zero d h e = omega (arith, ap (λ a. (2 * a.extent - 1) * number_of ds) e)
 number-set (c ∷ ds) (suc j) d h e = let z = ap (λ (n : ℕ). (2 * c.axis.extent - 1) * n) (number-set ds j d (omega arith) e) in omega arith
 
--- one axis more
-box-suc : (ds : List AxisDifference) (j : ℕ) → j < length ds → box_before ds (suc j) ≡ box_before ds j * (2 * (entry ds j).axis.extent - 1)
-unfolding product
-box-suc [] j h = absurd (omega arith)
-box-suc (c ∷ ds) zero h = omega arith
-box-suc (c ∷ ds) (suc j) h = let z = ap (λ (n : ℕ). (2 * c.axis.extent - 1) * n) (box-suc ds j (omega arith)) in omega arith
+axis-entry : (ds : List AxisDifference) (j : ℕ) → get_or (axes_of ds) j no_axis ≡ (entry ds j).axis
+axis-entry [] j = refl
+axis-entry (c ∷ ds) zero = refl
+axis-entry (c ∷ ds) (suc j) = axis-entry ds j
 
+-- one axis more
 pub box-more : (ds : List AxisDifference) (j : ℕ) → j < length ds → box_before ds (j + 1) ≡ box_before ds j * (2 * (entry ds j).axis.extent - 1)
-box-more ds j h = ap (box_before ds) (add-one j) ∙ box-suc ds j h
+box-more ds j h = axes.box-more (axes_of ds) j (omega (arith, axes-length ds)) ∙ ap (λ a. box_before ds j * (2 * a.extent - 1)) (axis-entry ds j)
 
 -- no sum is above the span
 pub up-low : (ds : List AxisDifference) → All IsSmall ds → up_of ds ≤ spanSum (axes_of ds)

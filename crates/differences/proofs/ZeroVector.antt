@@ -1,7 +1,7 @@
 -- The vector of no difference: its number is in the middle, and its sums are 0.
 use mathlib.Core.List.{List, [], ◌∷◌}
 use mathlib.Core.Path.{◌≡◌, refl, sym, ap, ◌∙◌}
-use Prim.Native.Nat.{ℕ, zero, suc, ◌+◌, ◌*◌, ◌-◌, ◌<◌, ◌≤◌}
+use Prim.Native.Nat.{ℕ, ◌+◌, ◌*◌, ◌-◌, ◌<◌, ◌≤◌}
 use native.Mathlib.Omega.{arith}
 use lib.ListN.{length, take}
 use lib.Seq.{take_all}
@@ -11,6 +11,7 @@ use Rattle.std.proofs.lemmas.List.Elements.{All-nil, All-cons}
 use Rattle.specification.specs.Axis.{product}
 use Rattle.specification.specs.Search.{ActiveAxis, total, box, half}
 use Rattle.differences.specs.declared.AxisDifference.{AxisDifference}
+use Rattle.differences.proofs.AxisLaws.{head-some}
 use Rattle.differences.specs.Differences.{Walkable}
 use Rattle.differences.specs.AxisDifferences.{axes_of, number_of, up_of, down_of, IsSmall, Stands}
 
@@ -24,12 +25,6 @@ zero_vector = map zero_on
 pub zero-axes : (axes : List ActiveAxis) → axes_of (zero_vector axes) ≡ axes
 zero-axes [] = refl
 zero-axes (a ∷ rest) = ap (λ z. a ∷ z) (zero-axes rest)
-
--- where there is a position, no extent is 0
-pub head-some : (e n : ℕ) → 0 < e * n → (0 < e) × (0 < n)
-head-some zero n h = absurd (omega arith)
-head-some (suc e) zero h = absurd (omega arith)
-head-some (suc e) (suc n) h = (omega arith, omega arith)
 
 pub zero-small : (axes : List ActiveAxis) → 0 < total axes → All IsSmall (zero_vector axes)
 unfolding product

@@ -1,6 +1,8 @@
 //! The difference vectors of active axes, one after another, each with the distance of its sum from 0.
 #![tactic(auto)]
 
+pub mod boxes;
+
 ghost use Rattle.std.specs.Prelude.{◌≡◌, ◌+◌, ◌<◌, length, IfSome, IfNone, IsTrue, IsFalse};
 ghost use Rattle.specification.specs.Search.{box, half};
 ghost use Rattle.differences.specs.Differences.{Walkable, distance_at};
@@ -10,11 +12,11 @@ use axis::ActiveAxis;
 use std::marker::Model;
 
 // A difference of two indices of an axis, in two parts of which one is 0: what is above 0, and what is below it without its sign.
-#[derive(Clone, Copy)]
-struct AxisDifference {
-    axis: ActiveAxis,
-    above: u64,
-    below: u64,
+#[derive(Clone, Copy, Debug, PartialEq, Eq)]
+pub struct AxisDifference {
+    pub axis: ActiveAxis,
+    pub above: u64,
+    pub below: u64,
 }
 
 impl AxisDifference {
@@ -30,14 +32,14 @@ impl AxisDifference {
 }
 
 // The sum of the parts above 0, each times its stride, and that of the parts below. Both fit a word where the span does.
-#[derive(Clone, Copy)]
-struct Sums {
-    up: u64,
-    down: u64,
+#[derive(Clone, Copy, Debug, PartialEq, Eq)]
+pub struct Sums {
+    pub up: u64,
+    pub down: u64,
 }
 
 // On to the next vector, the first axis fastest. After the last comes the first, and the answer is false.
-fn advance(differences: &mut [AxisDifference], sums: &mut Sums) -> bool
+pub fn advance(differences: &mut [AxisDifference], sums: &mut Sums) -> bool
     requires stands { Stands differences.old sums.old }
     ensures stands { Stands differences.new sums.new }
     ensures axes { axes_of differences.new ≡ axes_of differences.old }

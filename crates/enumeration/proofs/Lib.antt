@@ -1,7 +1,4 @@
 -- The laws of step 6, lowest first.
 mod TableLaws
 mod Visits
-mod Filling
-mod LookingUp
 mod OutcomeLaws
-mod PartLaws

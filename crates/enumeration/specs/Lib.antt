@@ -1,4 +1,6 @@
 pub mod Words
-pub mod Table
+pub mod Homes
+pub mod Held
+pub mod Sound
 pub mod Parts
 pub mod Enumeration

@@ -1,9 +1,9 @@
 -- The two parts that the axes of a block are split into, and what the walks over their differences leave and ask.
-use Rattle.std.specs.Prelude.{List, ◌≢◌, ◌⊎◌, ◌≡◌, ℕ, ◌+◌, ◌*◌, ◌≤◌, length, take}
+use Rattle.std.specs.Prelude.{List, ◌⊎◌, ◌≡◌, ◌↔◌, ℕ, ◌+◌, ◌*◌, ◌≤◌, length, take, IsTrue}
+use Rattle.std.specs.FinSet.{FinSet, contains}
+use Rattle.std.specs.Ordering.{nat_cmp}
 use Rattle.specification.specs.Search.{ActiveAxis, box}
 use Rattle.differences.specs.Differences.{IsDistance}
-use Rattle.enumeration.specs.Words.{at}
-use Rattle.enumeration.specs.Table.{Holds, AtMost}
 
 -- the first part: the axes before `place`, with so many difference vectors, all of which have room in so many words
 pub record SplitFor (axes : List ActiveAxis) (words place vectors : ℕ) : Type 0 where
@@ -11,12 +11,10 @@ pub record SplitFor (axes : List ActiveAxis) (words place vectors : ℕ) : Type 
   pub vectors-are : vectors ≡ box (take place axes)
   pub room : 2 * vectors ≤ words + 1
 
--- no distance is 0, and the table holds every distance and nothing else, none above `most`
-pub record Filled (axes : List ActiveAxis) (homes : ℕ) (table : List ℕ) (most : ℕ) : Type 0 where
-  pub all : (n : ℕ) → IsDistance axes n → (n ≢ 0) × Holds homes table n
-  pub only : (i : ℕ) → at table i ≢ 0 → IsDistance axes (at table i)
-  pub low : AtMost most table
+-- the numbers are the distances
+abbrev pub AreDistances : List ActiveAxis → FinSet nat_cmp → Type 0
+AreDistances axes numbers = (n : ℕ) → IsTrue (contains numbers n) ↔ IsDistance axes n
 
--- some distance is 0, or one that the table holds
-abbrev pub MeetsTable : List ActiveAxis → ℕ → List ℕ → Type 0
-MeetsTable axes homes table = IsDistance axes 0 ⊎ ((n : ℕ) × IsDistance axes n × Holds homes table n)
+-- some distance is 0, or one of the numbers
+abbrev pub MeetsNumbers : List ActiveAxis → FinSet nat_cmp → Type 0
+MeetsNumbers axes numbers = IsDistance axes 0 ⊎ ((n : ℕ) × IsDistance axes n × IsTrue (contains numbers n))

@@ -15,6 +15,7 @@ use crate::parts::{Split, meet, split_axes};
 use axis::ActiveAxis;
 
 // How many words the enumeration needs.
+#[tactic(auto, unfolding(specification::specs::Search::wordsFor))]
 fn words_needed(total: u64, span: u64) -> u64
     ensures { result ≡ wordsFor total span }
 {
@@ -32,7 +33,7 @@ fn has_equal_sums(block: &[ActiveAxis], words: &mut [u64]) -> bool
     let Split { place, vectors } = split_axes(block, words.len());
     let (first, second) = block.split_at(place);
     let room = (2 * vectors - 1) as usize;
-    meet(first, second, &mut words[..room], vectors)
+    meet(first, second, &mut words[..room])
 }
 
 /// Step 6 for a block of at most 16 axes with its total and its span: `Ok(true)` where no two positions have one sum, `Ok(false)` where

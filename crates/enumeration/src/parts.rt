@@ -1,14 +1,14 @@
 // The two parts of a block's axes, and the walks over their differences: the distances of the first part are put into a table,
 // and those of the second are looked up there.
-ghost use Rattle.std.specs.Prelude.{◌≡◌, ◌↔◌, ◌+◌, ◌*◌, ◌<◌, ◌≤◌, ◌^◌, length, IsTrue, IfSome, IfNone};
+ghost use Rattle.std.specs.Prelude.{◌≡◌, ◌↔◌, ◌+◌, ◌*◌, ◌<◌, ◌≤◌, ◌^◌, length, IsTrue, IsNone, IfSome};
 ghost use Rattle.specification.specs.Search.{total, box};
 ghost use Rattle.differences.specs.Differences.{Walkable, IsDistance, Meets};
-ghost use Rattle.enumeration.specs.Table.{Clear, AtMost};
-ghost use Rattle.enumeration.specs.Parts.{SplitFor, Filled, MeetsTable};
+ghost use Rattle.enumeration.specs.Parts.{SplitFor, AreDistances, MeetsNumbers};
 
-use crate::table;
+use crate::table::Table;
 use axis::ActiveAxis;
 use differences::Differences;
+use differences::boxes::box_within;
 
 // How many axes the first part has, and how many difference vectors.
 #[derive(Clone, Copy)]
@@ -17,26 +17,8 @@ pub struct Split {
     pub vectors: u64,
 }
 
-// Whether the axes have at least `goal` difference vectors.
-fn reaches(axes: &[ActiveAxis], goal: u64) -> bool
-    requires some { 0 < total axes.now }
-    requires goal { goal ≤ 2 ^ 63 }
-{
-    let mut vectors: u64 = 1;
-    for axis in axes {
-        if axis.extent >= goal {
-            return true;
-        }
-        let width = axis.extent + (axis.extent - 1);
-        if width > goal / vectors {
-            return true;
-        }
-        vectors *= width;
-    }
-    vectors >= goal
-}
-
 // The longest first part that has room in so many words, and no more difference vectors than the rest. Any other would be as right.
+#[tactic(auto, unfolding(specification::specs::Axis::product), using(differences::proofs::BoxLaws::extent_at, differences::proofs::BoxLaws::total_rest))]
 pub fn split_axes(axes: &[ActiveAxis], words: usize) -> Split
     requires some { 0 < total axes.now }
     requires words { 0 < words }
@@ -54,7 +36,7 @@ pub fn split_axes(axes: &[ActiveAxis], words: usize) -> Split
             return Split { place, vectors };
         }
         let next = vectors * width;
-        if !reaches(&axes[place + 1..], next) {
+        if box_within(&axes[place + 1..], next).is_some_and(|rest| rest < next) {
             return Split { place, vectors };
         }
         vectors = next;
@@ -65,55 +47,48 @@ pub fn split_axes(axes: &[ActiveAxis], words: usize) -> Split
     }
 }
 
-// Puts each distance of the part into the table, which is clear, and tells the largest; `None` if one is 0.
-fn fill(axes: &[ActiveAxis], table: &mut [u64], homes: u64) -> Option<u64>
+// The distances of the part in a table, in words that hold anything; `None` if one is 0.
+fn fill<'a>(axes: &[ActiveAxis], words: &'a mut [u64]) -> Option<Table<'a>>
     requires walkable { Walkable axes.now }
-    requires clear { Clear table.old }
-    requires homes { homes ≡ box axes.now }
-    requires room { 2 * box axes.now ≤ length table.old + 1 }
-    ensures zero { IfNone result (IsDistance axes.now 0) }
-    ensures filled { IfSome result (λ most. Filled axes.now homes table.new most) }
+    requires room { box axes.now ≤ length words.old }
+    ensures zero { IsNone result ↔ IsDistance axes.now 0 }
+    ensures filled { IfSome result (λ table. AreDistances axes.now table.numbers) }
 {
-    let mut most: u64 = 0;
+    let mut table = Table::new(words);
     let mut differences = Differences::new(axes);
     while let Some(distance) = differences.next() {
         if distance == 0 {
             return None;
         }
-        table::put(table, homes, distance);
-        most = most.max(distance);
+        table.put(distance);
     }
-    Some(most)
+    Some(table)
 }
 
 // Whether some distance of the part is 0, or one that the table holds.
-fn meets(axes: &[ActiveAxis], table: &[u64], homes: u64, most: u64) -> bool
-    requires walkable { Walkable axes.now }
-    requires homes { 0 < homes }
-    requires most { AtMost most table.now }
-    ensures { IsTrue result ↔ MeetsTable axes.now homes table.now }
+fn meets(axes: &[ActiveAxis], table: &Table) -> bool
+    requires { Walkable axes.now }
+    ensures { IsTrue result ↔ MeetsNumbers axes.now table.now.numbers }
 {
     let mut differences = Differences::new(axes);
     while let Some(distance) = differences.next() {
-        if distance == 0 || table::holds(table, homes, most, distance) {
+        if distance == 0 || table.holds(distance) {
             return true;
         }
     }
     false
 }
 
-// Whether two index vectors of both parts together have one sum, in words that hold anything; `vectors` is how many differences
-// the first part has.
-pub fn meet(first: &[ActiveAxis], second: &[ActiveAxis], table: &mut [u64], vectors: u64) -> bool
+// Whether two index vectors of both parts together have one sum, in words that hold anything, at least as many as the first
+// part has difference vectors.
+pub fn meet(first: &[ActiveAxis], second: &[ActiveAxis], words: &mut [u64]) -> bool
     requires first { Walkable first.now }
     requires second { Walkable second.now }
-    requires vectors { vectors ≡ box first.now }
-    requires room { 2 * box first.now ≤ length table.old + 1 }
+    requires room { box first.now ≤ length words.old }
     ensures { IsTrue result ↔ Meets first.now second.now }
 {
-    table::clear(table);
-    match fill(first, table, vectors) {
+    match fill(first, words) {
         None => true,
-        Some(most) => meets(second, table, vectors, most),
+        Some(table) => meets(second, &table),
     }
 }

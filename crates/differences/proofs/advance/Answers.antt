@@ -1,6 +1,6 @@
 -- Each goal of `advance` is a law of `Advancing`, at one turn of its loop: a difference comes nearer to 0, goes up, or goes around.
 use native.Mathlib.Omega.{arith}
-use Rattle.differences.proofs.Advancing.{advancing-start, near-fits, near-stands, near-axes, near-on, extent-some, far-fits, far-stands, far-axes, far-on, back-least, back-fits, advancing-more, all-around}
+use Rattle.differences.proofs.Advancing.{advancing-start, near-fits, near-stands, near-axes, near-on, far-fits, far-stands, far-axes, far-on, back-least, back-fits, advancing-more, all-around}
 use Rattle.differences.proofs.advance.Goals as goal
 
 pub loop-difference-init : goal.loop-difference-init
@@ -17,9 +17,6 @@ returns-then-difference-gt0-clause-axes c = near-axes _ _ _ _ c.loop-difference.
 
 pub returns-then-difference-gt0-clause-on : goal.returns-then-difference-gt0-clause-on
 returns-then-difference-gt0-clause-on c = λ _. near-on _ _ _ _ c.loop-difference.invariant (omega arith) c.if-difference-gt0.true
-
-pub overflow_sub-last : goal.overflow_sub-last
-overflow_sub-last c = extent-some _ _ _ _ c.loop-difference.invariant (omega arith)
 
 pub overflow_add-sums : goal.overflow_add-sums
 overflow_add-sums c = record { fits = far-fits _ _ _ _ c.loop-difference.invariant (omega arith) c.if-difference-gt0.false c.if-difference-last.true }
@@ -44,12 +41,6 @@ overflow_add-sums-in-loop-difference c = record { fits = back-fits _ _ _ _ c.loo
 
 pub loop-difference-preserved : goal.loop-difference-preserved
 loop-difference-preserved c = advancing-more _ _ _ _ c.loop-difference.invariant (omega arith) c.if-difference-gt0.false c.if-difference-last.false
-
-pub returns-clause-stands : goal.returns-clause-stands
-returns-clause-stands c = c.loop-difference.invariant.stands
-
-pub returns-clause-axes : goal.returns-clause-axes
-returns-clause-axes c = c.loop-difference.invariant.axes
 
 pub returns-clause-last : goal.returns-clause-last
 returns-clause-last c = λ _. all-around _ _ _ _ c.loop-difference.invariant (omega (arith, c.loop-difference.auto.differences, c.loop-difference-test.false))

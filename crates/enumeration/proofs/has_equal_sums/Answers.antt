@@ -8,7 +8,7 @@ use lib.ListN.{take, drop, take-append-drop}
 use Rattle.specification.specs.Search.{ActiveAxis, box, SameSum}
 use Rattle.differences.specs.Differences.{Walkable, Meets}
 use Rattle.differences.proofs.Meeting.{first-walkable, second-walkable, meets-same}
-use Rattle.enumeration.proofs.PartLaws.{box-some}
+use Rattle.differences.proofs.BoxLaws.{box-some}
 use Rattle.enumeration.proofs.has_equal_sums.Goals as goal
 
 module _ (block u v : List ActiveAxis) (c : ℕ) (front : u ≡ take c block) (back : v ≡ drop c block) (w : Walkable block) where

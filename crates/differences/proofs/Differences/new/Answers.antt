@@ -1,11 +1,8 @@
 -- `new` leaves the zero vector in front.
-use mathlib.Core.Path.{refl, ap, ap₂, ◌∙◌}
+use mathlib.Core.Path.{ap, ap₂, ◌∙◌}
 use Rattle.differences.specs.AxisDifferences.{axes_of, number_of}
 use Rattle.differences.proofs.ZeroVector.{set-all, zero-axes, zero-number, zero-stands}
 use Rattle.differences.proofs.Differences.new.Goals as goal
-
-pub loop-j-init : goal.loop-j-init
-loop-j-init c = record { long = refl; few = c.requires.few; front = refl }
 
 pub invariant_of-result : goal.invariant_of-result
 invariant_of-result c =

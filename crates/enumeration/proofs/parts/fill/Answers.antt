@@ -1,31 +1,44 @@
--- Each goal of `fill` is a law of `Filling`, at one turn of its loop.
-use mathlib.Core.Path.{sym, subst}
+-- `fill` meets its contract: at each turn the table holds the distances so far, and has room for those to come.
+use mathlib.Core.Logic.{◌⊎◌, inl, inr}
+use mathlib.Core.Path.{◌≡◌, sym, ap, subst}
 use native.Mathlib.Omega.{arith}
-use Rattle.enumeration.proofs.Filling.{Filling, filling-start, filling-zero, filling-free, homes-above, filling-more, filling-less}
+use Rattle.std.specs.Prelude.{ℕ}
+use Rattle.differences.specs.Differences.{IsDistance}
+use Rattle.differences.proofs.ZeroVector.{half-doubled}
+use Rattle.differences.proofs.BoxLaws.{box-some}
+use Rattle.enumeration.proofs.TableLaws.{none_in, put-has, put-keeps, put-only}
+use Rattle.enumeration.proofs.Visits.{Visiting, visiting-start, visiting-below, visiting-distance, visiting-more}
 use Rattle.enumeration.proofs.parts.fill.Goals as goal
 
+pub new-table-requires : goal.new-table-requires
+new-table-requires c = omega (arith, c.requires.room, box-some c.args.axes.now c.requires.walkable.some)
+
 pub loop-distance-init : goal.loop-distance-init
-loop-distance-init c = subst (λ w. Filling c.args.axes.now c.args.homes w c.args.table.now 0) (sym c.new-differences.ensures) (filling-start _ _ _ c.requires.walkable.some c.requires.clear c.requires.homes c.requires.room)
+loop-distance-init c = record {
+  visited = subst (Visiting c.args.axes.now _) (sym c.new-differences.ensures) (visiting-start c.args.axes.now _);
+  only = λ n h. absurd (none_in c.new-table.result.numbers (ap (λ t. t.numbers) c.new-table.ensures) n h);
+  room = omega (arith, c.requires.room, ap (λ t. t.room) c.new-table.ensures, half-doubled c.args.axes.now c.requires.walkable.some);
+}
 
-pub returns-then-distance-eq0-clause-zero : goal.returns-then-distance-eq0-clause-zero
-returns-then-distance-eq0-clause-zero c =
+pub put-requires-clause-room : goal.put-requires-clause-room
+put-requires-clause-room c =
     let v = c.in-Some.ensures in
-    filling-zero _ _ _ _ _ c.loop-distance.invariant _ _ v.axes v.on v.within v.distance c.if-distance-eq0.true
-
-pub put-requires-clause-homes : goal.put-requires-clause-homes
-put-requires-clause-homes c = homes-above _ _ _ _ _ c.loop-distance.invariant
-
-pub put-requires-clause-free : goal.put-requires-clause-free
-put-requires-clause-free c =
-    let v = c.in-Some.ensures in
-    filling-free _ _ _ _ _ c.loop-distance.invariant _ _ v.axes v.on v.within v.distance
-
-pub loop-distance-smaller : goal.loop-distance-smaller
-loop-distance-smaller c =
-    let v = c.in-Some.ensures in
-    filling-less _ _ _ _ _ c.loop-distance.invariant _ _ v.axes v.on v.within v.distance
+    let i = c.loop-distance.invariant in
+    omega (arith, i.room, v.on, visiting-below _ _ _ i.visited _ _ v.axes v.on v.within v.distance, half-doubled c.args.axes.now c.requires.walkable.some)
 
 pub loop-distance-preserved : goal.loop-distance-preserved
 loop-distance-preserved c =
     let v = c.in-Some.ensures in
-    filling-more _ _ _ _ _ c.loop-distance.invariant _ _ v.axes v.on v.within v.distance _ _ (omega arith) (omega arith) c.if-distance-eq0.false c.put.ensures
+    let i = c.loop-distance.invariant in
+    let p = c.put.ensures.numbers in
+    record {
+      visited = visiting-more _ _ _ i.visited _ _ v.axes v.on v.within v.distance _
+          (λ k o. (o.0, put-keeps _ _ _ p k o.1))
+          (c.if-distance-eq0.false, put-has _ _ _ p);
+      only = λ n h. only (visiting-distance _ _ _ i.visited _ _ v.axes v.on v.within v.distance) (i.only n) (put-only _ _ _ p n h);
+      room = omega (arith, i.room, c.put.ensures.room, v.on, i.visited.middle);
+    }
+  where
+    only : {n d : ℕ} {P : Type 0} → IsDistance c.args.axes.now d → (P → IsDistance c.args.axes.now n) → (n ≡ d) ⊎ P → IsDistance c.args.axes.now n
+    only d f (inl e) = subst (IsDistance c.args.axes.now) (sym e) d
+    only d f (inr o) = f o

@@ -1,26 +1,16 @@
 -- One axis more multiplies the difference vectors by its width, which the quotient `most / vectors` bounds.
 use Prim.Native.Nat.{ℕ, ◌-◌, ◌+◌, ◌*◌, ◌/◌}
-use mathlib.Core.Path.{◌≡◌, refl, sym, ap, ◌∙◌}
+use mathlib.Core.Path.{◌≡◌, sym, ap, ◌∙◌}
 use native.Mathlib.Nat.{div-add-mod', mul-le-mul_left, mul-pos}
 use native.Mathlib.Omega.{arith}
 use lib.ListN.{get_or}
-use Rattle.specification.specs.Axis.{product}
-use Rattle.enumeration.proofs.PartLaws.{no_axis, extent-at, total-rest, box-more}
+use Rattle.differences.proofs.AxisLaws.{no_axis, box-more}
+use Rattle.differences.proofs.BoxLaws.{extent_at}
 use Rattle.enumeration.proofs.parts.split_axes.Goals as goal
-
-pub loop-place-init : goal.loop-place-init
-unfolding product
-loop-place-init c = record { counted = refl; positive = omega arith; room = omega arith }
-
-pub overflow_sub-middle : goal.overflow_sub-middle
-overflow_sub-middle c = extent-at c.args.axes.now _ c.requires.some c.loop-place-test.true
-
-pub reaches-requires-clause-some : goal.reaches-requires-clause-some
-reaches-requires-clause-some c = total-rest c.args.axes.now (c.loop-place.place + 1) c.requires.some
 
 pub loop-place-preserved : goal.loop-place-preserved
 loop-place-preserved c =
-    let p = extent-at c.args.axes.now c.loop-place.place c.requires.some c.loop-place-test.true in
+    let p = extent_at c.args.axes.now c.loop-place.place c.requires.some c.loop-place-test.true in
     let e = (get_or c.args.axes.now c.loop-place.place no_axis).extent in
     let m = mul-le-mul_left c.loop-place.vectors c.if-width-most.false in
     let d = div-add-mod' (c.args.words - c.args.words / 2) c.loop-place.vectors in
