@@ -6,15 +6,14 @@ use Prim.Native.Nat.{ℕ, zero, suc, ◌+◌, ◌*◌, ◌-◌, ◌<◌}
 use native.Mathlib.Omega.{arith}
 use lib.ListN.{length, get_or, drop}
 use Rattle.specification.specs.Tests.{sortBy}
-use Rattle.specification.specs.Search.{ActiveAxis, lengths, spanSum}
+use Rattle.specification.specs.Search.{ActiveAxis, spanSum}
 use Rattle.specification.specs.Verdict.{Plan, lower, longer, othersOf, pastSearch, byMany}
 use Rattle.specification.proofs.AxisOrder.{Perm, nil, skip, swap, trans}
 use Rattle.specification.proofs.Sorting.{sort-perm, perm-length}
-use Rattle.odometer.specs.Odometer.{strides}
-use Rattle.walk.specs.Walk.{axesWith}
 use Rattle.sorting.specs.Numbered.{Numbered}
 use Rattle.sorting.proofs.SortedAxes.{perm-numbered}
-use Rattle.search.specs.Block.{Side, Sides, Blocked, Searchable, unnumbered, searchedOr, planOf}
+use Rattle.search.specs.Block.{Sides, Searchable, searchedOr, planOf}
+use Rattle.search.specs.SetUp.{Parted}
 use Rattle.search.specs.declared.Searched.{Searched}
 
 abbrev none : ActiveAxis
@@ -34,26 +33,6 @@ sides-perm nil s = s
 sides-perm (skip p) s = (s.0, sides-perm p s.1)
 sides-perm swap s = (s.1.0, (s.0, s.1.1))
 sides-perm (trans p q) s = sides-perm q (sides-perm p s)
-
--- ---- axes by their extents and strides
-
-lengths-length : (l : List ActiveAxis) → length (lengths l) ≡ length l
-lengths-length [] = refl
-lengths-length (a ∷ rest) = ap suc (lengths-length rest)
-
-strides-length : (l : List ActiveAxis) → length (strides l) ≡ length l
-strides-length [] = refl
-strides-length (a ∷ rest) = ap suc (strides-length rest)
-
-span-unnumbered : (l : List ActiveAxis) → spanSum (axesWith (lengths l) (strides l)) ≡ spanSum l
-unfolding spanSum
-span-unnumbered [] = refl
-span-unnumbered (a ∷ rest) = ap (λ (z : ℕ). (a.extent - 1) * a.stride + z) (span-unnumbered rest)
-
-each-side : (l : List ActiveAxis) → Sides l → (j : ℕ) → j < length (lengths l) → Side (get_or (lengths l) j 0) (get_or (strides l) j 0)
-each-side [] s j h = absurd (omega arith)
-each-side (a ∷ rest) s zero h = s.0
-each-side (a ∷ rest) s (suc j) h = each-side rest s.1 j (omega arith)
 
 -- ---- the two in front
 
@@ -90,17 +69,12 @@ module _ (block sorted : List ActiveAxis) (e : sorted ≡ sortBy longer block) (
     parts : Perm block (a ∷ b ∷ others)
     parts = trans (subst (Perm block) in-front by-extent) (skip (skip (subst (Perm (drop 2 sorted)) (sym o) (sort-perm lower (drop 2 sorted)))))
 
-    pub blocked : Blocked (unnumbered b ∷ unnumbered a ∷ []) (lengths others) (strides others)
-    unfolding spanSum
-    blocked =
-        let s = sides-perm parts w.sides in
-        record {
-          one-length = strides-length others ∙ sym (lengths-length others);
-          rank = omega (arith, lengths-length others, perm-length parts, w.few);
-          sides = (s.1.0, (s.0, tt));
-          each = each-side others s.1.1;
-          fits = omega (arith, span-perm parts, span-unnumbered others, w.fits);
-        }
+    pub parted : Parted a b others
+    parted = record {
+      few = omega (arith, perm-length parts, w.few);
+      sides = sides-perm parts w.sides;
+      fits = omega (arith, span-perm parts, w.fits);
+    }
 
     pub searched-block : (r : Option Searched) → ((past : Plan) → planOf r past ≡ searchedOr past a b others) → planOf r (pastSearch block) ≡ byMany block (sortBy longer block)
     unfolding byMany othersOf

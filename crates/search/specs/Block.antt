@@ -1,8 +1,7 @@
 -- Step 5 on a block: what it is given, and what its answer stands for.
-use Rattle.std.specs.Prelude.{◌≡◌, List, [], ◌∷◌, ◌++◌, ℕ, ◌^◌, ◌<◌, ◌≤◌, leb, length, get_or, None, Option, Some, if◌then◌else◌}
+use Rattle.std.specs.Prelude.{List, [], ◌∷◌, ℕ, ◌^◌, ◌<◌, ◌≤◌, leb, length, None, Option, Some, if◌then◌else◌}
 use Rattle.specification.specs.Search.{ActiveAxis, spanSum, half}
 use Rattle.specification.specs.Verdict.{Plan, answered, Distinct as isDistinct, Repeated as isRepeated, searched}
-use Rattle.walk.specs.Walk.{axisWith, axesWith}
 use Rattle.sorting.specs.Numbered.{Numbered}
 use Rattle.search.specs.declared.Searched.{Searched}
 use Rattle.search.specs.declared.Searched.TheVariants.{Repeated, Distinct}
@@ -32,21 +31,9 @@ abbrev pub Sides : List ActiveAxis → Type 0
 Sides [] = Unit {0}
 Sides (a ∷ rest) = Side a.extent a.stride × Sides rest
 
--- and of a block: at most 16 such axes, their spans together within a word; `apart` are those set apart already
-pub record Blocked (apart : List ActiveAxis) (es ss : List ℕ) : Type 0 where
-  pub one-length : length ss ≡ length es
-  pub rank : length es ≤ 16
-  pub sides : Sides apart
-  pub each : (j : ℕ) → j < length es → Side (get_or es j 0) (get_or ss j 0)
-  pub fits : spanSum (apart ++ axesWith es ss) < 2 ^ 64
-
 -- a block that can be searched: at most 16 axes, no two of one number, each as steps 1 to 3 leave it, their spans together within a word
 pub record Searchable (block : List ActiveAxis) : Type 0 where
   pub few : length block ≤ 16
   pub numbered : Numbered block
   pub sides : Sides block
   pub fits : spanSum block < 2 ^ 64
-
--- an axis as the search takes it, by extent and stride
-abbrev pub unnumbered : ActiveAxis → ActiveAxis
-unnumbered a = axisWith a.extent a.stride

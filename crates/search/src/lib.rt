@@ -2,27 +2,27 @@
 // search over all but the two longest.
 #![tactic(auto)]
 
-ghost use Rattle.std.specs.Prelude.{◌≡◌, [], ◌∷◌, ◌<◌, length};
+ghost use Rattle.std.specs.Prelude.{◌≡◌, ◌<◌, length};
+ghost use Rattle.std.specs.List.{All};
 ghost use Rattle.integer.specs.Gcd.{gcd};
 ghost use Rattle.specification.specs.Tests.{sortBy};
-ghost use Rattle.specification.specs.Search.{lengths, twoDistinct};
+ghost use Rattle.specification.specs.Search.{twoDistinct};
 ghost use Rattle.specification.specs.Verdict.{longer, byMany, pastSearch};
-ghost use Rattle.specification.proofs.Digits.{PositiveExtents};
-ghost use Rattle.odometer.specs.Odometer.{strides};
-ghost use Rattle.walk.specs.Walk.{Small, axisWith, axesWith};
-ghost use Rattle.search.specs.Block.{Blocked, Searchable, planOf, unnumbered};
-ghost use Rattle.search.specs.SetUp.{Budget, Answers};
+ghost use Rattle.walk.specs.WalkAt.{IsCountable};
+ghost use Rattle.search.specs.Block.{Searchable, planOf};
+ghost use Rattle.search.specs.SetUp.{Budget, Parted, Answers};
 
 mod set_up;
 
 use axis::ActiveAxis;
+use differences::boxes::box_within;
 use sorting::{sort_by_axis, sort_by_extent};
-use walk::underway::Walk;
+use walk::Walk;
 
 // The largest box that is searched: half is then 4,194,304, the budget.
 const LARGEST_BOX: u64 = 8388609;
 
-// Step 5's answer: half is past the budget, or some vector is completed, or none is, with the number of vectors looked at.
+// What step 5 answers within its budget: some vector is completed, or none is, with the number of vectors looked at.
 #[derive(Clone, Copy, Debug, PartialEq, Eq)]
 pub enum Searched {
     Repeated(u64),
@@ -48,28 +48,19 @@ pub fn two_axis_block_is_injective(a: ActiveAxis, b: ActiveAxis) -> bool
     apart_by_quotients(a, b, g)
 }
 
-// Whether half is within the budget. It stops at the first product above: the box itself can pass a word.
+// Half, where it is within the budget.
 fn half_within(others: &[ActiveAxis]) -> Option<u64>
-    requires positive { PositiveExtents (lengths others.now) }
-    requires small { Small (lengths others.now) }
-    ensures { Budget (lengths others.now) result }
+    requires { All IsCountable others.now }
+    ensures { Budget others.now result }
 {
-    let mut boxed: u64 = 1;
-    for axis in others {
-        let middle = axis.extent - 1;
-        let width = middle + middle + 1;
-        if width > LARGEST_BOX / boxed {
-            return None;
-        }
-        boxed *= width;
-    }
+    let boxed = box_within(others, LARGEST_BOX)?;
     Some(boxed / 2)
 }
 
 // Step 5 with the two set apart: the budget, the two alone, then the walk over the others.
 fn search_two(a: ActiveAxis, b: ActiveAxis, others: &[ActiveAxis]) -> Option<Searched>
-    requires { Blocked (unnumbered b ∷ unnumbered a ∷ []) (lengths others.now) (strides others.now) }
-    ensures { Answers result (unnumbered a) (unnumbered b) (axesWith (lengths others.now) (strides others.now)) }
+    requires { Parted a b others.now }
+    ensures { Answers result a b others.now }
 {
     let half = half_within(others)?;
     let g = integer::gcd(a.stride, b.stride);
@@ -84,13 +75,23 @@ fn search_two(a: ActiveAxis, b: ActiveAxis, others: &[ActiveAxis]) -> Option<Sea
     })
 }
 
+// What stands in the room for a block until it is copied there.
+const NO_AXIS: ActiveAxis = ActiveAxis {
+    axis: 0,
+    extent: 0,
+    stride: 0,
+};
+
 // Step 5 on a block of two or more axes: the two longest are set apart, ties to the lower axis, and the differences of the
-// others are searched, the lowest axis the lowest digit. The axes are left in another order.
-pub fn search_block(block: &mut [ActiveAxis]) -> Option<Searched>
-    requires many { 1 < length block.old }
-    requires searchable { Searchable block.old }
-    ensures { planOf result (pastSearch block.old) ≡ byMany block.old (sortBy longer block.old) }
+// others are searched, the lowest axis the lowest digit.
+pub fn search_block(axes: &[ActiveAxis]) -> Option<Searched>
+    requires many { 1 < length axes.now }
+    requires searchable { Searchable axes.now }
+    ensures { planOf result (pastSearch axes.now) ≡ byMany axes.now (sortBy longer axes.now) }
 {
+    let mut room = [NO_AXIS; 16];
+    let block = &mut room[..axes.len()];
+    block.copy_from_slice(axes);
     sort_by_extent(block);
     let a = block[0];
     let b = block[1];

@@ -1,154 +1,127 @@
 -- The walk at the vector of no difference.
-use mathlib.Core.Path.{◌≡◌, refl, sym, ap, ◌∙◌, subst⁻¹}
-use mathlib.Core.List.{List, [], ◌∷◌, map}
-use Prim.Native.Nat.{ℕ, zero, suc, ◌+◌, ◌*◌, ◌-◌, ◌%◌, ◌<◌, ◌≤◌}
-use native.Mathlib.Nat.{mod-lt}
+use mathlib.Core.Path.{◌≡◌, refl, ap, ◌∙◌, subst⁻¹}
+use mathlib.Core.List.{List, [], ◌∷◌}
+use Prim.Native.Nat.{ℕ, suc, ◌+◌, ◌*◌, ◌-◌, ◌%◌, ◌^◌, ◌<◌, ◌≤◌}
 use native.Mathlib.Decide.{ℕ_discrete}
+use native.Mathlib.Nat.{mul-pos}
 use native.Mathlib.Omega.{arith}
 use lib.ListN.{length, get_or, set, take}
-use lib.Seq.{get_or-set_same, get_or-set_other, get_or-take}
-use Rattle.std.proofs.Math.ListN.{get_or-map}
-use Rattle.std.proofs.lemmas.List.{length-map, ext_get_or, get_or_default}
-use Rattle.integer.specs.Congruence.{Congruent}
-use Rattle.integer.proofs.Congruence.{mod-congruent, congruent-of-equal, congruent-mul, congruent-trans}
-use Rattle.specification.specs.Search.{ActiveAxis, lengths}
-use Rattle.odometer.specs.Odometer.{strides as strides_of}
-use Rattle.specification.proofs.Digits.{PositiveExtents, none, more}
-use Rattle.walk.specs.Walk.{first, second, axesWith, middle_of, Ready, Room, Steps}
-use Rattle.walk.specs.Underway.{extents, strides, digits}
-use Rattle.walk.specs.WalkAt.{WalkAt}
-use Rattle.walk.specs.Made.{Step, MadeFor}
-use Rattle.walk.specs.Sound.{OnAxes}
-use Rattle.walk.specs.declared.TwoAxes.{TwoAxes}
-use Rattle.walk.specs.declared.underway.DifferenceAxis.{DifferenceAxis}
-use Rattle.walk.proofs.UnderwayLaws.{nothing, at}
-use Rattle.walk.proofs.Walking.{start-at, start-stands}
-
--- ---- a step
-
-pub up_is : (m s c v : ℕ) → 0 < m → v ≡ s % m * c % m → (v < m) × Congruent m v (s * c)
-up_is m s c v h e = (
-  subst⁻¹ (λ (z : ℕ). z < m) e (mod-lt (s % m * c) h),
-  congruent-trans (congruent-of-equal m v (s % m * c) e) (congruent-mul c (mod-congruent m s)),
-)
-
--- p is l u, twice is 2 p, and v takes that back
-pub back_is : (m l u p twice v : ℕ) → 0 < m → p ≡ l % m * u % m → twice ≡ (p + p) % m → Congruent m (v + twice) 0 → Congruent m (v + 2 * l * u) 0
-back_is m l u p twice v h e f c =
-    let k = (up_is m l u p h e).1 in
-    let d = congruent-of-equal m twice (p + p) f in
-    record { p = c.p + d.q + 2 * k.q; q = c.q + d.p + 2 * k.p; eq = omega (arith, c.eq, d.eq, k.eq) }
-
--- the remainder of 1 serves as 1
-pub up-of-one : (g s v one : ℕ) → 0 < g → one ≡ 1 % g → v ≡ s % g * one % g → (v < g) × Congruent g v (s * 1)
-up-of-one g s v one h e f =
-    let u = up_is g s one v h f in
-    let o : Congruent g one 1 = subst⁻¹ (λ (z : ℕ). Congruent g z 1) e (mod-congruent g 1) in
-    (u.0, congruent-trans u.1 (let k = congruent-mul {b = g} {x = one} {y = 1} s o in record { p = k.p; q = k.q; eq = omega (arith, k.eq) }))
-
--- ---- one more axis made
-
-module _ (t : TwoAxes) (es ss : List ℕ) where
-  abbrev pub Made : List DifferenceAxis → ℕ → Type 0
-  Made axes j = (k : ℕ) → k < j → MadeFor t (get_or es k 0) (get_or ss k 0) (at axes k)
-
-  pub made-more : (axes : List DifferenceAxis) (j : ℕ) (a : DifferenceAxis) → j < length axes → Made axes j → MadeFor t (get_or es j 0) (get_or ss j 0) a → Made (set axes j a) (j + 1)
-  made-more axes j a l f m k h = go (ℕ_discrete k j)
-    where
-      go : Dec (k ≡ j) → MadeFor t (get_or es k 0) (get_or ss k 0) (at (set axes j a) k)
-      go (yes e) = subst⁻¹ (λ (i : ℕ). MadeFor t (get_or es i 0) (get_or ss i 0) (at (set axes j a) i)) e (subst⁻¹ (MadeFor t (get_or es j 0) (get_or ss j 0)) (get_or-set_same axes j a nothing l) m)
-      go (no n) = subst⁻¹ (MadeFor t (get_or es k 0) (get_or ss k 0)) (get_or-set_other axes j k a nothing n) (f k (omega arith))
-
--- ---- all of them
-
-middle-length : (es : List ℕ) → length (middle_of es) ≡ length es
-middle-length [] = refl
-middle-length (e ∷ es) = ap suc (middle-length es)
-
-middle-at : (es : List ℕ) (k : ℕ) → k < length es → get_or (middle_of es) k 0 ≡ get_or es k 0 - 1
-middle-at [] k h = absurd (omega arith)
-middle-at (e ∷ es) zero h = refl
-middle-at (e ∷ es) (suc k) h = middle-at es k (omega arith)
-
-module _ (t : TwoAxes) (es ss : List ℕ) (axes : List DifferenceAxis) (ready : Ready t) (room : Room t es ss) (l : length axes ≡ length es) (made : Made t es ss axes (length es)) where
-  as-many : (f : DifferenceAxis → ℕ) → length (map f axes) ≡ length es
-  as-many f = length-map axes f ∙ l
-
-  entries : (f : DifferenceAxis → ℕ) (list : List ℕ) → f nothing ≡ 0 → length list ≡ length es → ((k : ℕ) → k < length es → f (at axes k) ≡ get_or list k 0) → map f axes ≡ list
-  entries f list z e h = ext_get_or 0 (map f axes) list (as-many f ∙ sym e)
-      (λ k b. ap (get_or (map f axes) k) (sym z) ∙ get_or-map f axes k nothing ∙ h k (omega (arith, as-many f)))
-
-  pub extents-are : extents axes ≡ es
-  extents-are = entries (λ a. a.extent) es refl refl (λ k h. (made k h).extent-is)
-
-  pub strides-are : strides axes ≡ ss
-  strides-are = entries (λ a. a.stride) ss refl room.one-length (λ k h. (made k h).stride-is)
-
-  digits-are : digits axes ≡ middle_of es
-  digits-are = entries (λ a. a.digit) (middle_of es) refl (middle-length es) (λ k h. (made k h).digit-is ∙ sym (middle-at es k h))
-
-  steps : (b c : ℕ) (up back : DifferenceAxis → ℕ) → up nothing ≡ 0 → back nothing ≡ 0 → ((k : ℕ) → k < length es → Step b c (get_or es k 0) (get_or ss k 0) (up (at axes k)) (back (at axes k)))
-      → Steps b c es ss (map up axes) (map back axes)
-  steps b c up back zu zb f = record {
-    turns = record {
-      up-length = as-many up;
-      back-length = as-many back;
-      up-low = λ j h. subst⁻¹ (λ (n : ℕ). n < b) (there up zu j) (f j h).up-low;
-      back_low = λ j h. subst⁻¹ (λ (n : ℕ). n < b) (there back zb j) (f j h).back_low;
-      round = λ j h. subst⁻¹ (λ (n : ℕ). Congruent b (n + 2 * (get_or es j 0 - 1) * get_or (map up axes) j 0) 0) (there back zb j)
-          (subst⁻¹ (λ (n : ℕ). Congruent b (back (at axes j) + 2 * (get_or es j 0 - 1) * n) 0) (there up zu j) (f j h).round);
-    };
-    scaled = λ j h. subst⁻¹ (λ (n : ℕ). Congruent b n (get_or ss j 0 * c)) (there up zu j) (f j h).scaled;
-  }
-    where
-      there : (g : DifferenceAxis → ℕ) → g nothing ≡ 0 → (j : ℕ) → get_or (map g axes) j 0 ≡ g (at axes j)
-      there g z j = ap (get_or (map g axes) j) (sym z) ∙ get_or-map g axes j nothing
-
-  pub start : OnAxes t axes 0 t.window 0
-  start = rw (extents-are, strides-are, digits-are) (record {
-    ready = ready;
-    room = room;
-    z-steps = steps t.b t.inverse (λ a. a.z_up) (λ a. a.z_back) refl refl (λ k h. (made k h).z);
-    q-steps = steps t.g 1 (λ a. a.q_up) (λ a. a.q_back) refl refl (λ k h. (made k h).q);
-    le = omega arith;
-    here = start-at es ss (middle_of es) room.one-length room.positive refl;
-    stands = start-stands t es ss (middle_of es) ready room.positive refl;
-  })
-
-  pub start-view : (let r : WalkAt = record { first = first t; second = second t; others = axesWith (extents axes) (strides axes); count = 0 } in r) ≡ record { first = first t; second = second t; others = axesWith es ss; count = 0 }
-  start-view = rw (extents-are, strides-are) refl
-
--- in front of an array
-pub made-front : (t : TwoAxes) (es ss : List ℕ) (axes : List DifferenceAxis) (n : ℕ) → n ≤ length axes → Made t es ss axes n → Made t es ss (take n axes) n
-made-front t es ss axes n l f k h = subst⁻¹ (MadeFor t (get_or es k 0) (get_or ss k 0)) (get_or-take n axes k nothing h) (f k h)
-
-pub extent-above : {es : List ℕ} → PositiveExtents es → (j : ℕ) → j < length es → 0 < get_or es j 0
-extent-above none j h = absurd (omega arith)
-extent-above (more h t) zero k = h
-extent-above (more h t) (suc j) k = extent-above t j (omega arith)
-
--- ---- axes by their extents and strides
+use lib.Seq.{get_or-set_same, get_or-set_other, get_or-take, length-take-le}
+use Rattle.std.specs.List.{All}
+use Rattle.std.proofs.lemmas.List.Elements.{All-nil, All-cons, All-head, All-tail}
+use Rattle.specification.specs.Axis.{product}
+use Rattle.specification.specs.Search.{ActiveAxis, spanSum, total, half}
+use Rattle.differences.specs.AxisDifferences.{axes_of, number_of, up_of, down_of}
+use Rattle.differences.proofs.ZeroVector.{zero_on, zero_vector, zero-axes, zero-number, zero-up, zero-down}
+use Rattle.walk.specs.Underway.{difference_of, vector_of, others_of, SetUp, IsFit, IsStep, IsResidue}
+use Rattle.walk.specs.WalkAt.{IsCountable, WalkAt}
+use Rattle.walk.specs.Sound.{At, walk_at}
+use Rattle.walk.specs.declared.two_axes.TwoAxes.{TwoAxes}
+use Rattle.walk.specs.declared.difference_axis.DifferenceAxis.{DifferenceAxis}
+use Rattle.walk.proofs.Vectors.{nothing, at}
+use Rattle.walk.proofs.Combinations.{window_below}
 
 abbrev pub no_axis : ActiveAxis
 no_axis = record { axis = 0; extent = 0; stride = 0 }
 
-pub lengths-length : (l : List ActiveAxis) → length (lengths l) ≡ length l
-lengths-length [] = refl
-lengths-length (a ∷ rest) = ap suc (lengths-length rest)
+-- the axes before j are set up
+pub record Made (t : TwoAxes) (others : List ActiveAxis) (ds : List DifferenceAxis) (j : ℕ) : Type 0 where
+  pub long : length ds ≡ 16
+  pub each : (k : ℕ) → k < j → SetUp t (get_or others k no_axis) (at ds k)
 
-pub lengths-at : (l : List ActiveAxis) (p : ℕ) → get_or (lengths l) p 0 ≡ (get_or l p no_axis).extent
-lengths-at [] p = refl
-lengths-at (a ∷ rest) zero = refl
-lengths-at (a ∷ rest) (suc p) = lengths-at rest p
+pub made-more : (t : TwoAxes) (others : List ActiveAxis) (ds : List DifferenceAxis) (j : ℕ) (d : DifferenceAxis) → j < 16 → length (set ds j d) ≡ 16
+    → Made t others ds j → SetUp t (get_or others j no_axis) d → Made t others (set ds j d) (j + 1)
+made-more t others ds j d l long w s = record { long = long; each = λ k h. go k h (ℕ_discrete k j) }
+  where
+    go : (k : ℕ) → k < j + 1 → Dec (k ≡ j) → SetUp t (get_or others k no_axis) (at (set ds j d) k)
+    go k h (yes e) = subst⁻¹ (λ (i : ℕ). SetUp t (get_or others i no_axis) (at (set ds j d) i)) e
+        (subst⁻¹ (SetUp t (get_or others j no_axis)) (get_or-set_same ds j d nothing (omega (arith, w.long))) s)
+    go k h (no n) = subst⁻¹ (SetUp t (get_or others k no_axis)) (get_or-set_other ds j k d nothing n) (w.each k (omega arith))
 
-pub strides-at : (l : List ActiveAxis) (p : ℕ) → get_or (strides_of l) p 0 ≡ (get_or l p no_axis).stride
-strides-at [] p = refl
-strides-at (a ∷ rest) zero = refl
-strides-at (a ∷ rest) (suc p) = strides-at rest p
+pub made-done : (t : TwoAxes) (others : List ActiveAxis) (ds : List DifferenceAxis) (j : ℕ) → Made t others ds j → length others ≤ j → Made t others ds (length others)
+made-done t others ds j w h = record { long = w.long; each = λ k l. w.each k (omega arith) }
 
-pub made-of : (t : TwoAxes) (l : List ActiveAxis) (j : ℕ) (a : DifferenceAxis) → MadeFor t (get_or l j no_axis).extent (get_or l j no_axis).stride a → MadeFor t (get_or (lengths l) j 0) (get_or (strides_of l) j 0) a
-made-of t l j a m = subst⁻¹ (λ (e : ℕ). MadeFor t e (get_or (strides_of l) j 0) a) (lengths-at l j) (subst⁻¹ (λ (s : ℕ). MadeFor t (get_or l j no_axis).extent s a) (strides-at l j) m)
+-- ---- all of them
 
--- an axis that is read: v is what its fields show, and r the place's
-pub item-is : (l : List ActiveAxis) (j : ℕ) (v r : ActiveAxis) → j < length l → v ≡ r → r ≡ get_or l j r → v ≡ get_or l j no_axis
-item-is l j v r h e f = e ∙ f ∙ get_or_default l j r no_axis h
+made-zero : (t : TwoAxes) (a : ActiveAxis) (d : DifferenceAxis) → SetUp t a d → difference_of d ≡ zero_on a
+made-zero t a d s = λ i. record { axis = s.axis-is i; above = above i; below = below i }
+  where
+    above : d.digit - (d.axis.extent - 1) ≡ 0
+    above = omega (arith, s.digit-is, ap (λ (x : ActiveAxis). x.extent) s.axis-is)
+
+    below : d.axis.extent - 1 - d.digit ≡ 0
+    below = omega (arith, s.digit-is, ap (λ (x : ActiveAxis). x.extent) s.axis-is)
+
+made-vector : (t : TwoAxes) (others : List ActiveAxis) (ds : List DifferenceAxis) → length ds ≡ length others
+    → ((k : ℕ) → k < length others → SetUp t (get_or others k no_axis) (at ds k)) → vector_of ds ≡ zero_vector others
+made-vector t [] [] e m = refl
+made-vector t [] (d ∷ ds) e m = absurd (omega arith)
+made-vector t (a ∷ rest) [] e m = absurd (omega arith)
+made-vector t (a ∷ rest) (d ∷ ds) e m =
+    let h = made-zero t a d (m 0 (omega arith)) in
+    let r = made-vector t rest ds (omega arith) (λ k b. m (suc k) (omega arith)) in
+    λ i. h i ∷ r i
+
+made-fit : (t : TwoAxes) (others : List ActiveAxis) (ds : List DifferenceAxis) → length ds ≡ length others → All IsCountable others
+    → ((k : ℕ) → k < length others → SetUp t (get_or others k no_axis) (at ds k)) → All (IsFit t) ds
+made-fit t [] [] e c m = All-nil (IsFit t)
+made-fit t [] (d ∷ ds) e c m = absurd (omega arith)
+made-fit t (a ∷ rest) [] e c m = absurd (omega arith)
+made-fit t (a ∷ rest) (d ∷ ds) e c m =
+    let s = m 0 (omega arith) in
+    let n = All-head IsCountable a rest c in
+    let x : d.axis.extent ≡ a.extent = ap (λ (y : ActiveAxis). y.extent) s.axis-is in
+    All-cons (IsFit t) d ds
+    (record {
+      low = omega (arith, x, n.1);
+      digit_low = omega (arith, x, n.0, s.digit-is);
+      z = subst⁻¹ (λ (y : ActiveAxis). IsStep t.second.stride t.inverse y d.z) s.axis-is s.z;
+      q = subst⁻¹ (λ (y : ActiveAxis). IsStep t.g (1 % t.g) y d.q) s.axis-is s.q;
+    })
+    (made-fit t rest ds (omega arith) (All-tail IsCountable a rest c) (λ k b. m (suc k) (omega arith)))
+
+pub some-total : (l : List ActiveAxis) → All IsCountable l → 0 < total l
+unfolding product
+some-total [] c = omega arith
+some-total (a ∷ rest) c = mul-pos (All-head IsCountable a rest c).0 (some-total rest (All-tail IsCountable a rest c))
+
+-- ---- what stands in front of the unused ones
+
+module _ (t : TwoAxes) (others : List ActiveAxis) (ds : List DifferenceAxis) (w : Made t others ds (length others)) (few : length others ≤ 16) (c : All IsCountable others) where
+  abbrev pub front : List DifferenceAxis
+  front = take (length others) ds
+
+  front-length : length front ≡ length others
+  front-length = length-take-le (length others) ds (omega (arith, w.long))
+
+  front-each : (k : ℕ) → k < length others → SetUp t (get_or others k no_axis) (at front k)
+  front-each k h = subst⁻¹ (SetUp t (get_or others k no_axis)) (get_or-take (length others) ds k nothing h) (w.each k h)
+
+  is-zero : vector_of front ≡ zero_vector others
+  is-zero = made-vector t others front front-length front-each
+
+  others-are : others_of front ≡ others
+  others-are = ap axes_of is-zero ∙ zero-axes others
+
+  pub start-view : walk_at t front (record { count = 0; residues = record { z = t.window; q = 0 } }) ≡ record { first = t.first; second = t.second; others = others; count = 0 }
+  start-view = ap (λ (o : List ActiveAxis). let r : WalkAt = record { first = t.first; second = t.second; others = o; count = 0 } in r) others-are
+
+  up-zero : up_of (vector_of front) ≡ 0
+  up-zero = ap up_of is-zero ∙ zero-up others
+
+  down-zero : down_of (vector_of front) ≡ 0
+  down-zero = ap down_of is-zero ∙ zero-down others
+
+  residue_start : (m x r : ℕ) → r < m → IsResidue m x r (vector_of front) r
+  residue_start m x r h = record { low = h; so = record { p = 0; q = 0; eq = omega (arith, ap (λ (n : ℕ). n * x) up-zero, ap (λ (n : ℕ). n * x) down-zero) } }
+
+  pub start : spanSum (t.first ∷ t.second ∷ others) < 2 ^ 64 → At t front (record { count = 0; residues = record { z = t.window; q = 0 } })
+  start fits = record {
+    stands = record {
+      fit = made-fit t others front front-length c front-each;
+      fits = subst⁻¹ (λ (o : List ActiveAxis). spanSum (t.first ∷ t.second ∷ o) < 2 ^ 64) others-are fits;
+      z = residue_start t.second.stride t.inverse t.window (window_below t);
+      q = residue_start t.g (1 % t.g) 0 t.above;
+    };
+    number = omega (arith, ap number_of is-zero ∙ zero-number others (some-total others c), ap half others-are);
+  }

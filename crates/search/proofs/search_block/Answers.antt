@@ -1,16 +1,22 @@
 -- `search_block`: the definition's own steps.
-use mathlib.Core.Path.{◌∙◌}
+use mathlib.Core.Path.{ap, ◌∙◌}
 use Rattle.std.proofs.lemmas.List.{take_rest}
-use Rattle.search.proofs.Renumbered.{search-unnumbered}
-use Rattle.search.proofs.Apart.{numbered-others, blocked, searched-block}
+use Rattle.specification.specs.Tests.{sortBy}
+use Rattle.specification.specs.Verdict.{longer}
+use Rattle.search.proofs.Apart.{numbered-others, parted, searched-block}
 use Rattle.search.proofs.search_block.Goals as goal
 
 pub sort_by_axis-requires : goal.sort_by_axis-requires
-sort_by_axis-requires c = rw take_rest (numbered-others _ _ c.sort_by_extent.ensures c.requires.many c.requires.searchable)
+sort_by_axis-requires c =
+    let e = c.sort_by_extent.ensures ∙ ap (sortBy longer) c.copy_from_slice.ensures.after in
+    rw take_rest (numbered-others _ _ e c.requires.many c.requires.searchable)
 
 pub search_two-requires : goal.search_two-requires
-search_two-requires c = blocked _ _ c.sort_by_extent.ensures c.requires.many c.requires.searchable c.sort_by_axis.new.axes (rw take_rest at c.sort_by_axis.ensures)
+search_two-requires c =
+    let e = c.sort_by_extent.ensures ∙ ap (sortBy longer) c.copy_from_slice.ensures.after in
+    parted _ _ e c.requires.many c.requires.searchable c.sort_by_axis.new.axes (rw take_rest at c.sort_by_axis.ensures)
 
 pub returns : goal.returns
-returns c = searched-block _ _ c.sort_by_extent.ensures c.requires.many c.requires.searchable c.sort_by_axis.new.axes (rw take_rest at c.sort_by_axis.ensures) c.search_two.result
-    (λ past. c.search_two.ensures past ∙ search-unnumbered _ _ c.sort_by_axis.new.axes past)
+returns c =
+    let e = c.sort_by_extent.ensures ∙ ap (sortBy longer) c.copy_from_slice.ensures.after in
+    searched-block _ _ e c.requires.many c.requires.searchable c.sort_by_axis.new.axes (rw take_rest at c.sort_by_axis.ensures) c.search_two.result c.search_two.ensures

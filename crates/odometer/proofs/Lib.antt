@@ -1,2 +1,0 @@
-pub mod VectorLaws
-pub mod OrderLaws

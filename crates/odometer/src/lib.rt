@@ -1,2 +1,0 @@
-// Index vectors in the order of their positions, and their sums: definitions in specs/, laws in proofs/.
-#![tactic(auto)]

@@ -1,0 +1,31 @@
+-- The search does not ask which of the two set apart comes first.
+use mathlib.Core.Path.{◌≡◌, refl, ap, ◌∙◌}
+use mathlib.Core.List.{List}
+use Prim.Native.Nat.{ℕ, ◌+◌}
+use lib.IntN.{ℤ, pos, ◌+ℤ◌, ◌*ℤ◌, +ℤ_comm}
+use Rattle.specification.specs.Tests.{is_yes}
+use Rattle.specification.specs.Search.{ActiveAxis, half, differenceSum, differenceAt, Completes}
+use Rattle.specification.specs.Decided.{completes?}
+use Rattle.specification.specs.Verdict.{hit}
+
+-- two decisions of what comes to the same
+decided-same : {P Q : Type 0} (d : Dec P) (e : Dec Q) → (P → Q) → (Q → P) → is_yes d ≡ is_yes e
+decided-same (yes p) (yes q) f g = refl
+decided-same (yes p) (no q) f g = absurd (q (f p))
+decided-same (no p) (yes q) f g = absurd (p (g q))
+decided-same (no p) (no q) f g = refl
+
+completes-turned : (a b : ActiveAxis) (z : ℤ) → Completes a b z → Completes b a z
+completes-turned a b z w = record {
+  x = w.y;
+  y = w.x;
+  x_below = w.y-below;
+  y-below = w.x_below;
+  to-zero = ap (λ (s : ℤ). s +ℤ z) (+ℤ_comm (w.y *ℤ pos b.stride) (w.x *ℤ pos a.stride)) ∙ w.to-zero;
+}
+
+pub hit-turned : (a b : ActiveAxis) (l : List ActiveAxis) (c : ℕ) → hit b a l c ≡ hit a b l c
+unfolding hit
+hit-turned a b l c =
+    let z : ℤ = differenceSum l (differenceAt l (half l + c)) in
+    decided-same (completes? b a z) (completes? a b z) (completes-turned b a z) (completes-turned a b z)
