@@ -20,7 +20,7 @@ use Rattle.specification.specs.Axis.{Axis, product, positions, span, upward, dow
 use Rattle.specification.specs.Search.{ActiveAxis, total, spanSum}
 use Rattle.specification.specs.Verdict.{activeFrom}
 use Rattle.specification.proofs.NormalAxes.{AllPositive}
-use Rattle.specification.proofs.Sorting.{Each, EachTwo, each-implies}
+use Rattle.specification.proofs.Sorting.{Each}
 use Rattle.injectivity.specs.Inputs.{unfit}
 use Rattle.injectivity.proofs.ActiveLaws.{activeAxis}
 
@@ -93,25 +93,3 @@ active-low k (a ∷ r) f u d = go (ltb 1 a.extent) (ltb mostSigned (a.extent - 1
     go true false true p q h f rest = absurd (subst T f tt)
     go true false false p q h f rest = (low-axis a k (h tt) p q (omega arith) (omega arith), rest f)
     go false y z p q h f rest = rest f
-
--- ---- their numbers rise
-
-numbers-from : (k : ℕ) (axes : List Axis) → Each (λ a. k ≤ a.axis) (activeFrom k axes)
-unfolding activeFrom
-numbers-from k [] = tt
-numbers-from k (a ∷ r) = go (ltb 1 a.extent) (each-implies (λ b h. omega arith) (activeFrom (suc k) r) (numbers-from (suc k) r))
-  where
-    go : (t : Bool) → Each (λ b. k ≤ b.axis) (activeFrom (suc k) r)
-        → Each (λ b. k ≤ b.axis) (if t then activeAxis k a ∷ activeFrom (suc k) r else activeFrom (suc k) r)
-    go true e = (omega arith, e)
-    go false e = e
-
-pub numbers-differ : (k : ℕ) (axes : List Axis) → EachTwo (λ a b. a.axis ≢ b.axis) (activeFrom k axes)
-unfolding activeFrom
-numbers-differ k [] = tt
-numbers-differ k (a ∷ r) = go (ltb 1 a.extent) (each-implies (λ b h. omega arith) (activeFrom (suc k) r) (numbers-from (suc k) r)) (numbers-differ (suc k) r)
-  where
-    go : (t : Bool) → Each (λ b. k ≢ b.axis) (activeFrom (suc k) r) → EachTwo (λ a b. a.axis ≢ b.axis) (activeFrom (suc k) r)
-        → EachTwo (λ a b. a.axis ≢ b.axis) (if t then activeAxis k a ∷ activeFrom (suc k) r else activeFrom (suc k) r)
-    go true e d = (e, d)
-    go false e d = d

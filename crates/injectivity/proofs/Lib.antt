@@ -3,6 +3,7 @@ pub mod InputsLaws
 pub mod PlanLaws
 pub mod ActiveLaws
 pub mod LeftLaws
+pub mod SearchableLaws
 pub mod CoverLaws
 pub mod JudgeLaws
 pub mod ReadyLaws

@@ -123,5 +123,5 @@ module _ (es : List ℕ) (ss : List ℤ) (before after : List ℕ) (r : Result J
     past-needed = kept (verdict es ss words) refl;
   }
 
-pub judgement-claims : JudgementClaims
-judgement-claims = record { means = means }
+pub judgement_claims : JudgementClaims
+judgement_claims = record { means = means }

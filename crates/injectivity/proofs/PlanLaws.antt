@@ -2,7 +2,7 @@
 use Rattle.std.specs.Prelude.{Err, Ok, Result}
 use mathlib.Core.Path.{◌≡◌, refl, sym, ap, subst, ◌∙◌}
 use mathlib.Core.Bool.{Bool, true, false}
-use mathlib.Core.Logic.{◌≢◌, ◌⊎◌, inl, inr}
+use mathlib.Core.Logic.{◌≢◌, ◌⊎◌}
 use mathlib.Core.List.{List, []}
 use Prim.Native.Nat.{ℕ, ◌≤◌, ◌<◌}
 use native.Mathlib.Omega.{arith}
@@ -12,9 +12,9 @@ use borrow.Author.Tests.{eq-eqb, ne_eqb}
 use Rattle.specification.specs.Tests.{some}
 use Rattle.specification.specs.Axis.{Axis, axesOf, extents, positions, is_empty}
 use Rattle.specification.specs.Outcome.{Outcome, done, refused, refuseIf, ◌>>◌}
-use Rattle.specification.specs.Search.{ActiveAxis}
 use Rattle.specification.specs.Normal.{overfull}
-use Rattle.specification.specs.Verdict.{Verdict, Judged, Distinct, Repeated, answered, block_of, byBlock, still, outOfRange, plan_of, carryOut, judge, verdict}
+use Rattle.specification.specs.BlockClaims.{inOrder}
+use Rattle.specification.specs.Verdict.{upToLast, Verdict, Distinct, Repeated, answered, block_of, byBlock, still, outOfRange, plan_of, carryOut, judge, verdict}
 use Rattle.specification.proofs.NormalAxes.{positions-pos}
 use Rattle.specification.proofs.NormalLaws.{empty-none, full-pos}
 use Rattle.specification.proofs.OutcomeLaws.{bind_done, bind-refused}
@@ -23,11 +23,9 @@ use Rattle.specification.proofs.VerdictRefusals.{plan-eight, plan-three}
 use Rattle.view.specs.Answers.{outcomeOf}
 use Rattle.view.specs.Count.{elementCount, count_of}
 use Rattle.view.specs.declared.layout.Refusal.{Refusal}
-use Rattle.view.specs.declared.layout.Refusal.TheVariants.{TooManyAxes, LengthsDiffer}
 use Rattle.view.proofs.CountLaws.{element-count-of-axes, counted-refused, counted_is}
-use Rattle.injectivity.specs.Judgement.{Told, judgedOf, toldOf, JudgedAs}
+use Rattle.injectivity.specs.Judgement.{Told, judgedOf, toldOf}
 use Rattle.injectivity.specs.Inputs.{LeftToBlock}
-use Rattle.injectivity.specs.declared.Judgement.{Judgement}
 
 -- ---- plans
 
@@ -101,36 +99,20 @@ module _ (axes : List Axis) (few : length axes ≤ 16) (c : Result ℕ Refusal) 
 
 -- ---- where the block is judged
 
-module _ (axes : List Axis) (l : LeftToBlock axes) where
-  by-block : (words : ℕ) → judge axes words ≡ carryOut words (byBlock (block_of axes))
-  unfolding judge
-  by-block words = bind_done (carryOut words) (plan-block axes l)
-
-  pub judged-block : {block : List ActiveAxis} → block ≡ block_of axes → {r : Result Judgement Refusal} {before after : List ℕ}
-      → JudgedAs (carryOut (length before) (byBlock block)) before after r → JudgedAs (judge axes (length before)) before after r
-  judged-block b {r} {before} {after} j =
-      subst (λ (o : Outcome Judged). JudgedAs o before after r) (ap (λ (a : List ActiveAxis). carryOut (length before) (byBlock a)) b ∙ sym (by-block (length before))) j
-
-  -- no block is Distinct, and leaves the scratch alone
-  pub judged-none : [] ≡ block_of axes → {r : Result Judgement Refusal} {before : List ℕ} → judgedOf r ≡ done (record { answer = Distinct; count = 0 })
-      → JudgedAs (judge axes (length before)) before before r
-  unfolding byBlock carryOut
-  judged-none b o = judged-block b (record { told = o; scratch = (refl, refl) })
+pub by_block : (axes : List Axis) (words : ℕ) → LeftToBlock axes → judge axes words ≡ carryOut words (byBlock (upToLast 0 (inOrder axes)))
+unfolding judge block_of
+by_block axes words l = bind_done (carryOut words) (plan-block axes l)
 
 -- ---- two lists
 
-module _ (es : List ℕ) (ss : List ℤ) where
-  pub too_many : (16 < length es) ⊎ ((length es ≤ 16) × (16 < length ss)) → {before : List ℕ} → JudgedAs (verdict es ss (length before)) before before (Err TooManyAxes)
-  too_many h {before} = rw (verdict-call-claims.one es ss (length before) (either h)) (record { told = refl; scratch = (refl, refl) })
-    where
-      either : (16 < length es) ⊎ ((length es ≤ 16) × (16 < length ss)) → (16 < length es) ⊎ (16 < length ss)
-      either (inl k) = inl k
-      either (inr k) = inr k.1
+pub too_many : (es : List ℕ) (ss : List ℤ) (words : ℕ) → (16 < length es) ⊎ (16 < length ss) → verdict es ss words ≡ refused 1 []
+too_many = verdict-call-claims.one
 
-  pub unequal : length es ≤ 16 → length ss ≤ 16 → length es ≢ length ss → {before : List ℕ} → JudgedAs (verdict es ss (length before)) before before (Err LengthsDiffer)
-  unequal h k n {before} = rw (verdict-call-claims.two es ss (length before) h k n) (record { told = refl; scratch = (refl, refl) })
+pub unequal : (es : List ℕ) (ss : List ℤ) (words : ℕ) → length es ≤ 16 → length ss ≤ 16 → length es ≢ length ss → verdict es ss words ≡ refused 2 []
+unequal = verdict-call-claims.two
 
-  pub judged-axes : length es ≤ 16 → length es ≡ length ss → {axes : List Axis} → axes ≡ axesOf es ss → {r : Result Judgement Refusal} {before after : List ℕ}
-      → JudgedAs (judge axes (length before)) before after r → JudgedAs (verdict es ss (length before)) before after r
-  judged-axes few e p {r} {before} {after} j =
-      subst (λ (o : Outcome Judged). JudgedAs o before after r) (ap (λ (a : List Axis). judge a (length before)) p ∙ sym (verdict-call-claims.then-judged es ss (length before) few e)) j
+pub by_axes : (es : List ℕ) (ss : List ℤ) (words : ℕ) → length es ≤ 16 → length es ≡ length ss → verdict es ss words ≡ judge (axesOf es ss) words
+by_axes = verdict-call-claims.then-judged
+
+-- the verdict of two lists
+pub ruleset lists = (too_many, unequal, by_axes)

@@ -25,6 +25,17 @@ judgedOf (Ok (Repeated count)) = done (record { answer = verdict.Repeated; count
 judgedOf (Ok Undecided) = done (record { answer = verdict.Undecided; count = 0 })
 judgedOf (Err why) = refused (number_of why) (values_of why)
 
+-- the number of a verdict in a record and at the border to C, and its count
+abbrev pub number_told : Judgement → ℕ
+number_told (Distinct count) = 1
+number_told (Repeated count) = 2
+number_told Undecided = 3
+
+abbrev pub count_told : Judgement → ℕ
+count_told (Distinct count) = count
+count_told (Repeated count) = count
+count_told Undecided = 0
+
 -- answer and scratch of the call are those of an outcome: the scratch is `before` it and `after` it
 pub record JudgedAs (outcome : Outcome Judged) (before after : List ℕ) (answer : Result Judgement Refusal) : Type 0 where
   pub told : judgedOf answer ≡ toldOf outcome

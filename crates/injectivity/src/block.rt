@@ -1,35 +1,124 @@
-//! The block of axes whose spans reach into each other.
-ghost use Rattle.std.specs.Prelude.{◌≡◌, ◌-◌, ◌<◌, leb};
-ghost use Rattle.specification.specs.Verdict.{upToLast};
-ghost use Rattle.injectivity.specs.Block.{WithinWords, measured};
+//! The block of axes whose spans reach into each other, and its verdict: crowded, of two axes, searched, enumerated.
+ghost use Rattle.std.specs.Prelude.{[], ◌≡◌, ◌↔◌, ◌-◌, ◌^◌, ◌<◌, ◌≤◌, length, IsTrue, IfSome, IfNone};
+ghost use Rattle.specification.specs.Tests.{sortBy};
+ghost use Rattle.specification.specs.Search.{total as total_of, spanSum};
+ghost use Rattle.specification.specs.Verdict.{upToLast, enumerated, longer, pastSearch, byMany, byBlock, carryOut};
+ghost use Rattle.search.specs.Block.{Searchable, planOf};
+ghost use Rattle.injectivity.specs.Judgement.{JudgedAs};
 
+use crate::Judgement;
 use axis::ActiveAxis;
+use enumeration::enumerate;
+use search::{search_block, two_axis_block_is_injective};
+use std::marker::Model;
+use view::layout::Refusal;
 
-/// How many of the sorted axes are in the block, the product of their extents, and the sum of their absolute spans.
-#[derive(Clone, Copy, Debug, PartialEq, Eq)]
-pub struct InterleavedBlock {
-    pub len: usize,
-    pub total: u64,
-    pub span: u64,
+/// The largest total that is enumerated. It bounds the words needed, by 16,777,217.
+const EXACT_BLOCK_BUDGET: u64 = 16777216;
+
+/// The axes of a block, the product of their extents, and the sum of their absolute spans. A contract sees the axes.
+#[derive(Drop)]
+pub struct InterleavedBlock<'a> {
+    axes: &'a [ActiveAxis],
+    total: u64,
+    span: u64,
 }
 
-impl InterleavedBlock {
+impl<'a> Model for InterleavedBlock<'a> {
+    ghost use Rattle.std.specs.Prelude.{List};
+    ghost use Rattle.specification.specs.Search.{ActiveAxis};
+
+    ghost Value = { List ActiveAxis };
+
+    ghost view = { λ block. block.axes.now };
+
+    ghost use Rattle.injectivity.specs.Block.{IsJudgeable};
+
+    ghost invariant = { IsJudgeable };
+}
+
+impl InterleavedBlock<'_> {
     /// Whether there is a sum for each position: sums go from 0 to the span, and of more positions some two share one.
-    pub fn may_be_injective(&self) -> bool
-        requires { 0 < self.now.total }
-        ensures { result ≡ leb (self.now.total - 1) self.now.span }
+    fn may_be_injective(&self) -> bool
+        ensures { IsTrue result ↔ (total_of self.now - 1 ≤ spanSum self.now) }
     {
         self.total - 1 <= self.span
     }
+
+    /// The enumeration, within its budget.
+    fn offsets_unique(&self, scratch: &mut [u64]) -> Result<Judgement, Refusal>
+        ensures { JudgedAs (carryOut (length scratch.old) (enumerated self.now)) scratch.old scratch.new result }
+    {
+        match enumerate(self.axes, self.total, self.span, scratch) {
+            Ok(true) => Ok(Judgement::Distinct(0)),
+            Ok(false) => Ok(Judgement::Repeated(0)),
+            Err(words) => Err(Refusal::ShortScratch(words as usize)),
+        }
+    }
+
+    /// Past the budget of the search.
+    #[tactic(auto, unfolding(specification::specs::Verdict::pastSearch, specification::specs::Verdict::carryOut))]
+    fn judge_past_search(&self, scratch: &mut [u64]) -> Result<Judgement, Refusal>
+        ensures { JudgedAs (carryOut (length scratch.old) (pastSearch self.now)) scratch.old scratch.new result }
+    {
+        if self.total <= EXACT_BLOCK_BUDGET {
+            self.offsets_unique(scratch)
+        } else {
+            Ok(Judgement::Undecided)
+        }
+    }
+
+    /// The search, and what is past it.
+    #[tactic(auto, unfolding(specification::specs::Verdict::carryOut))]
+    fn judge_many(&self, scratch: &mut [u64]) -> Result<Judgement, Refusal>
+        ensures { JudgedAs (carryOut (length scratch.old) (byMany self.now (sortBy longer self.now))) scratch.old scratch.new result }
+    {
+        match search_block(self.axes) {
+            Some(searched) => Ok(searched.into()),
+            None => self.judge_past_search(scratch),
+        }
+    }
+
+    /// The block judged.
+    #[tactic(auto, using(crate::proofs::JudgeLaws::plans), unfolding(specification::specs::Verdict::carryOut))]
+    pub fn judge(&self, scratch: &mut [u64]) -> Result<Judgement, Refusal>
+        ensures { JudgedAs (carryOut (length scratch.old) (byBlock self.now)) scratch.old scratch.new result }
+    {
+        if !self.may_be_injective() {
+            return Ok(Judgement::Repeated(0));
+        }
+        let &[a, b] = self.axes else {
+            return self.judge_many(scratch);
+        };
+        if two_axis_block_is_injective(a, b) {
+            Ok(Judgement::Distinct(0))
+        } else {
+            Ok(Judgement::Repeated(0))
+        }
+    }
+}
+
+/// The first of sorted axes: how many, the product of their extents, and the sum of their absolute spans.
+#[derive(Clone, Copy)]
+struct Front {
+    len: usize,
+    total: u64,
+    span: u64,
 }
 
 /// Of sorted axes, those up to the last whose absolute stride is at most the sum of absolute spans before it; none, where
 /// every axis is separated.
-pub fn interleaved_block(sorted: &[ActiveAxis]) -> Option<InterleavedBlock>
-    requires { WithinWords sorted.now }
-    ensures { result ≡ measured (upToLast 0 sorted.now) }
+pub fn interleaved_block(sorted: &[ActiveAxis]) -> Option<InterleavedBlock<'_>>
+    requires searchable { Searchable sorted.now }
+    requires total_fits { total_of sorted.now < 2 ^ 64 }
+    ensures some { IfSome result (λ block. block ≡ upToLast 0 sorted.now) }
+    ensures none { IfNone result (upToLast 0 sorted.now ≡ []) }
 {
-    let mut found = None;
+    let mut block = Front {
+        len: 0,
+        total: 1,
+        span: 0,
+    };
     let mut total: u64 = 1;
     let mut span: u64 = 0;
     for (i, axis) in sorted.iter().enumerate() {
@@ -39,11 +128,18 @@ pub fn interleaved_block(sorted: &[ActiveAxis]) -> Option<InterleavedBlock>
         if separated {
             continue;
         }
-        found = Some(InterleavedBlock {
+        block = Front {
             len: i + 1,
             total,
             span,
-        });
+        };
     }
-    found
+    if block.len == 0 {
+        return None;
+    }
+    Some(InterleavedBlock {
+        axes: &sorted[..block.len],
+        total: block.total,
+        span: block.span,
+    })
 }

@@ -16,6 +16,7 @@ const MOST_UP: u64 = i64::MAX as u64;
 const MOST_DOWN: u64 = MOST_UP + 1;
 
 /// Whether an axis is active with stride 0.
+#[tactic(auto, using(crate::proofs::InputsLaws::axis_tests), unfolding(integer::specs::Multiple::eqZ))]
 fn is_still(axis: &Axis) -> bool
     ensures { result ≡ still axis.now }
 {
@@ -30,6 +31,7 @@ fn some_still(axes: &[Axis]) -> bool
 }
 
 /// Whether an axis is active, and its extent minus 1 is above 2^63 - 1 or its stride is -2^63.
+#[tactic(auto, using(crate::proofs::InputsLaws::axis_tests), unfolding(integer::specs::Multiple::eqZ))]
 fn is_unfit(axis: &Axis) -> bool
     ensures { result ≡ unfit axis.now }
 {
@@ -44,6 +46,7 @@ fn some_unfit(axes: &[Axis]) -> bool
 }
 
 /// Refusal 3. No span is out of range where the sums of the positive and of the negative spans are in range.
+#[tactic(auto, using(crate::proofs::InputsLaws::out_is))]
 fn out_of_range(axes: &[Axis]) -> bool
     ensures { result ≡ outOfRange axes.now }
 {

@@ -4,7 +4,6 @@
 mod active;
 mod block;
 mod inputs;
-mod judge;
 
 ghost use Rattle.std.specs.Prelude.{◌≤◌, length};
 ghost use Rattle.specification.specs.Verdict.{judge as judged, verdict};
@@ -16,7 +15,6 @@ use active::{NO_ACTIVE_AXIS, gather_active};
 use axis::Axis;
 use block::interleaved_block;
 use inputs::validate_injective_layout_inputs;
-use judge::judge_block;
 use search::Searched;
 use sorting::sort_by_stride;
 use view::axes::pair_into;
@@ -28,6 +26,32 @@ pub enum Judgement {
     Distinct(u64),
     Repeated(u64),
     Undecided,
+}
+
+impl Judgement {
+    ghost use Rattle.std.specs.Prelude.{◌≡◌};
+    ghost use Rattle.injectivity.specs.Judgement.{number_told, count_told};
+
+    /// Its number in a record and at the border to C.
+    pub fn number(self) -> u8
+        ensures { result ≡ number_told self }
+    {
+        match self {
+            Judgement::Distinct(_) => 1,
+            Judgement::Repeated(_) => 2,
+            Judgement::Undecided => 3,
+        }
+    }
+
+    /// How many difference vectors were looked at; 0 where that is not told.
+    pub fn count(self) -> u64
+        ensures { result ≡ count_told self }
+    {
+        match self {
+            Judgement::Distinct(count) | Judgement::Repeated(count) => count,
+            Judgement::Undecided => 0,
+        }
+    }
 }
 
 impl From<Searched> for Judgement {
@@ -45,6 +69,7 @@ impl From<Searched> for Judgement {
 }
 
 /// The verdict where the block decides. No block is Distinct: every axis is separated.
+#[tactic(auto, using(crate::proofs::ReadyLaws::sorted_axes, crate::proofs::PlanLaws::by_block), unfolding(specification::specs::Verdict::byBlock, specification::specs::Verdict::carryOut))]
 fn judge_active_axes(axes: &[Axis], scratch: &mut [u64]) -> Result<Judgement, Refusal>
     requires few { length axes.now ≤ 16 }
     requires left { LeftToBlock axes.now }
@@ -57,7 +82,7 @@ fn judge_active_axes(axes: &[Axis], scratch: &mut [u64]) -> Result<Judgement, Re
     let Some(block) = interleaved_block(active) else {
         return Ok(Judgement::Distinct(0));
     };
-    judge_block(&active[..block.len], block, scratch)
+    block.judge(scratch)
 }
 
 /// The verdict of axes. Only the enumeration works in the scratch: it refuses fewer words than it needs, and leaves those past
@@ -73,6 +98,7 @@ pub fn judge_axes(axes: &[Axis], scratch: &mut [u64]) -> Result<Judgement, Refus
 }
 
 /// The verdict of two lists: refusals 1 and 2, then that of the axes that they are.
+#[tactic(auto, using(crate::proofs::PlanLaws::lists))]
 pub fn is_injective_layout(
     extents: &[u64],
     strides: &[i64],
@@ -93,6 +119,7 @@ pub fn is_injective_layout(
 }
 
 /// Does nothing, and promises what the answers of a verdict say of the layout: the check refuses it unless each claim has its proof.
+#[tactic(auto, using(crate::proofs::MeaningProved::judgement_claims))]
 pub fn claims_hold()
     ensures { Claims }
 {}

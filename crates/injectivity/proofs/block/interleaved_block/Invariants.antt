@@ -3,4 +3,4 @@ use Rattle.injectivity.proofs.CoverLaws.{Covering}
 use Rattle.injectivity.proofs.block.interleaved_block.Given as goal
 
 abbrev pub invariant-loop-i : goal.invariant-loop-i
-invariant-loop-i l = Covering l.sorted l.i l.found l.total l.span
+invariant-loop-i l = Covering l.sorted l.i l.total l.span l.block
