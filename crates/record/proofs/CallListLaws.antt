@@ -1,43 +1,17 @@
--- Laws of a call list in numbers: the calls from one call on, where it is ill-formed, and a list past 16 entries is refused by its length.
+-- Laws of a call list in numbers: the calls from one call on, and where it is ill-formed.
 use Rattle.std.specs.Prelude.{if◌then◌else◌, Err, Ok, None, Option, Some}
 use mathlib.Core.Path.{◌≡◌, refl, sym, ap, ◌∙◌}
-use mathlib.Core.Bool.{Bool, true, false, ◌&&◌, ◌||◌}
+use mathlib.Core.Bool.{Bool, true, false, ◌&&◌}
 use mathlib.Core.List.{List, [], ◌∷◌}
-use Prim.Native.Nat.{ℕ, zero, suc, min, ◌+◌, ◌-◌, ◌<◌, ◌≤◌}
+use Prim.Native.Nat.{ℕ, zero, suc, ◌+◌, ◌-◌, ◌<◌, ◌≤◌}
 use native.Mathlib.Omega.{arith}
-use lib.Dec.{leb, ltb}
-use lib.ListN.{length, take, drop, length-drop, length-take}
-use lib.Seq.{take_all}
-use borrow.Author.Tests.{lt-ltb, ltb-true, ltb-false, le-leb, leb-true, eq-eqb, ne_eqb}
-use Rattle.specification.specs.Outcome.{refused, refuseIf, ◌>>◌}
-use Rattle.specification.specs.Layout.{LayoutM, tooLong, handed}
-use Rattle.specification.specs.Views.{broadcast, unlessRefused}
+use lib.Dec.{leb}
+use lib.ListN.{length, take, drop, length-drop}
+use borrow.Author.Tests.{le-leb, leb-true, eq-eqb, ne_eqb}
+use Rattle.specification.specs.Layout.{LayoutM}
 use Rattle.specification.specs.Calls.{Call, after_call, end_of}
 use Rattle.specification.proofs.ReachLaws.{and-true}
 use Rattle.record.specs.CallList.{call_of, wellFormed, first_of, calls_within, calls_of, takenWithin, ended_of}
-
--- ---- a list past 16 entries
-
-or-true : (t : Bool) → (t || true) ≡ true
-or-true true = refl
-or-true false = refl
-
--- what broadcast answers does not depend on the targets where there are more than 16
-long-broadcast : (l : LayoutM) (targets : List ℕ) → 16 < length targets → broadcast l targets ≡ record { answer = refused 1 []; layout = l }
-unfolding broadcast handed refuseIf ◌>>◌ unlessRefused
-long-broadcast l targets h = rw (lt-ltb 16 (length targets) h, or-true (tooLong l.axes))
-
-broadcast-first : (l : LayoutM) (targets : List ℕ) (n : ℕ) → 16 < n → n ≤ length targets → broadcast l (take n targets) ≡ broadcast l targets
-broadcast-first l targets n h k =
-    long-broadcast l (take n targets) (simp length-take (omega arith)) ∙ sym (long-broadcast l targets (omega arith))
-
--- so the first 17 targets are enough
-pub broadcast-first-17 : (l : LayoutM) (targets : List ℕ) → broadcast l (take (min (length targets) 17) targets) ≡ broadcast l targets
-broadcast-first-17 l targets = by (ltb 16 (length targets)) refl
-  where
-    by : (t : Bool) → ltb 16 (length targets) ≡ t → broadcast l (take (min (length targets) 17) targets) ≡ broadcast l targets
-    by true e = let h = ltb-true 16 (length targets) e in broadcast-first l targets (min (length targets) 17) (omega arith) (omega arith)
-    by false e = let h = ltb-false 16 (length targets) e in ap (broadcast l) (take_all (min (length targets) 17) targets (omega arith))
 
 -- ---- the calls, one after another
 

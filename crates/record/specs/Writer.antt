@@ -4,14 +4,8 @@ use Rattle.big_endian.specs.declared.BytePlace.{BytePlace}
 use Rattle.std.specs.Prelude.{ℕ, Err, Ok, Result}
 use Rattle.specification.specs.Outcome.{Outcome, done, refused}
 use Rattle.view.specs.Answers.{number_of, values_of}
-use Rattle.injectivity.specs.declared.Judgement.{Judgement}
-use Rattle.injectivity.specs.declared.Judgement.TheVariants as judgement
-
 -- the byte of a verdict
-abbrev pub byte_of : Judgement → ℕ
-byte_of (judgement.Distinct count) = 1
-byte_of (judgement.Repeated count) = 2
-byte_of judgement.Undecided = 3
+pub use Rattle.injectivity.specs.Judgement.{number_told as byte_of}
 
 -- how many bytes were written, or the refusal
 abbrev pub wroteOf : Result BytePlace Refusal → Outcome ℕ

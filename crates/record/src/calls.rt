@@ -1,8 +1,7 @@
 //! Lists of calls: views of a layout, one after another. A list is given as calls, or in numbers: for each call its kind
 //! (1 permute, 2 diagonal_view, 3 broadcast), how many numbers follow, and these.
-ghost use Rattle.std.specs.Prelude.{◌≡◌, ◌≤◌, length, map, take, MatchOption, None, Some};
+ghost use Rattle.std.specs.Prelude.{◌≡◌, map, MatchOption, None, Some};
 ghost use Rattle.specification.specs.Calls.{after_call, end_of};
-ghost use Rattle.specification.specs.Views.{broadcast};
 ghost use Rattle.view.specs.Model.{modelOf, viewedOf, told};
 ghost use Rattle.record.specs.Calls.{call_in, listed_call};
 ghost use Rattle.record.specs.CallList.{first_of};
@@ -12,7 +11,7 @@ use view::diagonal::AxisPair;
 use view::layout::{Layout, Refusal, Viewed};
 
 /// One call of a list, with its arguments.
-#[derive(Clone, Copy)]
+#[derive(Clone, Copy, Debug, PartialEq, Eq)]
 pub enum Call<'a> {
     Permute(&'a [usize]),
     DiagonalView(&'a [AxisPair]),
@@ -71,27 +70,6 @@ fn first_call(numbers: &[usize]) -> Option<(Listed<'_>, &[usize])>
     }
 }
 
-/// Up to 17 arguments of a call as targets.
-fn targets_of(arguments: &[usize]) -> [u64; 17]
-    requires { length arguments.now ≤ 17 }
-    ensures { take (length arguments.now) result ≡ arguments.now }
-{
-    let mut targets = [0u64; 17];
-    for (i, argument) in arguments.iter().enumerate() {
-        targets[i] = *argument as u64;
-    }
-    targets
-}
-
-/// broadcast to targets in a list of any length: past 16 it is refused, whatever they are.
-fn broadcast_to(layout: &mut Layout, arguments: &[usize]) -> Result<(), Refusal>
-    ensures { told result layout.new ≡ broadcast (modelOf layout.old) arguments.now }
-{
-    let count = arguments.len().min(17);
-    let targets = targets_of(&arguments[..count]);
-    layout.broadcast_in_place(&targets[..count])
-}
-
 /// One call in numbers.
 #[tactic(auto, unfolding(specification::specs::Calls::after_call))]
 fn run_call(layout: &mut Layout, call: Listed<'_>) -> Result<(), Refusal>
@@ -101,7 +79,7 @@ fn run_call(layout: &mut Layout, call: Listed<'_>) -> Result<(), Refusal>
     match call {
         Listed::Permute(order) => layout.permute_in_place(order),
         Listed::DiagonalView(pairs) => layout.diagonal_by_numbers(pairs),
-        Listed::Broadcast(targets) => broadcast_to(layout, targets),
+        Listed::Broadcast(targets) => layout.broadcast_in_place(targets),
     }
 }
 

@@ -62,7 +62,7 @@ fn merged(layout: &Layout) -> Layout
 }
 
 /// One axis, extent 0, stride 0, offset 0; the buffer length stays.
-#[tactic(auto, unfolding(lists::specs::Table::table))]
+#[tactic(auto, unfolding(view::specs::Table::table))]
 fn empty_form(len: u64) -> Layout
     ensures { modelOf result ≡ empty_model len }
 {

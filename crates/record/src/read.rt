@@ -3,7 +3,7 @@ ghost use Rattle.view.specs.Model.{layout_outcome};
 ghost use Rattle.record.specs.Reading.{Reading};
 
 use crate::reader::read_front;
-use crate::writer::{judge_layout, verdict_byte};
+use crate::writer::judge_layout;
 use view::layout::{Layout, Refusal};
 
 /// Refusals 11, then 9, then 11 for a false verdict; or the layout, whose buffer length is its highest offset + 1.
@@ -14,7 +14,7 @@ pub fn read_record(bytes: &[u8], scratch: &mut [u64]) -> Result<Layout, Refusal>
         return Err(Refusal::NotARecord);
     };
     let judged = judge_layout(&front.layout, scratch)?;
-    let confirmed = verdict_byte(judged) == front.verdict;
+    let confirmed = judged.number() == front.verdict;
     if !confirmed {
         return Err(Refusal::NotARecord);
     }

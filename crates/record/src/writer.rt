@@ -1,27 +1,16 @@
 //! The writer: the record of a layout's normal form with its verdict, at the front of an output.
-ghost use Rattle.std.specs.Prelude.{◌≡◌, ◌≤◌, length};
+ghost use Rattle.std.specs.Prelude.{◌≤◌, length};
 ghost use Rattle.specification.specs.Verdict.{judge};
 ghost use Rattle.specification.specs.Record.{Writing};
 ghost use Rattle.view.specs.Model.{modelOf};
 ghost use Rattle.injectivity.specs.Judgement.{JudgedAs};
-ghost use Rattle.record.specs.Writer.{byte_of, wroteOf};
+ghost use Rattle.record.specs.Writer.{wroteOf};
 
 use crate::fields::{put_record, record_length};
 use crate::normal::normal_form;
 use big_endian::BytePlace;
 use injectivity::{Judgement, judge_axes};
 use view::layout::{Layout, Refusal};
-
-/// The byte of a verdict: 1 Distinct, 2 Repeated, 3 Undecided.
-pub(crate) fn verdict_byte(judged: Judgement) -> u8
-    ensures { result ≡ byte_of judged }
-{
-    match judged {
-        Judgement::Distinct(_) => 1,
-        Judgement::Repeated(_) => 2,
-        Judgement::Undecided => 3,
-    }
-}
 
 /// The verdict of a layout's axes.
 pub fn judge_layout(layout: &Layout, scratch: &mut [u64]) -> Result<Judgement, Refusal>
@@ -46,6 +35,6 @@ pub fn write_record(
         return Err(Refusal::ShortOutput(size));
     }
     let judged = judge_layout(&form, scratch)?;
-    put_record(out, &form, verdict_byte(judged));
+    put_record(out, &form, judged.number());
     Ok(BytePlace(size))
 }

@@ -16,15 +16,14 @@ fn answer_judgement(judged: Result<Judgement, Refusal>, found: &mut [u64], value
     requires values_room { 2 ≤ length values.old }
     ensures { ToldAfter (judgedOf judged) found.old values.old found.new values.new result }
 {
-    let (verdict, count) = match judged {
-        Ok(Judgement::Distinct(count)) => (1, count),
-        Ok(Judgement::Repeated(count)) => (2, count),
-        Ok(Judgement::Undecided) => (3, 0),
-        Err(why) => return refuse(why, values),
-    };
-    found[0] = verdict;
-    found[1] = count;
-    0
+    match judged {
+        Ok(judgement) => {
+            found[0] = judgement.number().into();
+            found[1] = judgement.count();
+            0
+        }
+        Err(why) => refuse(why, values),
+    }
 }
 
 /// Whether no two positions share an offset, with the number of difference vectors looked at.

@@ -9,4 +9,4 @@ pub returns-in-DiagonalView-clause-made : goal.returns-in-DiagonalView-clause-ma
 returns-in-DiagonalView-clause-made c = rw c.in-DiagonalView.is (fused-by-numbers _ c.diagonal_by_numbers.ensures.told)
 
 pub returns-in-Broadcast-clause-made : goal.returns-in-Broadcast-clause-made
-returns-in-Broadcast-clause-made c = rw c.in-Broadcast.is (stretched _ c.broadcast_to.ensures)
+returns-in-Broadcast-clause-made c = rw c.in-Broadcast.is (stretched _ c.broadcast_in_place.ensures.told)

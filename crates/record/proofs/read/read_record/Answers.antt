@@ -4,7 +4,7 @@ use Rattle.std.proofs.lemmas.Result.{err_from_is_err_and}
 use Rattle.std.proofs.Common.{◌≡◌, refl, sym, ap, ◌∙◌, arith, ℕ, List, []}
 use Rattle.specification.specs.Outcome.{done, refused}
 use Rattle.view.specs.Model.{modelOf}
-use Rattle.view.proofs.ListedLaws.{rank-model_of}
+use Rattle.view.proofs.ListedLaws.{rank_model_of}
 use Rattle.record.specs.declared.reader.Front.{Front}
 use Rattle.record.specs.Reader.{FrontM, frontOf, front_outcome}
 use Rattle.record.proofs.FrontLaws.{front-few}
@@ -28,7 +28,7 @@ returns-in_default c = reading-no-record c.args.bytes.now c.args.scratch.now (no
 pub judge_layout-requires : goal.judge_layout-requires
 judge_layout-requires c =
     let f = c.in-Some.front in
-    omega (arith, front-few c.args.bytes.now (is_front _ _ f c.read_front.ensures c.in-Some.is), rank-model_of f.layout)
+    omega (arith, front-few c.args.bytes.now (is_front _ _ f c.read_front.ensures c.in-Some.is), rank_model_of f.layout)
 
 pub returns-in_err-judged : goal.returns-in_err-judged
 returns-in_err-judged c =
@@ -40,10 +40,10 @@ pub returns-then-not-confirmed : goal.returns-then-not-confirmed
 returns-then-not-confirmed c =
     let w = byte-told _ _ c.in_ok-judged.ensures.told in
     reading-false c.args.bytes.now c.args.scratch.now (is_front _ _ c.in-Some.front c.read_front.ensures c.in-Some.is) w.is
-    (λ q. c.if-not-confirmed.true (c.verdict_byte.ensures ∙ sym w.byte-is ∙ q)) c.judge_layout.ensures.scratch refl
+    (λ q. c.if-not-confirmed.true (c.number.ensures ∙ sym w.byte-is ∙ q)) c.judge_layout.ensures.scratch refl
 
 pub returns : goal.returns
 returns c =
     let w = byte-told _ _ c.in_ok-judged.ensures.told in
     reading-true c.args.bytes.now c.args.scratch.now (is_front _ _ c.in-Some.front c.read_front.ensures c.in-Some.is) w.is
-    (w.byte-is ∙ sym c.verdict_byte.ensures ∙ c.if-not-confirmed.false) c.judge_layout.ensures.scratch refl
+    (w.byte-is ∙ sym c.number.ensures ∙ c.if-not-confirmed.false) c.judge_layout.ensures.scratch refl

@@ -10,7 +10,7 @@ use Rattle.view.specs.Answers.{number_of, values_of}
 use Rattle.view.specs.Model.{modelOf, layout_outcome}
 use Rattle.view.specs.declared.layout.Layout.{Layout}
 use Rattle.view.specs.declared.layout.Refusal.{Refusal}
-use Rattle.view.proofs.ListedLaws.{rank-model_of}
+use Rattle.view.proofs.ListedLaws.{rank_model_of}
 use Rattle.record.proofs.WriterLaws.{formed, writing-unformed, writing-short, writing-unjudged, writing-made}
 use Rattle.record.proofs.JudgedLaws.{byte-told, refusal-told}
 use Rattle.record.proofs.writer.write_record.Goals as goal
@@ -26,11 +26,11 @@ unformed-as given why r e d = sym e ∙ ap layout_outcome d
 
 -- a normal form has at most 16 axes
 few : (given form : Layout) → normalForm (modelOf given) ≡ done (modelOf form) → form.rank ≤ 16
-few given form e = omega (arith, (formed (modelOf given) (modelOf form) e).accepted.few, rank-model_of form)
+few given form e = omega (arith, (formed (modelOf given) (modelOf form) e).accepted.few, rank_model_of form)
 
 -- an output that is not too short has room
 room : (form : Layout) (size : ℕ) (output : List ℕ) → size ≡ recordLength form.rank → size ≤ length output → recordLength (rank (modelOf form)) ≤ length output
-room form size output s h = rw (rank-model_of form, ← s) (omega (arith, h))
+room form size output s h = rw (rank_model_of form, ← s) (omega (arith, h))
 
 pub returns-in_err-form : goal.returns-in_err-form
 returns-in_err-form c =
@@ -45,7 +45,7 @@ returns-then-short c =
     let form = c.in_ok-form.form in
     let e = formed-as c.args.layout.now form _ c.normal_form.ensures c.in_ok-form.was in
     let s = c.record_length-size.ensures in
-    rw (s, ← rank-model_of form) (writing-short (modelOf c.args.layout.now) _ _ e (rw (rank-model_of form, ← s) c.if-short.true))
+    rw (s, ← rank_model_of form) (writing-short (modelOf c.args.layout.now) _ _ e (rw (rank_model_of form, ← s) c.if-short.true))
 
 pub judge_layout-requires : goal.judge_layout-requires
 judge_layout-requires c = few c.args.layout.now _ (formed-as c.args.layout.now _ _ c.normal_form.ensures c.in_ok-form.was)
@@ -67,6 +67,6 @@ returns c =
     let e = formed-as c.args.layout.now form _ c.normal_form.ensures c.in_ok-form.was in
     let s = c.record_length-size.ensures in
     let w = byte-told _ _ c.in_ok-judged.ensures.told in
-    rw (s, ← rank-model_of form)
+    rw (s, ← rank_model_of form)
     (writing-made (modelOf c.args.layout.now) _ _ e (room form _ _ s c.if-short.false) w.is c.judge_layout.ensures.scratch
-    (c.put_record.ensures ∙ rw (w.byte-is, c.verdict_byte.ensures, rank-model_of form)))
+    (c.put_record.ensures ∙ rw (w.byte-is, c.number.ensures, rank_model_of form)))
