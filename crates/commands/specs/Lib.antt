@@ -1,5 +1,5 @@
 pub mod Names
-pub mod Refused
+pub mod Obeyed
 pub mod Replies
 pub mod Spelled
 pub mod Texts

@@ -4,10 +4,19 @@ ghost use Rattle.commands.specs.declared.fault.Fault.TheVariants.{UnequalLists};
 ghost use Rattle.commands.specs.declared.fault.Problem.TheVariants.{Told};
 ghost use Rattle.commands.specs.declared.reply.Reply.TheVariants.{Done};
 ghost use Rattle.specification.specs.Axis.{axesOf};
-ghost use Rattle.commands.specs.Refused.{IsToldBy};
+ghost use Rattle.specification.specs.CheckIn.{checkIn};
+ghost use Rattle.specification.specs.Views as view;
+ghost use Rattle.std.specs.List.{flat_map};
+ghost use Rattle.view.specs.Model.{modelOf, layout_outcome};
+ghost use Rattle.commands.specs.declared.fault.Form.TheVariants.{Unsigned, Pair};
+ghost use Rattle.specification.specs.Record.{read_of};
+ghost use Rattle.record.specs.Reading.{layout_read};
+ghost use Rattle.commands.specs.Obeyed.{Tells, Obeys, Views, numbered, bytes_and_size, four_parts};
+ghost use Rattle.commands.specs.Spelled.{unsigned, pair};
+ghost use Rattle.commands.specs.Words.{Gives, list_of};
 
 use crate::fault::{Fault, Problem};
-use crate::memory::{Memory, grow};
+use crate::memory::{Memory, lend};
 use crate::reply::Reply;
 use crate::spelled::Lent;
 use crate::word::Word;
@@ -31,7 +40,10 @@ impl Given {
     pub fn read(
         alloc: Global,
         words: (Word<'_>, Word<'_>, Word<'_>, Word<'_>),
-    ) -> Result<Given, Problem> {
+    ) -> Result<Given, Problem>
+        ensures { Gives (λ g. (g.len, g.offset.0, g.extents.items, g.strides.items)) result
+            (four_parts (numbered words.entry.0, numbered words.entry.1, numbered words.entry.2, numbered words.entry.3)) }
+    {
         let (len, offset, extents, strides) = words;
         Ok(Given {
             len: len.one()?,
@@ -42,17 +54,11 @@ impl Given {
     }
 }
 
-/// The layout that a call answers with, where it is not refused.
-pub fn accepted(view: Viewed) -> Result<Layout, Problem>
-    ensures ok { IfOk result (λ layout. (view.answer ≡ Ok tt) × (layout ≡ view.layout)) }
-    ensures err { IfErr result (IsToldBy view.answer) }
-{
-    view.answer?;
-    Ok(view.layout)
-}
-
 /// A layout that is checked in.
-pub fn new_layout(given: &Given) -> Result<Layout, Problem> {
+pub fn new_layout(given: &Given) -> Result<Layout, Problem>
+    ensures { Tells result (λ answer. layout_outcome answer
+        ≡ checkIn given.now.len given.now.offset.0 given.now.extents.items given.now.strides.items) }
+{
     let extents = given.extents.as_slice();
     let strides = given.strides.as_slice();
     Ok(Layout::new(given.len, given.offset, extents, strides)?)
@@ -78,7 +84,7 @@ pub fn set_layout(given: &Given) -> Result<Layout, Problem>
 {
     let rank = given.extents.len();
     if rank != given.strides.len() {
-        return Err(Problem::Told(Fault::UnequalLists));
+        return Err(Fault::UnequalLists.into());
     }
     Ok(Layout {
         len: given.len,
@@ -89,19 +95,26 @@ pub fn set_layout(given: &Given) -> Result<Layout, Problem>
 }
 
 /// The axes in the order of a list.
-pub fn permute(alloc: Global, current: Layout, order: Word<'_>) -> Result<Layout, Problem> {
+pub fn permute(alloc: Global, current: Layout, order: Word<'_>) -> Result<Layout, Problem>
+    ensures { Obeys result (list_of unsigned Unsigned order.entry.number order.entry.text.now) (λ list. Views (view.permute (modelOf current) list)) }
+{
     let order = order.list(alloc)?;
-    accepted(current.permute(order.as_slice()))
+    Ok(current.permute(order.as_slice()).accepted()?)
 }
 
 /// Axes of extent 1 stretched to the extents of a list.
-pub fn broadcast(alloc: Global, current: Layout, targets: Word<'_>) -> Result<Layout, Problem> {
+pub fn broadcast(alloc: Global, current: Layout, targets: Word<'_>) -> Result<Layout, Problem>
+    ensures { Obeys result (list_of unsigned Unsigned targets.entry.number targets.entry.text.now) (λ list. Views (view.broadcast (modelOf current) list)) }
+{
     let targets = targets.list(alloc)?;
-    accepted(current.broadcast(targets.as_slice()))
+    Ok(current.broadcast(targets.as_slice()).accepted()?)
 }
 
 /// The axes of each pair tied into one.
-pub fn diagonal(alloc: Global, current: Layout, pairs: Word<'_>) -> Result<Layout, Problem> {
+pub fn diagonal(alloc: Global, current: Layout, pairs: Word<'_>) -> Result<Layout, Problem>
+    ensures { Obeys result (list_of pair Pair pairs.entry.number pairs.entry.text.now)
+        (λ list. Views (view.diagonalView (modelOf current) (view.pairsOf (flat_map (λ x. x) list)))) }
+{
     let pairs = pairs.list::<[usize; 2]>(alloc)?;
     let mut layout = current;
     layout.diagonal_by_numbers(pairs.as_slice().as_flattened())?;
@@ -113,12 +126,14 @@ pub fn read(
     alloc: Global,
     memory: &mut Memory,
     words: (Word<'_>, Word<'_>),
-) -> Result<Layout, Problem> {
+) -> Result<Layout, Problem>
+    ensures { Obeys result (bytes_and_size (numbered words.entry.0, numbered words.entry.1))
+        (λ w answer. layout_outcome answer ≡ layout_read (read_of w.0 w.1.0)) }
+{
     let (bytes, scratch) = words;
     let bytes = bytes.bytes(alloc)?;
     let Lent(count) = scratch.one()?;
-    grow(&mut memory.scratch, count, 0)?;
-    let scratch = &mut memory.scratch.as_mut_slice()[..count];
+    let scratch = lend(&mut memory.scratch, count, 0)?;
     Ok(read_record(bytes.as_slice(), scratch)?)
 }
 

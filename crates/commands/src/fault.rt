@@ -120,19 +120,11 @@ impl fmt::Display for ByNumber {
 
     fn fmt<W: fmt::Write>(&self, f: &mut fmt::Formatter<W>) -> fmt::Result {
         let number = self.0.number();
-        match self.0 {
-            Refusal::WrongLength(a, b) | Refusal::BadAxis(a, b) => {
-                write!(f, "refused {number} {a} {b}")
-            }
-            Refusal::BadExtent(a)
-            | Refusal::BadIndex(a)
-            | Refusal::ShortScratch(a)
-            | Refusal::ShortOutput(a) => write!(f, "refused {number} {a}"),
-            Refusal::TooManyAxes
-            | Refusal::LengthsDiffer
-            | Refusal::OutOfRange
-            | Refusal::TooManyPositions
-            | Refusal::NotARecord => write!(f, "refused {number}"),
+        let values = self.0.values();
+        match values.as_slice() {
+            [] => write!(f, "refused {number}"),
+            [a] => write!(f, "refused {number} {a}"),
+            [a, b, ..] => write!(f, "refused {number} {a} {b}"),
         }
     }
 }

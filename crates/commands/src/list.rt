@@ -11,48 +11,50 @@ pub fn first<T>(count: usize, list: &[T]) -> &[T]
     &list[..count.min(list.len())]
 }
 
+// Entries joined by commas, each by what is shown of it; `-` for none.
+fn fmt_joined<A, T: fmt::Display + Copy, F: Fn(&A) -> T, W: fmt::Write>(
+    list: &[A],
+    shown: F,
+    f: &mut fmt::Formatter<W>,
+) -> fmt::Result
+    requires { F.IsAlwaysCallable shown }
+{
+    let Some((first, others)) = list.split_first() else {
+        return f.write_str("-");
+    };
+    write!(f, "{}", shown(first))?;
+    for entry in others {
+        write!(f, ",{}", shown(entry))?;
+    }
+    Ok(())
+}
+
 /// Numbers joined by commas; `-` for none.
 #[derive(Clone, Copy)]
 pub struct List<'a, T>(pub &'a [T]);
 
-impl<'a, T: fmt::Display> fmt::Display for List<'a, T> {
+impl<'a, T: fmt::Display + Copy> fmt::Display for List<'a, T> {
     fn fmt<W: fmt::Write>(&self, f: &mut fmt::Formatter<W>) -> fmt::Result {
-        let Some((first, others)) = self.0.split_first() else {
-            return f.write_str("-");
-        };
-        write!(f, "{first}")?;
-        for number in others {
-            write!(f, ",{number}")?;
-        }
-        Ok(())
+        fmt_joined(self.0, |number| *number, f)
     }
 }
 
-/// Which number of an axis is printed.
+/// The extents of axes joined by commas; `-` for no axis.
 #[derive(Clone, Copy)]
-pub enum Part {
-    Extent,
-    Stride,
+pub struct Extents<'a>(pub &'a [Axis]);
+
+impl fmt::Display for Extents<'_> {
+    fn fmt<W: fmt::Write>(&self, f: &mut fmt::Formatter<W>) -> fmt::Result {
+        fmt_joined(self.0, |axis| axis.extent, f)
+    }
 }
 
-/// One number of each axis, joined by commas; `-` for no axis.
+/// The strides of axes joined by commas; `-` for no axis.
 #[derive(Clone, Copy)]
-pub struct Column<'a>(pub &'a [Axis], pub Part);
+pub struct Strides<'a>(pub &'a [Axis]);
 
-impl fmt::Display for Column<'_> {
+impl fmt::Display for Strides<'_> {
     fn fmt<W: fmt::Write>(&self, f: &mut fmt::Formatter<W>) -> fmt::Result {
-        if self.0.is_empty() {
-            return f.write_str("-");
-        }
-        for (i, axis) in self.0.iter().enumerate() {
-            if 0 < i {
-                f.write_str(",")?;
-            }
-            match self.1 {
-                Part::Extent => write!(f, "{}", axis.extent)?,
-                Part::Stride => write!(f, "{}", axis.stride)?,
-            }
-        }
-        Ok(())
+        fmt_joined(self.0, |axis| axis.stride, f)
     }
 }

@@ -1,5 +1,5 @@
 // Memory that commands lend to calls: made at its first use, and kept for the next.
-ghost use Rattle.std.specs.Prelude.{◌≤◌, OnOk, vec_len};
+ghost use Rattle.std.specs.Prelude.{◌≡◌, IfOk, length};
 
 use std::alloc::{AllocError, Global};
 
@@ -19,12 +19,12 @@ impl Memory {
     }
 }
 
-/// Makes a list so long, where it is shorter.
-pub fn grow<T: Copy>(list: &mut Vec<T>, len: usize, value: T) -> Result<(), AllocError>
-    ensures { OnOk result (len ≤ vec_len list.new) }
+/// The first places of a list, so many of them. A list that is shorter is made as long.
+pub fn lend<T: Copy>(list: &mut Vec<T>, count: usize, value: T) -> Result<&mut [T], AllocError>
+    ensures { IfOk result (λ lent. length lent.now ≡ count) }
 {
-    if list.len() < len {
-        list.resize(len, value)?;
+    if list.len() < count {
+        list.resize(count, value)?;
     }
-    Ok(())
+    Ok(&mut list.as_mut_slice()[..count])
 }

@@ -59,7 +59,7 @@ pub fn obey(
 {
     let words = words_of(alloc, line)?;
     let [name, texts @ ..] = words.as_slice() else {
-        return Err(Problem::Told(Fault::UnknownCommand));
+        return Err(Fault::UnknownCommand.into());
     };
     let command = Command::named(*name).ok_or(Fault::UnknownCommand)?;
     run(alloc, current, memory, Words { command, texts })

@@ -1,5 +1,5 @@
 // What an obeyed line answers.
-use crate::list::{Column, List, Part, first};
+use crate::list::{Extents, List, Strides, first};
 use dense::DenseStrides;
 use injectivity::Judgement;
 use std::alloc::{AllocError, Global};
@@ -33,11 +33,16 @@ impl Reply {
 }
 
 // LEN OFFSET EXTENTS STRIDES; above rank 16 the 16 places that a layout holds.
-fn fmt_layout<W: fmt::Write>(layout: &Layout, f: &mut fmt::Formatter<W>) -> fmt::Result {
-    let axes = first(layout.rank, &layout.axes);
-    let extents = Column(axes, Part::Extent);
-    let strides = Column(axes, Part::Stride);
-    write!(f, "{} {} {extents} {strides}", layout.len, layout.offset.0)
+#[derive(Clone, Copy)]
+struct Line<'a>(&'a Layout);
+
+impl fmt::Display for Line<'_> {
+    fn fmt<W: fmt::Write>(&self, f: &mut fmt::Formatter<W>) -> fmt::Result {
+        let layout = self.0;
+        let axes = first(layout.rank, &layout.axes);
+        let (extents, strides) = (Extents(axes), Strides(axes));
+        write!(f, "{} {} {extents} {strides}", layout.len, layout.offset.0)
+    }
 }
 
 impl fmt::Display for Reply {
@@ -48,7 +53,7 @@ impl fmt::Display for Reply {
     fn fmt<W: fmt::Write>(&self, f: &mut fmt::Formatter<W>) -> fmt::Result {
         match self {
             Reply::Done => f.write_str("ok"),
-            Reply::Current(layout) => fmt_layout(layout, f),
+            Reply::Current(layout) => write!(f, "{}", Line(layout)),
             Reply::Offset(offset) => write!(f, "{offset}"),
             Reply::Judged(Judgement::Distinct(looked_at)) => write!(f, "distinct {looked_at}"),
             Reply::Judged(Judgement::Repeated(looked_at)) => write!(f, "repeated {looked_at}"),

@@ -1,5 +1,6 @@
 // Standard input a line at a time, each answered in order on standard output.
-ghost use Rattle.std.specs.Prelude.{◌≡◌, ◌↔◌, ◌⊎◌, ◌<◌, ◌++◌, ◌∷◌, [], Some, OnOk, IsTrue, All, length, slice_get};
+ghost use Rattle.std.specs.Prelude.{false, ◌≡◌, ◌≢◌, ◌↔◌, ◌⊎◌, ◌<◌, ◌++◌, ◌∷◌, [], Some, IfSome, Ok, OnOk, IsTrue, All, length, take, slice_get};
+ghost use Rattle.std.specs.Io.BufRead.{ends_with_byte, first_piece, strip_last};
 ghost use Rattle.std.specs.Io.KnownBytes.{Appends};
 ghost use Rattle.commands.specs.Texts.{long_line};
 
@@ -54,14 +55,31 @@ fn answer<W: Write + Drop>(
     }
 }
 
+// Takes a line feed off the end, where one stands there.
+fn pop_line_feed(line: &mut Vec<u8>) -> bool
+    ensures found { result ≡ ends_with_byte 10 line.old.items }
+    ensures rest { line.new.items ≡ strip_last 10 line.old.items }
+{
+    let found = line.last() == Some(&b'\n');
+    if found {
+        line.pop();
+    }
+    found
+}
+
 // The next line without its line feed, and whether there is more behind it. Of a line that is too long one byte too many is kept.
-fn next_line<R: BufRead>(input: &mut R, line: &mut Vec<u8>) -> io::Result<bool> {
+fn next_line<R: BufRead>(input: &mut R, line: &mut Vec<u8>) -> io::Result<bool>
+    ensures one_line { OnOk result (All (λ byte. byte ≢ 10) line.new.items) }
+
+    // Where it is known what there is to read.
+    ensures front { OnOk result (IfSome (R.remaining input.old) (λ bytes. line.new.items ≡ first_piece 10 (take 4097 bytes))) }
+    ensures last { result ≡ Ok false → IfSome (R.remaining input.old) (λ bytes. line.new.items ≡ bytes) }
+{
     line.clear();
     (&mut *input)
         .take(LINE_BYTES as u64 + 1)
         .read_until(b'\n', line)?;
-    if line.last() == Some(&b'\n') {
-        line.pop();
+    if pop_line_feed(line) {
         return Ok(true);
     }
     let more = is_too_long(line.as_slice());

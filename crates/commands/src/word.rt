@@ -38,7 +38,7 @@ impl<'a> Words<'a> {
     {
         match self.texts {
             [] => Ok(()),
-            [..] => Err(Problem::Told(Fault::WordCount(self.command))),
+            [..] => Err(Fault::WordCount(self.command).into()),
         }
     }
 
@@ -47,11 +47,8 @@ impl<'a> Words<'a> {
         ensures { Gives (λ w. (w.number, w.text.now)) result (one_word self.entry.command (map (λ text. text.now) self.entry.texts.now)) }
     {
         match self.texts {
-            [a] => Ok(Word {
-                number: 2,
-                text: *a,
-            }),
-            [..] => Err(Problem::Told(Fault::WordCount(self.command))),
+            [a] => Ok(Word::new(2, *a)),
+            [..] => Err(Fault::WordCount(self.command).into()),
         }
     }
 
@@ -61,17 +58,8 @@ impl<'a> Words<'a> {
             (two_words self.entry.command (map (λ text. text.now) self.entry.texts.now)) }
     {
         match self.texts {
-            [a, b] => Ok((
-                Word {
-                    number: 2,
-                    text: *a,
-                },
-                Word {
-                    number: 3,
-                    text: *b,
-                },
-            )),
-            [..] => Err(Problem::Told(Fault::WordCount(self.command))),
+            [a, b] => Ok((Word::new(2, *a), Word::new(3, *b))),
+            [..] => Err(Fault::WordCount(self.command).into()),
         }
     }
 
@@ -81,21 +69,8 @@ impl<'a> Words<'a> {
             (three_words self.entry.command (map (λ text. text.now) self.entry.texts.now)) }
     {
         match self.texts {
-            [a, b, c] => Ok((
-                Word {
-                    number: 2,
-                    text: *a,
-                },
-                Word {
-                    number: 3,
-                    text: *b,
-                },
-                Word {
-                    number: 4,
-                    text: *c,
-                },
-            )),
-            [..] => Err(Problem::Told(Fault::WordCount(self.command))),
+            [a, b, c] => Ok((Word::new(2, *a), Word::new(3, *b), Word::new(4, *c))),
+            [..] => Err(Fault::WordCount(self.command).into()),
         }
     }
 
@@ -106,29 +81,23 @@ impl<'a> Words<'a> {
     {
         match self.texts {
             [a, b, c, d] => Ok((
-                Word {
-                    number: 2,
-                    text: *a,
-                },
-                Word {
-                    number: 3,
-                    text: *b,
-                },
-                Word {
-                    number: 4,
-                    text: *c,
-                },
-                Word {
-                    number: 5,
-                    text: *d,
-                },
+                Word::new(2, *a),
+                Word::new(3, *b),
+                Word::new(4, *c),
+                Word::new(5, *d),
             )),
-            [..] => Err(Problem::Told(Fault::WordCount(self.command))),
+            [..] => Err(Fault::WordCount(self.command).into()),
         }
     }
 }
 
 impl<'a> Word<'a> {
+    fn new(number: usize, text: &'a [u8]) -> Word<'a>
+        ensures { (result.number ≡ number) × (result.text.now ≡ text.now) }
+    {
+        Word { number, text }
+    }
+
     // Whether the word stands for no entry and no byte.
     fn is_none(self) -> bool
         ensures { result ≡ is_none self.entry.text.now }
@@ -163,7 +132,7 @@ impl<'a> Word<'a> {
     {
         let entries = self.entries(alloc)?;
         if 64 < entries.len() {
-            return Err(Problem::Told(Fault::ManyEntries(self.number)));
+            return Err(Fault::ManyEntries(self.number).into());
         }
         spelled_by(alloc, self.number, entries.as_slice())
     }
@@ -178,8 +147,8 @@ impl<'a> Word<'a> {
         }
         match read_bytes(alloc, self.text) {
             Ok(bytes) => Ok(bytes),
-            Err(HexadecimalError::BadDigit) => Err(Problem::Told(Fault::BadDigit(self.number))),
-            Err(HexadecimalError::OddDigits) => Err(Problem::Told(Fault::OddDigits(self.number))),
+            Err(HexadecimalError::BadDigit) => Err(Fault::BadDigit(self.number).into()),
+            Err(HexadecimalError::OddDigits) => Err(Fault::OddDigits(self.number).into()),
             Err(HexadecimalError::OutOfMemory) => Err(Problem::Memory),
         }
     }
