@@ -1,5 +1,5 @@
 // The commands that change the current layout. Each leaves it as it was where it is not obeyed.
-ghost use Rattle.std.specs.Prelude.{◌≡◌, ◌≢◌, Ok, Err, IfOk, IfErr, length, take, vec_len};
+ghost use Rattle.std.specs.Prelude.{◌≡◌, ◌≢◌, Ok, Err, IfOk, IfErr, OnErr, length, take, vec_len};
 ghost use Rattle.commands.specs.declared.fault.Fault.TheVariants.{UnequalLists};
 ghost use Rattle.commands.specs.declared.fault.Problem.TheVariants.{Told};
 ghost use Rattle.commands.specs.declared.reply.Reply.TheVariants.{Done};
@@ -78,6 +78,8 @@ fn sixteen(extents: &[u64], strides: &[i64]) -> [Axis; 16]
 /// A layout of any rank with no check, its first 16 axes in place.
 pub fn set_layout(given: &Given) -> Result<Layout, Problem>
     ensures unequal { vec_len given.now.extents ≢ vec_len given.now.strides → result ≡ Err (Told UnequalLists) }
+    ensures equal { OnErr result (vec_len given.now.extents ≢ vec_len given.now.strides) }
+    ensures place { IfOk result (λ layout. (layout.len ≡ given.now.len) × (layout.offset ≡ given.now.offset)) }
     ensures rank { IfOk result (λ layout. layout.rank ≡ vec_len given.now.extents) }
     ensures axes { IfOk result (λ layout. take layout.rank layout.axes
         ≡ axesOf (take 16 given.now.extents.items) (take 16 given.now.strides.items)) }
