@@ -5,6 +5,9 @@ extern "C" {
         numbers: *mut u64, numbers_len: usize, steps: *mut i64, steps_len: usize, len: u64, offset: i64,
         extents: *const u64, extents_len: usize, strides: *const i64, strides_len: usize,
     ) -> u8;
+    pub fn strided_validate_bounds(
+        len: u64, offset: i64, extents: *const u64, extents_len: usize, strides: *const i64, strides_len: usize,
+    ) -> u8;
     pub fn strided_permute(
         numbers: *mut u64, numbers_len: usize, steps: *mut i64, steps_len: usize, axes: *const usize, axes_len: usize,
         values: *mut u64, values_len: usize,

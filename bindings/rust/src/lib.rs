@@ -249,6 +249,15 @@ pub fn step(bytes: &[u8]) -> &[u8] {
     bytes.get(at..).unwrap_or_default()
 }
 
+/// Check-in's answer without the layout: refusals 1, 2, 3.
+pub fn validate_bounds(len: u64, offset: i64, extents: &[u64], strides: &[i64]) -> Result<(), Refusal> {
+    // SAFETY: each pointer is that of a slice of the length beside it, and nothing is written.
+    let answer = unsafe {
+        calls::strided_validate_bounds(len, offset, extents.as_ptr(), extents.len(), strides.as_ptr(), strides.len())
+    };
+    Refusal::of(answer, [0; 2])
+}
+
 /// Each stride's number by absolute value: refusal 1.
 pub fn index_order(strides: &[i64]) -> Result<Vec<usize>, Refusal> {
     if 16 < strides.len() {

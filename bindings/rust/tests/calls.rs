@@ -1,5 +1,5 @@
 //! Each call of the wrapper: an answer, and a refusal with its values.
-use strided_layouts::{column_strides, index_order, row_strides, step, verdict_of, Layout, Refusal, Verdict};
+use strided_layouts::{column_strides, index_order, row_strides, step, validate_bounds, verdict_of, Layout, Refusal, Verdict};
 
 fn sheet() -> Layout {
     Layout::new(6, 0, &[2, 3], &[1, 2]).unwrap()
@@ -14,6 +14,14 @@ fn check_in() {
     assert_eq!(Layout::new(0, 0, &[], &[]), Err(Refusal::OutOfRange));
     assert_eq!(Layout::new(1, 0, &[], &[]).unwrap().rank(), 0);
     assert_eq!(Layout::new(3, 2, &[3], &[-1]).unwrap().offset(), 2);
+}
+
+#[test]
+fn bounds() {
+    assert_eq!(validate_bounds(6, 0, &[2, 3], &[1, 2]), Ok(()));
+    assert_eq!(validate_bounds(5, 0, &[2, 3], &[1, 2]), Err(Refusal::OutOfRange));
+    assert_eq!(validate_bounds(6, 0, &[2, 3], &[1]), Err(Refusal::LengthsDiffer));
+    assert_eq!(validate_bounds(6, 0, &[1; 17], &[1; 17]), Err(Refusal::TooManyAxes));
 }
 
 #[test]
