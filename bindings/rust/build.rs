@@ -8,7 +8,11 @@ fn main() {
         let here = PathBuf::from(env::var_os("CARGO_MANIFEST_DIR").unwrap_or_default());
         here.join("../../crates/strided/out")
     });
-    println!("cargo:rerun-if-changed={}", folder.join("libstrided.a").display());
+    let archive = folder.join("libstrided.a");
+    if !archive.is_file() {
+        println!("cargo:warning=no {}: `rt lib` in crates/strided makes it, or STRIDED_LIBRARY_DIR names its folder", archive.display());
+    }
+    println!("cargo:rerun-if-changed={}", archive.display());
     println!("cargo:rustc-link-search=native={}", folder.display());
     println!("cargo:rustc-link-lib=static=strided");
 }
