@@ -2,14 +2,15 @@
 use Rattle.std.specs.Prelude.{ℕ, ℤ, List, ◌≡◌, ◌⊎◌, Result, Ok, Err, length, take, replicate}
 use Rattle.view.specs.declared.layout.Refusal.{Refusal}
 use Rattle.view.specs.declared.layout.Layout.{Layout}
-use Rattle.view.specs.Answers.{number_of, values_of, outcomeOf, answer_of}
+use Rattle.view.specs.Answers.{outcome_by, outcomeOf, answer_of}
+use Rattle.record.specs.Writer.{wroteOf}
 use Rattle.specification.specs.Layout.{LayoutM}
 use Rattle.specification.specs.Record.{Writing}
 use Rattle.specification.specs.Beside.{indexOrder}
 use Rattle.dense.specs.declared.DenseStrides.{DenseStrides}
 use Rattle.auxiliary.specs.Order.{Ordered}
 use Rattle.view.specs.Model.{modelOf}
-use Rattle.specification.specs.Outcome.{Outcome, done, refused, pass}
+use Rattle.specification.specs.Outcome.{Outcome, done, pass}
 use Rattle.specification.specs.Views.{After}
 use Rattle.commands.specs.declared.fault.Fault.{Fault}
 use Rattle.commands.specs.declared.fault.Fault.TheVariants.{Refused}
@@ -45,17 +46,17 @@ Obeys {W} (Err (problem.Told fault)) words Answers = (words ≡ Err fault) ⊎ (
 -- an answer is the outcome, as a reply or a refusal
 abbrev pub Replies : {X Y : Type 0} → (X → Reply) → (X → Y) → Outcome Y → Result Reply Refusal → Type 0
 Replies {X} reply view outcome (Ok r) = (x : X) × (r ≡ reply x) × (outcome ≡ done (view x))
-Replies reply view outcome (Err why) = outcome ≡ refused (number_of why) (values_of why)
+Replies reply view outcome (Err why) = outcome ≡ outcome_by view (Err why)
 
 -- an answer is the layout after a view, or its refusal
 abbrev pub Views : After → Result Layout Refusal → Type 0
 Views after (Ok l) = after ≡ record { answer = pass; layout = modelOf l }
-Views after (Err why) = after.answer ≡ refused (number_of why) (values_of why)
+Views after (Err why) = after.answer ≡ outcomeOf (Err why)
 
 -- an answer is the verdict, or its refusal
 abbrev pub Judges : Outcome judgement.Told → Result Reply Refusal → Type 0
 Judges outcome (Ok r) = (j : Judgement) × (r ≡ reply.Judged j) × (judgement.judgedOf (Ok j) ≡ outcome)
-Judges outcome (Err why) = outcome ≡ refused (number_of why) (values_of why)
+Judges outcome (Err why) = outcome ≡ judgement.judgedOf (Err why)
 
 -- the answer prints these bytes, and is no refusal
 abbrev pub Prints : List ℕ → Result Reply Refusal → Type 0
@@ -79,7 +80,7 @@ abbrev pub Records : LayoutM → ℕ → ℕ → Result Reply Refusal → Type 0
 Records l room words (Ok r) = (output scratch output-then scratch-then : List ℕ) × (n : ℕ) × (length output ≡ room) × (length scratch ≡ words)
     × Writing l output scratch (done n) output-then scratch-then × IsBytes (take n output-then) r
 Records l room words (Err why) = (output scratch output-then scratch-then : List ℕ) × (length output ≡ room) × (length scratch ≡ words)
-    × Writing l output scratch (refused (number_of why) (values_of why)) output-then scratch-then
+    × Writing l output scratch (wroteOf (Err why)) output-then scratch-then
 
 -- ---- words one after another
 

@@ -1,9 +1,9 @@
 -- What the call answers and leaves in the scratch, as an outcome of the verdict.
-use Rattle.std.specs.Prelude.{List, ◌≡◌, ℕ, Result, Ok, Err}
+use Rattle.std.specs.Prelude.{List, ◌≡◌, ℕ, Result}
 use Rattle.specification.specs.Outcome.{Outcome, done, refused}
 use Rattle.specification.specs.Verdict.{Verdict, Judged, freedBy, ScratchAfter}
 use Rattle.specification.specs.Verdict as verdict
-use Rattle.view.specs.Answers.{number_of, values_of}
+use Rattle.view.specs.Answers.{outcome_by}
 use Rattle.injectivity.specs.declared.Judgement.{Judgement}
 use Rattle.injectivity.specs.declared.Judgement.TheVariants.{Distinct, Repeated, Undecided}
 use Rattle.view.specs.declared.layout.Refusal.{Refusal}
@@ -18,12 +18,15 @@ abbrev pub toldOf : Outcome Judged → Outcome Told
 toldOf (done j) = done (record { answer = j.answer; count = j.count })
 toldOf (refused number values) = refused number values
 
--- the answer of the call, in 01's words and numbers
+-- a judgement in the definitions' words; the count of Undecided is 0
+abbrev pub verdict_told : Judgement → Told
+verdict_told (Distinct count) = record { answer = verdict.Distinct; count = count }
+verdict_told (Repeated count) = record { answer = verdict.Repeated; count = count }
+verdict_told Undecided = record { answer = verdict.Undecided; count = 0 }
+
+-- the answer of the call as an outcome
 abbrev pub judgedOf : Result Judgement Refusal → Outcome Told
-judgedOf (Ok (Distinct count)) = done (record { answer = verdict.Distinct; count = count })
-judgedOf (Ok (Repeated count)) = done (record { answer = verdict.Repeated; count = count })
-judgedOf (Ok Undecided) = done (record { answer = verdict.Undecided; count = 0 })
-judgedOf (Err why) = refused (number_of why) (values_of why)
+judgedOf = outcome_by verdict_told
 
 -- the number of a verdict in a record and at the border to C, and its count
 abbrev pub number_told : Judgement → ℕ
