@@ -1,8 +1,8 @@
 // Reads commands on standard input and answers each on standard output.
 #![tactic(auto)]
 
-use std::io;
+use std::process::ExitCode;
 
-fn main(rt: HostRuntime) -> io::Result<()> {
-    commands::run(rt)
+fn main(rt: HostRuntime) -> ExitCode {
+    commands::run(rt, "cases")
 }

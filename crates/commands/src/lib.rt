@@ -3,6 +3,7 @@
 
 mod change;
 mod command;
+mod failure;
 mod fault;
 mod list;
 mod memory;

@@ -4,12 +4,14 @@ ghost use Rattle.std.specs.Io.BufRead.{ends_with_byte, first_piece, strip_last};
 ghost use Rattle.std.specs.Io.KnownBytes.{Appends};
 ghost use Rattle.commands.specs.Texts.{long_line};
 
+use crate::failure::Failure;
 use crate::fault::{Fault, Problem};
 use crate::memory::Memory;
 use crate::obey::obey;
-use std::alloc::{AllocError, Global};
+use std::alloc::Global;
 use std::io;
 use std::io::{BufRead, BufReader, BufWriter, Read, Write};
+use std::process::ExitCode;
 use view::layout::{Layout, MOST_AXES, NO_AXIS, ReadingOffset};
 
 // The most bytes that a line has, its line feed not counted.
@@ -38,20 +40,20 @@ fn answer<W: Write + Drop>(
     memory: &mut Memory,
     line: &[u8],
     out: &mut W,
-) -> io::Result<()>
+) -> Result<(), Failure>
     ensures long { 4096 < length line.now → OnOk result (Appends (W.contents out.old) (W.contents out.new) (long_line ++ 10 ∷ [])) }
     ensures kept { 4096 < length line.now → layout.new ≡ layout.old }
 {
     if is_too_long(line) {
-        return writeln!(out, "{}", Fault::LongLine);
+        return writeln!(out, "{}", Fault::LongLine).map_err(Failure::Write);
     }
     if is_silent(line) {
         return Ok(());
     }
     match obey(alloc, layout, memory, line) {
-        Ok(reply) => writeln!(out, "{reply}"),
-        Err(Problem::Memory) => Err(AllocError.into()),
-        Err(Problem::Told(fault)) => writeln!(out, "{fault}"),
+        Ok(reply) => writeln!(out, "{reply}").map_err(Failure::Write),
+        Err(Problem::Memory) => Err(Failure::Memory),
+        Err(Problem::Told(fault)) => writeln!(out, "{fault}").map_err(Failure::Write),
     }
 }
 
@@ -99,20 +101,20 @@ fn empty() -> Layout {
     }
 }
 
-// Answers a reader's lines in order. What is answered is written before a read waits for more. A read that fails ends them.
+// Answers a reader's lines in order. What is answered is written before a read waits for more.
 fn answer_all<R: Read + Drop, W: Write + Drop>(
     alloc: Global,
     mut input: BufReader<R>,
     mut out: W,
-) -> io::Result<()> {
+) -> Result<(), Failure> {
     let mut layout = empty();
     let mut memory = Memory::new(alloc);
     let mut line = Vec::with_capacity(alloc, LINE_BYTES + 1)?;
     for _ in 0..u64::MAX {
         if !input.buffer().contains(&b'\n') {
-            out.flush()?;
+            out.flush().map_err(Failure::Write)?;
         }
-        let more = next_line(&mut input, &mut line).unwrap_or(false);
+        let more = next_line(&mut input, &mut line).map_err(Failure::Read)?;
         if more || !line.is_empty() {
             answer(alloc, &mut layout, &mut memory, line.as_slice(), &mut out)?;
         }
@@ -120,13 +122,26 @@ fn answer_all<R: Read + Drop, W: Write + Drop>(
             break;
         }
     }
-    out.flush()
+    out.flush().map_err(Failure::Write)
 }
 
-/// Reads standard input to its end.
-pub fn run(rt: HostRuntime) -> io::Result<()> {
+// Answers standard input to its end.
+fn answer_input(rt: &HostRuntime) -> Result<(), Failure> {
     let alloc = rt.alloc();
-    let input = BufReader::with_capacity(alloc, BUFFER_BYTES, rt.stdin())?;
-    let out = BufWriter::with_capacity(alloc, BUFFER_BYTES, rt.stdout())?;
+    let input = BufReader::with_capacity(alloc, BUFFER_BYTES, rt.stdin()).map_err(Failure::Read)?;
+    let out = BufWriter::with_capacity(alloc, BUFFER_BYTES, rt.stdout()).map_err(Failure::Write)?;
     answer_all(alloc, input, out)
+}
+
+/// Reads standard input to its end. What fails is told on standard error behind the program's name, and is status 1.
+pub fn run(rt: HostRuntime, program: &str) -> ExitCode {
+    match answer_input(&rt) {
+        Ok(()) => ExitCode::SUCCESS,
+        Err(failure) if failure.is_closed_pipe() => ExitCode::SUCCESS,
+        Err(failure) => {
+            // where this write fails too, the status is what is left to tell
+            let _ = eprintln!(rt; "{program}: {failure}");
+            ExitCode::FAILURE
+        }
+    }
 }
