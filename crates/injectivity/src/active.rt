@@ -19,7 +19,8 @@ pub fn gather_active(axes: &[Axis], active: &mut [ActiveAxis; 16]) -> usize
 {
     let mut count: usize = 0;
     for (axis, layout_axis) in axes.iter().enumerate() {
-        if layout_axis.extent <= 1 {
+        let inactive = layout_axis.extent <= 1;
+        if inactive {
             continue;
         }
         active[count] = ActiveAxis {

@@ -29,7 +29,8 @@ pub fn checked_mul(stride: i64, last: u64) -> Option<i64>
     ensures { result ≡ checkedOf (last · stride) }
 {
     let size = stride.unsigned_abs().checked_mul(last)?;
-    if stride < 0 {
+    let negative = stride < 0;
+    if negative {
         0i64.checked_sub_unsigned(size)
     } else {
         0i64.checked_add_unsigned(size)

@@ -11,8 +11,8 @@ use Rattle.injectivity.proofs.active.gather_active.Goals as goal
 pub loop-axis-init : goal.loop-axis-init
 loop-axis-init c = gathered-none c.args.axes.now c.args.active.now c.told-active
 
-pub loop-axis-preserved-then-layout_axis-le1 : goal.loop-axis-preserved-then-layout_axis-le1
-loop-axis-preserved-then-layout_axis-le1 c = gathered-passed c.loop-axis.invariant c.loop-axis-test.true c.if-layout_axis-le1.true
+pub loop-axis-preserved-then-inactive : goal.loop-axis-preserved-then-inactive
+loop-axis-preserved-then-inactive c = gathered-passed c.loop-axis.invariant c.loop-axis-test.true c.if-inactive.true
 
 pub offset_bounds-active-count : goal.offset_bounds-active-count
 offset_bounds-active-count c = let h : c.loop-axis.count < 16 = has-room c.loop-axis.invariant c.loop-axis-test.true c.requires in record { fits = omega arith }
@@ -26,7 +26,7 @@ overflow_add-count c = let h : c.loop-axis.count < 16 = has-room c.loop-axis.inv
 pub loop-axis-preserved : goal.loop-axis-preserved
 loop-axis-preserved c =
     let fits : SFits w64 (axisAt c.args.axes.now c.loop-axis.axis).stride = search rules in
-    rw (c.unsigned_abs.ensures.value, to_z-of_z w64 _ fits) (gathered-more c.loop-axis.invariant c.loop-axis-test.true c.requires c.if-layout_axis-le1.false)
+    rw (c.unsigned_abs.ensures.value, to_z-of_z w64 _ fits) (gathered-more c.loop-axis.invariant c.loop-axis-test.true c.requires c.if-inactive.false)
 
 pub returns-clause-count : goal.returns-clause-count
 returns-clause-count c = (gathered-all c.loop-axis.invariant c.loop-axis-test.false).0

@@ -8,10 +8,10 @@ pub returns-in_err-size : goal.returns-in_err-size
 unfolding ◌·◌
 returns-in_err-size c = grind (arith, ints)
 
-pub returns-then-stride-lt0 : goal.returns-then-stride-lt0
+pub returns-then-negative : goal.returns-then-negative
 unfolding ◌·◌
-returns-then-stride-lt0 c = grind (arith, ints)
+returns-then-negative c = grind (arith, ints)
 
-pub returns-else-stride-lt0 : goal.returns-else-stride-lt0
+pub returns-else-negative : goal.returns-else-negative
 unfolding ◌·◌
-returns-else-stride-lt0 c = grind (arith, ints)
+returns-else-negative c = grind (arith, ints)
