@@ -2,10 +2,10 @@
 use Rattle.std.specs.Prelude.{if◌then◌else◌, None, Some}
 use mathlib.Core.Path.{◌≡◌, sym, ap, ap₂, ◌∙◌}
 use mathlib.Core.Bool.{Bool, true, false}
-use mathlib.Core.Logic.{◌⊎◌, inl, inr}
+use mathlib.Core.Logic.{◌⊎◌}
 use mathlib.Core.Option.{Option, some, none}
 use mathlib.Core.List.{List, [], ◌∷◌}
-use Prim.Native.Nat.{ℕ, ◌+◌, ◌*◌, ◌-◌, ◌^◌, ◌<◌}
+use Prim.Native.Nat.{ℕ, ◌-◌, ◌^◌, ◌<◌}
 use native.Mathlib.Omega.{arith}
 use borrow.Author.Tests.{le-leb, lt-leb}
 use Rattle.std.specs.List.{All}
@@ -18,6 +18,7 @@ use Rattle.search.specs.Block.{Sides, searchedOr}
 use Rattle.search.specs.SetUp.{Budget, SetFor, Parted, Answers}
 use Rattle.search.specs.declared.Searched.TheVariants.{Repeated, Distinct}
 use Rattle.search.proofs.Turned.{hit-turned}
+use Rattle.std.proofs.lemmas.Int.{ints}
 
 -- ---- the others, as the walk asks for them
 
@@ -32,11 +33,7 @@ module _ (a b : ActiveAxis) (others : List ActiveAxis) where
   -- the spans, whichever of the two is solved for
   pub spans-fit : Parted a b others → (t : TwoAxes) → SetFor a b t ⊎ SetFor b a t → spanSum (t.first ∷ t.second ∷ others) < 2 ^ 64
   unfolding spanSum
-  spans-fit p t s = omega (arith, p.fits, go s)
-    where
-      go : SetFor a b t ⊎ SetFor b a t → (t.first.extent - 1) * t.first.stride + (t.second.extent - 1) * t.second.stride ≡ (a.extent - 1) * a.stride + (b.extent - 1) * b.stride
-      go (inl q) = ap₂ (λ (u v : ActiveAxis). (u.extent - 1) * u.stride + (v.extent - 1) * v.stride) q.0 q.1
-      go (inr q) = ap₂ (λ (u v : ActiveAxis). (u.extent - 1) * u.stride + (v.extent - 1) * v.stride) q.0 q.1 ∙ omega arith
+  spans-fit p t s = grind (arith, ints)
 
   -- ---- the three cases
 
@@ -54,11 +51,7 @@ module _ (a b : ActiveAxis) (others : List ActiveAxis) where
     -- what the walk comes to, that starts at the vector of no difference
     module _ (t : TwoAxes) (s : SetFor a b t ⊎ SetFor b a t) (o : Option ℕ) (w : first_of (hit t.first t.second others) (half others - 0) 1 ≡ o) (m : twoDistinct a b ≡ true) where
       same-hits : hit t.first t.second others ≡ hit a b others
-      same-hits = go s
-        where
-          go : SetFor a b t ⊎ SetFor b a t → hit t.first t.second others ≡ hit a b others
-          go (inl q) = ap₂ (λ (x y : ActiveAxis). hit x y others) q.0 q.1
-          go (inr q) = ap₂ (λ (x y : ActiveAxis). hit x y others) q.0 q.1 ∙ (λ i c. hit-turned a b others c i)
+      same-hits = grind (arith, ints, hit-turned)
 
       searched-is : searched a b others ≡ placed others o
       unfolding searched

@@ -1,5 +1,5 @@
 // The two axes that are set apart, set up for the walk.
-ghost use Rattle.std.specs.Prelude.{◌≡◌, ◌⊎◌, true, false, ◌/◌, ◌<◌, ◌≤◌};
+ghost use Rattle.std.specs.Prelude.{◌≡◌, ◌⊎◌, IsTrue, IsFalse, true, ◌/◌, ◌<◌, ◌≤◌};
 ghost use Rattle.integer.specs.Gcd.{gcd};
 ghost use Rattle.specification.specs.Search.{twoDistinct};
 ghost use Rattle.search.specs.Block.{Side};
@@ -15,8 +15,8 @@ fn solves_first(d1: u64, s2g: u64, d2: u64, s1g: u64) -> bool
     requires one_fits { (d1 ≤ s2g) ⊎ (d2 ≤ s1g) }
     requires first_long { 1 < d1 }
     requires second_long { 1 < d2 }
-    ensures first { result ≡ true → d1 ≤ s2g }
-    ensures second { result ≡ false → d2 ≤ s1g }
+    ensures first { IsTrue result → d1 ≤ s2g }
+    ensures second { IsFalse result → d2 ≤ s1g }
 {
     d1 <= s2g && (s1g < d2 || s2g / (d1 - 1) >= s1g / (d2 - 1))
 }

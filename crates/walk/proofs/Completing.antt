@@ -1,5 +1,7 @@
 -- A vector is completed exactly if the size of its sum of differences is a combination of differences of the two.
-use mathlib.Core.Path.{◌≡◌, refl, sym, ap}
+use mathlib.Core.Path.{◌≡◌, refl, ap}
+use mathlib.Core.Logic.{◌↔◌}
+use Rattle.std.specs.Prelude.{IsTrue}
 use mathlib.Core.Bool.{Bool, true, false}
 use Prim.Native.Nat.{ℕ, ◌+◌, ◌*◌, ◌-◌, ◌<◌, ◌≤◌}
 use native.Mathlib.Omega.{arith}
@@ -7,29 +9,22 @@ use lib.IntN.{ℤ, pos, ◌-ℤ◌}
 use Rattle.integer.specs.Parts.{posPart, negPart}
 use Rattle.integer.proofs.Polynomial.{◌⊕◌, ◌⊖◌, ◌⊗◌, int, nat, prove-eq}
 use Rattle.integer.proofs.SignedEquation.{natAbs-of-shifted, negPart-of-natAbs, posPart-of-natAbs, shifted, parts-of-equation}
-use Rattle.specification.specs.Tests.{is_yes}
 use Rattle.specification.specs.Search.{ActiveAxis, Completes}
-use Rattle.walk.specs.Equation.{Tells, Combination}
+use Rattle.walk.specs.Equation.{Combination}
 
 clash : {P : Type 0} → false ≡ true → P
 clash e = absurd (let z : ◌≡◌ {A = ℕ} 0 1 = cc in omega arith)
 
-pub tells-yes : {P : Type 0} → P → Tells true P
-tells-yes p = record { yes = λ e. p; no = λ e. clash (sym e) }
+-- the answer of what holds, and of what does not
+pub true-where : {P : Type 0} → P → IsTrue true ↔ P
+true-where p = (λ e. p, λ q. refl)
 
-pub tells-no : {P : Type 0} → ¬ P → Tells false P
-tells-no p = record { yes = λ e. clash e; no = λ e. p }
+pub false-where : {P : Type 0} → ¬ P → IsTrue false ↔ P
+false-where n = (λ e. clash e, λ q. absurd (n q))
 
 -- an answer of what comes to the same
-pub tells-as : {P Q : Type 0} {r : Bool} → Tells r P → (P → Q) → (Q → P) → Tells r Q
-tells-as w f g = record { yes = λ e. f (w.yes e); no = λ e q. w.no e (g q) }
-
--- an answer that tells agrees with a decision
-pub tells-same : {P : Type 0} (d : Dec P) (r : Bool) → Tells r P → is_yes d ≡ r
-tells-same (yes p) true w = refl
-tells-same (yes p) false w = absurd (w.no refl p)
-tells-same (no f) true w = absurd (f (w.yes refl))
-tells-same (no f) false w = refl
+pub true-as : {P Q : Type 0} {r : Bool} → IsTrue r ↔ P → (P → Q) → (Q → P) → IsTrue r ↔ Q
+true-as w f g = (λ e. f (w.0 e), λ q. w.1 (g q))
 
 -- ---- completing a sum z, said of shifted differences u and v
 

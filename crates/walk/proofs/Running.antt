@@ -1,17 +1,17 @@
 -- The loop of `run`: no vector on the way was completed, and the first that is ends it.
 use Rattle.std.specs.Prelude.{if◌then◌else◌}
-use mathlib.Core.Path.{◌≡◌, sym, ap, ◌∙◌, subst}
+use mathlib.Core.Path.{◌≡◌, sym, ap, ◌∙◌}
 use mathlib.Core.Bool.{Bool, true, false}
 use mathlib.Core.Option.{some, none}
 use mathlib.Core.List.{List}
 use Prim.Native.Nat.{ℕ, suc, ◌+◌, ◌-◌, ◌<◌, ◌≤◌}
 use native.Mathlib.Omega.{arith}
 use Rattle.specification.specs.Search.{ActiveAxis, box, half, first_of, differenceAt, differenceSum, Completes}
-use Rattle.specification.specs.Decided.{completes?}
 use Rattle.specification.specs.Verdict.{hit}
 use Rattle.differences.specs.AxisDifferences.{number_of}
 use Rattle.differences.proofs.VectorLaws.{number-low}
-use Rattle.walk.specs.Equation.{Tells}
+use Rattle.std.specs.Prelude.{IsTrue}
+use mathlib.Core.Logic.{◌↔◌}
 use Rattle.walk.specs.Underway.{vector_of, others_of, Stands}
 use Rattle.walk.specs.WalkAt.{WalkAt, hit_after}
 use Rattle.walk.specs.Sound.{At, walk_at}
@@ -20,7 +20,7 @@ use Rattle.walk.specs.declared.two_axes.TwoAxes.{TwoAxes}
 use Rattle.walk.specs.declared.difference_axis.Residues.{Residues}
 use Rattle.walk.specs.declared.difference_axis.DifferenceAxis.{DifferenceAxis}
 use Rattle.walk.proofs.Vectors.{small-of}
-use Rattle.walk.proofs.Completing.{tells-same}
+use Rattle.std.proofs.lemmas.Int.{ints}
 
 -- ---- the first that is completed
 
@@ -66,10 +66,9 @@ pub record Running (t : TwoAxes) (start : List DifferenceAxis) (from : Place) (d
   pub upto : at.count ≤ stop
   pub none_yet : hit_after (walk_at t ds at) ≡ hit_after (walk_at t start from)
 
-pub asked : (a b : ActiveAxis) (others : List ActiveAxis) (c k : ℕ) (r : Bool) → k ≡ half others + c → Tells r (Completes a b (differenceSum others (differenceAt others k))) → hit a b others c ≡ r
+pub asked : (a b : ActiveAxis) (others : List ActiveAxis) (c k : ℕ) (r : Bool) → k ≡ half others + c → (IsTrue r ↔ Completes a b (differenceSum others (differenceAt others k))) → hit a b others c ≡ r
 unfolding hit
-asked a b others c k r e w = tells-same (completes? a b (differenceSum others (differenceAt others (half others + c)))) r
-    (subst (λ (n : ℕ). Tells r (Completes a b (differenceSum others (differenceAt others n)))) e w)
+asked a b others c k r e w = grind (arith, ints)
 
 module _ {t : TwoAxes} {start : List DifferenceAxis} {from : Place} {ds : List DifferenceAxis} {at : Place} {stop : ℕ} (w : Running t start from ds at stop) (h : at.count < stop) where
   -- there is a next vector
@@ -90,10 +89,7 @@ module _ {t : TwoAxes} {start : List DifferenceAxis} {from : Place} {ds : List D
     below : at.count < half (others_of ds)
     below = omega (arith, w.to, ap half w.others)
 
-    pub on-same : walk_at t ds' there ≡ record (walk_at t start from) { count = at.count + 1 }
-    on-same = ap (λ (l : List ActiveAxis). let v : WalkAt = record { first = t.first; second = t.second; others = l; count = at.count + 1 } in v) on-others
-
-    module _ (y : Bool) (tells : Tells y (Completes t.first t.second (differenceSum (others_of ds') (differenceAt (others_of ds') (number_of (vector_of ds')))))) where
+    module _ (y : Bool) (tells : IsTrue y ↔ Completes t.first t.second (differenceSum (others_of ds') (differenceAt (others_of ds') (number_of (vector_of ds'))))) where
       told : hit t.first t.second (others_of ds) (at.count + 1) ≡ y
       told =
           ap (λ (l : List ActiveAxis). hit t.first t.second l (at.count + 1)) (sym o)

@@ -1,7 +1,7 @@
 -- The walk at the vector of no difference.
 use mathlib.Core.Path.{◌≡◌, refl, ap, ◌∙◌, subst⁻¹}
 use mathlib.Core.List.{List, [], ◌∷◌}
-use Prim.Native.Nat.{ℕ, suc, ◌+◌, ◌*◌, ◌-◌, ◌%◌, ◌^◌, ◌<◌, ◌≤◌}
+use Prim.Native.Nat.{ℕ, suc, ◌+◌, ◌*◌, ◌%◌, ◌^◌, ◌<◌, ◌≤◌}
 use native.Mathlib.Decide.{ℕ_discrete}
 use native.Mathlib.Nat.{mul-pos}
 use native.Mathlib.Omega.{arith}
@@ -20,6 +20,7 @@ use Rattle.walk.specs.declared.two_axes.TwoAxes.{TwoAxes}
 use Rattle.walk.specs.declared.difference_axis.DifferenceAxis.{DifferenceAxis}
 use Rattle.walk.proofs.Vectors.{nothing, at}
 use Rattle.walk.proofs.Combinations.{window_below}
+use Rattle.std.proofs.lemmas.Int.{ints}
 
 abbrev pub no_axis : ActiveAxis
 no_axis = record { axis = 0; extent = 0; stride = 0 }
@@ -44,13 +45,7 @@ made-done t others ds j w h = record { long = w.long; each = λ k l. w.each k (o
 -- ---- all of them
 
 made-zero : (t : TwoAxes) (a : ActiveAxis) (d : DifferenceAxis) → SetUp t a d → difference_of d ≡ zero_on a
-made-zero t a d s = λ i. record { axis = s.axis-is i; above = above i; below = below i }
-  where
-    above : d.digit - (d.axis.extent - 1) ≡ 0
-    above = omega (arith, s.digit-is, ap (λ (x : ActiveAxis). x.extent) s.axis-is)
-
-    below : d.axis.extent - 1 - d.digit ≡ 0
-    below = omega (arith, s.digit-is, ap (λ (x : ActiveAxis). x.extent) s.axis-is)
+made-zero t a d s = grind (arith, ints)
 
 made-vector : (t : TwoAxes) (others : List ActiveAxis) (ds : List DifferenceAxis) → length ds ≡ length others
     → ((k : ℕ) → k < length others → SetUp t (get_or others k no_axis) (at ds k)) → vector_of ds ≡ zero_vector others

@@ -1,9 +1,8 @@
 // The axes whose differences are walked over, each with its digit, and the residues of their sum that go along.
-ghost use Rattle.std.specs.Prelude.{◌≡◌, ◌+◌, ◌-◌, ◌*◌, ◌%◌, ◌^◌, ◌<◌};
+ghost use Rattle.std.specs.Prelude.{◌↔◌, IsTrue, ◌≡◌, ◌+◌, ◌-◌, ◌*◌, ◌%◌, ◌^◌, ◌<◌};
 ghost use Rattle.integer.specs.Congruence.{Congruent};
 ghost use Rattle.specification.specs.Search.{box, differenceAt, differenceSum, Completes};
 ghost use Rattle.differences.specs.AxisDifferences.{number_of, up_of, down_of};
-ghost use Rattle.walk.specs.Equation.{Tells};
 ghost use Rattle.walk.specs.Underway.{IsStep, SetUp, vector_of, others_of, Stands};
 
 use crate::two_axes::{TwoAxes, combines};
@@ -133,7 +132,7 @@ fn parts_of(two: TwoAxes, axes: &[DifferenceAxis], residues: Residues) -> Sums
 // Whether some difference of the two completes the vector where the axes stand. Either residue alone can say no.
 pub fn is_completed(two: TwoAxes, axes: &[DifferenceAxis], residues: Residues) -> bool
     requires { Stands two axes.now residues }
-    ensures { Tells result (Completes two.first two.second (differenceSum (others_of axes.now) (differenceAt (others_of axes.now) (number_of (vector_of axes.now))))) }
+    ensures { IsTrue result ↔ Completes two.first two.second (differenceSum (others_of axes.now) (differenceAt (others_of axes.now) (number_of (vector_of axes.now)))) }
 {
     let Residues { z, q } = residues;
     if z > 2 * two.window || q > 0 {

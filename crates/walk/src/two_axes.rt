@@ -1,7 +1,7 @@
 // The two axes that are set apart, and which sums some difference of each completes to 0.
-ghost use Rattle.std.specs.Prelude.{◌≡◌, ◌+◌, ◌-◌, ◌*◌, ◌/◌, ◌%◌, ◌^◌, ◌<◌};
+ghost use Rattle.std.specs.Prelude.{◌≡◌, ◌↔◌, IsTrue, ◌+◌, ◌-◌, ◌*◌, ◌/◌, ◌%◌, ◌^◌, ◌<◌};
 ghost use Rattle.integer.specs.Congruence.{Congruent};
-ghost use Rattle.walk.specs.Equation.{Tells, Combination, Near, Far};
+ghost use Rattle.walk.specs.Equation.{Combination, Near, Far};
 
 use axis::ActiveAxis;
 
@@ -30,7 +30,7 @@ pub struct TwoAxes {
 // Whether the difference k / g of the first axis leaves a multiple of the second's stride that the second has, which go to `span`.
 fn near(two: TwoAxes, t: u64, k: u64, span: u64) -> bool
     requires { two.window * two.part + (span + t) < 2 ^ 64 }
-    ensures { Tells result (Near two.window two.part span t k) }
+    ensures { IsTrue result ↔ Near two.window two.part span t k }
 {
     if k > two.window {
         return false;
@@ -42,7 +42,7 @@ fn near(two: TwoAxes, t: u64, k: u64, span: u64) -> bool
 // Whether the difference - j / g does.
 fn far(two: TwoAxes, t: u64, j: u64, span: u64) -> bool
     requires { two.window * two.part + (span + t) < 2 ^ 64 }
-    ensures { Tells result (Far two.window two.part span t j) }
+    ensures { IsTrue result ↔ Far two.window two.part span t j }
 {
     j <= two.window && t + j * two.part <= span
 }
@@ -53,7 +53,7 @@ pub(crate) fn combines(two: TwoAxes, t: u64, k: u64) -> bool
     requires residue { Congruent two.second.stride k (t * two.inverse) }
     requires divides { t % two.g ≡ 0 }
     requires fits { (two.first.extent - 1) * two.first.stride + ((two.second.extent - 1) * two.second.stride + t) < 2 ^ 64 }
-    ensures { Tells result (Combination two.first two.second t) }
+    ensures { IsTrue result ↔ Combination two.first two.second t }
 {
     let span = (two.second.extent - 1) * two.second.stride;
     near(two, t, k, span) || far(two, t, two.second.stride - k, span)

@@ -2,13 +2,13 @@
 use Prim.Native.Nat.{◌<◌, ◌≤◌}
 use native.Mathlib.Omega.{arith}
 use Rattle.walk.proofs.Combinations.{window_below}
-use Rattle.walk.proofs.Completing.{tells-no, tells-as}
+use Rattle.walk.proofs.Completing.{false-where, true-as}
 use Rattle.walk.proofs.Residues.{less-window}
 use Rattle.walk.proofs.Asking.{up, down, high-as, as-high, low-as, as-low, high-fits, low-fits, needs, high-residue, high-divides, low-residue, low-divides}
 use Rattle.walk.proofs.difference_axis.is_completed.Goals as goal
 
 pub returns-then-z-two : goal.returns-then-z-two
-returns-then-z-two c = tells-no (λ Q. let r = needs c.requires Q in omega (arith, r, c.then-z-two.either))
+returns-then-z-two c = false-where (λ Q. let r = needs c.requires Q in omega (arith, r, c.then-z-two.either))
 
 pub combines-requires-clause-residue : goal.combines-requires-clause-residue
 combines-requires-clause-residue c =
@@ -29,7 +29,7 @@ pub returns-then-down-up : goal.returns-then-down-up
 returns-then-down-up c =
     let e = c.parts_of-up.ensures in
     let l : down c.requires ≤ up c.requires = omega (arith, e.up, e.down, c.if-down-up.true) in
-    tells-as (rw (e.up, e.down) at c.combines.ensures) (high-as c.requires l) (as-high c.requires l)
+    true-as (rw (e.up, e.down) at c.combines.ensures) (high-as c.requires l) (as-high c.requires l)
 
 pub combines-requires-else-down-up-clause-residue : goal.combines-requires-else-down-up-clause-residue
 combines-requires-else-down-up-clause-residue c =
@@ -50,4 +50,4 @@ pub returns-else-down-up : goal.returns-else-down-up
 returns-else-down-up c =
     let e = c.parts_of-up.ensures in
     let l : up c.requires < down c.requires = omega (arith, e.up, e.down, c.if-down-up.false) in
-    tells-as (rw (e.up, e.down) at c.combines-else-down-up.ensures) (low-as c.requires l) (as-low c.requires l)
+    true-as (rw (e.up, e.down) at c.combines-else-down-up.ensures) (low-as c.requires l) (as-low c.requires l)
