@@ -73,7 +73,7 @@ fn split_into(axes: &[Axis], extents: &mut [u64], strides: &mut [i64])
     }
 }
 
-/// The layout into two flat buffers; the places past its rank stay as they were.
+/// The layout into two flat buffers.
 pub fn store_layout(layout: &Layout, numbers: &mut [u64], steps: &mut [i64])
     requires { (18 ≤ length numbers.old) × (17 ≤ length steps.old) }
     ensures { Stored (modelOf layout.now) numbers.old steps.old numbers.new steps.new }
@@ -89,7 +89,7 @@ pub fn store_layout(layout: &Layout, numbers: &mut [u64], steps: &mut [i64])
     );
 }
 
-/// The layout that two lists of equal length give, into two flat buffers; the places past its rank stay as they were.
+/// The layout that two lists of equal length give, into two flat buffers.
 pub fn store_lists(
     numbers: &mut [u64],
     steps: &mut [i64],
