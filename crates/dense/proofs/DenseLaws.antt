@@ -14,9 +14,9 @@ use Rattle.dense.specs.declared.Major.TheVariants.{Column, Row}
 use Rattle.dense.specs.Dense.{axis_after, dense_by}
 
 -- a step is at most 2^63 - 1
-pub step-most : (empty : Bool) (step extent next : ℕ) → nextStep empty step extent ≡ done next → next ≤ mostSigned
+pub step_most : (empty : Bool) (step extent next : ℕ) → nextStep empty step extent ≡ done next → next ≤ mostSigned
 unfolding nextStep
-step-most empty step extent next e = grind arith
+step_most empty step extent next e = grind arith
 
 -- ---- running products with steps that are passed
 
@@ -24,10 +24,6 @@ step-most empty step extent next e = grind arith
 abbrev pub behind : List ℤ → Outcome (List ℤ) → Outcome (List ℤ)
 behind before (done strides) = done (before ++ strides)
 behind before (refused number values) = refused number values
-
-behind-none : (o : Outcome (List ℤ)) → behind [] o ≡ o
-behind-none (done strides) = refl
-behind-none (refused number values) = refl
 
 behind-append : (xs ys : List ℤ) (o : Outcome (List ℤ)) → behind xs (behind ys o) ≡ behind (xs ++ ys) o
 behind-append xs ys (done strides) = ap done (sym (append_assoc xs ys strides))
@@ -92,11 +88,6 @@ module _ (major : Major) (empty : Bool) (es : List ℕ) (strides : List ℤ) (pa
   stop h e = so_far ∙ rw (left-cons major es passed h, running-refused empty step _ _ e)
 
 -- ---- the calls
-
-pub start : (major : Major) (empty : Bool) (es : List ℕ) (strides : List ℤ) (step : ℕ)
-    → running empty step (from_densest major es) ≡ behind (stored major (length es) 0 strides) (running empty step (drop 0 (from_densest major es)))
-start Column empty es strides step = sym (behind-none _)
-start Row empty es strides step = sym (behind-none _)
 
 module _ (es : List ℕ) where
   pub many : (major : Major) → 16 < length es → dense_by major es ≡ refused 1 []

@@ -68,6 +68,7 @@ fn next_step(empty: bool, step: u64, extent: u64) -> Result<u64, Refusal>
 }
 
 /// The step at each axis, from the densest axis on.
+#[tactic(auto, using(crate::proofs::DenseLaws::stop, crate::proofs::DenseLaws::many, crate::proofs::DenseLaws::refusal, crate::proofs::DenseLaws::answered))]
 fn running_products(extents: &[u64], major: Major) -> Result<DenseStrides, Refusal>
     ensures answer { outcomeOf result ≡ dense_by major extents.now }
     ensures as_many { IfOk result (λ strides. length strides ≡ length extents.now) }

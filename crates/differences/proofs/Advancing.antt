@@ -30,9 +30,6 @@ module _ (start ds : List AxisDifference) (sums : Sums) (j : ℕ) (t : Advancing
     small_at : IsSmall (entry ds j)
     small_at = All-get_or IsSmall ds j nothing h t.stands.small
 
-    pub extent-some : 1 ≤ (entry ds j).axis.extent
-    extent-some = omega (arith, small_at)
-
     -- with another difference at axis j
     module _ (d : AxisDifference) (e : d.axis ≡ (entry ds j).axis) (s : IsSmall d) where
       small-set : All IsSmall (set ds j d)

@@ -7,6 +7,7 @@ use native.Mathlib.Omega.{arith}
 use lib.ListN.{length, get_or, take}
 use Rattle.specification.specs.Axis.{product}
 use Rattle.specification.specs.Search.{ActiveAxis, box}
+use Rattle.std.proofs.lemmas.Int.{ints}
 
 -- what is read past the end
 abbrev pub no_axis : ActiveAxis
@@ -14,9 +15,7 @@ no_axis = record { axis = 0; extent = 0; stride = 0 }
 
 -- where there is a position, no extent is 0
 pub head-some : (e n : ℕ) → 0 < e * n → (0 < e) × (0 < n)
-head-some zero n h = absurd (omega arith)
-head-some (suc e) zero h = absurd (omega arith)
-head-some (suc e) (suc n) h = (omega arith, omega arith)
+head-some e n h = grind (arith, ints)
 
 box-suc : (axes : List ActiveAxis) (j : ℕ) → j < length axes → box (take (suc j) axes) ≡ box (take j axes) * (2 * (get_or axes j no_axis).extent - 1)
 unfolding product

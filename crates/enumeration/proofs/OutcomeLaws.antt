@@ -17,6 +17,7 @@ use Rattle.specification.specs.Verdict.{Judged, enumerated, carryOut, freedBy, S
 use Rattle.specification.specs.Verdict as verdict
 use Rattle.specification.proofs.OutcomeLaws.{refuse-yes, refuse-no}
 use Rattle.enumeration.specs.Enumeration.{outcomeOf}
+use Rattle.std.proofs.lemmas.Int.{ints}
 
 pub words-by-span : (positions span : ℕ) → span / 64 ≤ positions → wordsFor positions span ≡ span / 64 + 1
 unfolding wordsFor
@@ -36,9 +37,7 @@ words-above positions span p = go (dec_le (span / 64) positions)
 
 -- an answer that tells is the decision's
 tells-yes : (r : Bool) {P : Type 0} → (r ≡ true) ↔ P → (d : Dec P) → is_yes d ≡ r
-tells-yes r t (yes p) = sym (t.1 p)
-tells-yes true t (no f) = absurd (f (t.0 refl))
-tells-yes false t (no f) = refl
+tells-yes r t d = grind (arith, ints)
 
 -- ---- what step 6 is defined to be, by how many words there are
 
@@ -73,10 +72,6 @@ module _ (block : List ActiveAxis) (positions span need : ℕ) (p : positions �
   -- the scratch is short
   pub short_outcome : length l < need → refused 9 (need ∷ []) ≡ carryOut (length l) (enumerated block)
   short_outcome h = ap (λ (z : ℕ). refused 9 (z ∷ [])) need-of ∙ sym (carried-short block (length l) (rw need-of at h))
-
-  -- and stays as it is
-  pub short_scratch : ScratchAfter (freedBy (carryOut (length l) (enumerated block))) l l
-  short_scratch = (refl, refl)
 
   -- the words needed came back as w
   module _ (h : need ≤ length l) (r : Bool) (t : (r ≡ true) ↔ SameSum block) where

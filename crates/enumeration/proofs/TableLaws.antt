@@ -20,6 +20,7 @@ use lib.ListN.{length, set, get_or-eq_default, length-set}
 use Rattle.std.proofs.Common.{get_or-set_same, get_or-set_other}
 use Rattle.enumeration.specs.Words.{at}
 use Rattle.enumeration.specs.Homes.{numbers_in, free_behind, is_free, home_of, Taken, IsNumberAt, IsPlaceFor, Placed}
+use Rattle.std.proofs.lemmas.Int.{ints}
 
 home_below : (homes n : ℕ) → 0 < homes → home_of homes n < homes
 unfolding home_of
@@ -143,8 +144,7 @@ abbrev count_one : Bool → ℕ
 count_one b = if b then 1 else 0
 
 one_at_most : (b : Bool) → count_one b ≤ 1
-one_at_most true = omega arith
-one_at_most false = omega arith
+one_at_most b = grind (arith, ints)
 
 first_word : (w : ℕ) (words : List ℕ) → free_behind 0 (w ∷ words) ≡ count_one (is_free w) + free_behind 0 words
 first_word w words = sum_by-cons (λ x. count_one (is_free x)) w words

@@ -1,17 +1,13 @@
 -- The sorted axes passed one by one: their total and span, and the block known so far.
-use Rattle.std.specs.Prelude.{if◌then◌else◌}
-use mathlib.Core.Path.{◌≡◌, refl, sym, ap, ◌∙◌}
-use mathlib.Core.Bool.{Bool, true, false, false≢true, true≢false}
+use mathlib.Core.Path.{◌≡◌, sym, ap, ◌∙◌}
 use mathlib.Core.Logic.{◌≢◌}
 use mathlib.Core.List.{List, [], ◌∷◌, ◌++◌, append_assoc}
 use Prim.Native.Nat.{ℕ, zero, suc, ◌+◌, ◌*◌, ◌-◌, ◌^◌, ◌≤◌, ◌<◌}
 use native.Mathlib.Nat.{zero-mul, mul-zero, mul-one, le-mul_of_pos_right}
 use native.Mathlib.Numerals.{add-one}
 use native.Mathlib.Omega.{arith}
-use lib.Dec.{leb}
 use lib.ListN.{length, take, drop, take-append-drop, drop_of_length-le}
 use lib.Seq.{drop-cons, length-take-le}
-use borrow.Author.Tests.{le-leb, lt-leb}
 use Rattle.std.proofs.lemmas.List.{take_more}
 use Rattle.specification.specs.Axis.{product}
 use Rattle.specification.specs.Search.{ActiveAxis, total, spanSum}
@@ -21,6 +17,7 @@ use Rattle.differences.proofs.Meeting.{total-append, span-append}
 use Rattle.search.specs.Block.{Searchable}
 use Rattle.injectivity.specs.declared.block.Front.{Front}
 use Rattle.injectivity.proofs.SearchableLaws.{side-at, total-positive, searchable-take}
+use Rattle.std.proofs.lemmas.Int.{ints}
 
 -- of a product that is not 0, no factor is 0, and each is at most the whole
 factor-least : (a b : ℕ) → 0 < a * b → (a ≤ a * b) × (0 < a) × (0 < b)
@@ -40,21 +37,11 @@ module _ (before : ℕ) (a : ActiveAxis) (rest passed : List ActiveAxis) (found 
 
   ending-near : a.stride ≤ before → ending (upToLast before (a ∷ rest)) passed found ≡ ending (upToLast after rest) (passed ++ (a ∷ [])) (passed ++ (a ∷ []))
   unfolding upToLast
-  ending-near h = by (upToLast after rest) (leb a.stride before) (le-leb a.stride before h)
-    where
-      by : (u : List ActiveAxis) (t : Bool) → t ≡ true → ending (elim u [ [] ↦ if t then a ∷ [] else [] | b ∷ more ↦ a ∷ b ∷ more ]) passed found ≡ ending u (passed ++ (a ∷ [])) (passed ++ (a ∷ []))
-      by [] true e = refl
-      by [] false e = absurd (false≢true e)
-      by (b ∷ more) t e = sym (append_assoc passed (a ∷ []) (b ∷ more))
+  ending-near h = grind (arith, ints, append_assoc)
 
   ending-far : before < a.stride → ending (upToLast before (a ∷ rest)) passed found ≡ ending (upToLast after rest) (passed ++ (a ∷ [])) found
   unfolding upToLast
-  ending-far h = by (upToLast after rest) (leb a.stride before) (lt-leb a.stride before h)
-    where
-      by : (u : List ActiveAxis) (t : Bool) → t ≡ false → ending (elim u [ [] ↦ if t then a ∷ [] else [] | b ∷ more ↦ a ∷ b ∷ more ]) passed found ≡ ending u (passed ++ (a ∷ [])) found
-      by [] true e = absurd (true≢false e)
-      by [] false e = refl
-      by (b ∷ more) t e = sym (append_assoc passed (a ∷ []) (b ∷ more))
+  ending-far h = grind (arith, ints, append_assoc)
 
 -- ---- the axes passed
 
@@ -74,17 +61,7 @@ pub record Covering (sorted : List ActiveAxis) (i covered-total covered-span : �
 
 pub cover-none : (sorted : List ActiveAxis) → Covering sorted 0 1 0 (record { len = 0; total = 1; span = 0 })
 unfolding product spanSum
-cover-none sorted = record {
-  block-is = by (upToLast 0 sorted);
-  total-is = refl;
-  span-is = refl;
-  front = record { within = omega arith; total-is = refl; span-is = refl };
-  many = λ e. omega arith;
-}
-  where
-    by : (u : List ActiveAxis) → ending u [] [] ≡ u
-    by [] = refl
-    by (b ∷ more) = refl
+cover-none sorted = grind (arith, ints)
 
 module _ {sorted : List ActiveAxis} {i t s : ℕ} {block : Front} (c : Covering sorted i t s block) (h : i < length sorted) where
   abbrev here : ActiveAxis
@@ -118,11 +95,7 @@ module _ {sorted : List ActiveAxis} {i t s : ℕ} {block : Front} (c : Covering 
     -- the first axis has no span before it, and it moves
     not_first : here.stride ≤ s → 0 < i
     unfolding spanSum
-    not_first k = by i c.span-is (side-at sorted w.sides i h).moves
-      where
-        by : (j : ℕ) → s ≡ spanSum (take j sorted) → 0 < here.stride → 0 < j
-        by zero e m = absurd (omega arith)
-        by (suc j) e m = omega arith
+    not_first k = let m = (side-at sorted w.sides i h).moves in grind (arith, ints)
 
     pub cover-near : here.stride ≤ s
         → Covering sorted (i + 1) (t * here.extent) (s + (here.extent - 1) * here.stride) (record { len = i + 1; total = t * here.extent; span = s + (here.extent - 1) * here.stride })

@@ -15,6 +15,7 @@ use Rattle.specification.specs.Verdict.{Judged, judge, verdict, wordsNeeded}
 use Rattle.specification.proofs.OutcomeLaws.{clash, refused-inj}
 use Rattle.specification.proofs.VerdictLaws.{verdict-claims, verdict-call-claims}
 use Rattle.injectivity.specs.Meaning.{Fitting, DueThree, NoneDue}
+use Rattle.std.proofs.lemmas.Int.{ints}
 
 -- ---- the lists
 
@@ -81,46 +82,22 @@ module _ (es : List ℕ) (ss : List ℤ) (words : ℕ) where
   refuse-nine f h = judged f ∙ (verdict-claims.needed axes words (wordsNeeded axes ∷ [])).1 (h, refl)
 
   pub is_one : {n : ℕ} {vs : List ℕ} → Due n vs → n ≡ 1 → (16 < length es) ⊎ (16 < length ss)
-  is_one (due-one h) e = h
-  is_one (due-two h k ne) e = absurd (omega arith)
-  is_one (due-eight f o) e = absurd (omega arith)
-  is_one (due-three f d) e = absurd (omega arith)
-  is_one (due-nine f h) e = absurd (omega arith)
+  is_one d e = grind (arith, ints)
 
   pub is-two : {n : ℕ} {vs : List ℕ} → Due n vs → n ≡ 2 → (length es ≤ 16) × (length ss ≤ 16) × (length es ≢ length ss)
-  is-two (due-one h) e = absurd (omega arith)
-  is-two (due-two h k ne) e = (h, k, ne)
-  is-two (due-eight f o) e = absurd (omega arith)
-  is-two (due-three f d) e = absurd (omega arith)
-  is-two (due-nine f h) e = absurd (omega arith)
+  is-two d e = grind (arith, ints)
 
   pub is-eight : {n : ℕ} {vs : List ℕ} → Due n vs → n ≡ 8 → Fitting es ss × (overfull axes ≡ true)
-  is-eight (due-one h) e = absurd (omega arith)
-  is-eight (due-two h k ne) e = absurd (omega arith)
-  is-eight (due-eight f o) e = (f, o)
-  is-eight (due-three f d) e = absurd (omega arith)
-  is-eight (due-nine f h) e = absurd (omega arith)
+  is-eight d e = grind (arith, ints)
 
   pub is-three : {n : ℕ} {vs : List ℕ} → Due n vs → n ≡ 3 → Fitting es ss × DueThree es ss
-  is-three (due-one h) e = absurd (omega arith)
-  is-three (due-two h k ne) e = absurd (omega arith)
-  is-three (due-eight f o) e = absurd (omega arith)
-  is-three (due-three f d) e = (f, d)
-  is-three (due-nine f h) e = absurd (omega arith)
+  is-three d e = grind (arith, ints)
 
   pub is-nine : {n : ℕ} {vs : List ℕ} (w : ℕ) → Due n vs → n ≡ 9 → vs ≡ w ∷ [] → Fitting es ss × (words < wordsNeeded axes) × (w ≡ wordsNeeded axes)
-  is-nine w (due-one h) e q = absurd (omega arith)
-  is-nine w (due-two h k ne) e q = absurd (omega arith)
-  is-nine w (due-eight f o) e q = absurd (omega arith)
-  is-nine w (due-three f d) e q = absurd (omega arith)
-  is-nine w (due-nine f h) e q = (f, h, cc)
+  is-nine w d e q = grind (arith, ints)
 
   pub one-of-five : {n : ℕ} {vs : List ℕ} → Due n vs → (n ≡ 1) ⊎ ((n ≡ 2) ⊎ ((n ≡ 8) ⊎ ((n ≡ 3) ⊎ (n ≡ 9))))
-  one-of-five (due-one h) = inl refl
-  one-of-five (due-two h k ne) = inr (inl refl)
-  one-of-five (due-eight f o) = inr (inr (inl refl))
-  one-of-five (due-three f d) = inr (inr (inr (inl refl)))
-  one-of-five (due-nine f h) = inr (inr (inr (inr refl)))
+  one-of-five d = grind (arith, ints)
 
   -- ---- answered
 

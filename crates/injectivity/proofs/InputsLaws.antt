@@ -1,7 +1,7 @@
 -- What is out of range, as the code asks for it.
 use Rattle.std.specs.Prelude.{if◌then◌else◌, is_none, None}
 use mathlib.Core.Path.{◌≡◌, refl, sym, ap, ◌∙◌}
-use mathlib.Core.Bool.{Bool, true, false, not, ◌&&◌, ◌||◌, true≢false}
+use mathlib.Core.Bool.{Bool, true, false, not, ◌&&◌, ◌||◌}
 use mathlib.Core.List.{List, [], ◌∷◌}
 use Prim.Native.Nat.{ℕ, ◌-◌, ◌^◌, ◌≤◌, ◌<◌}
 use native.Mathlib.Omega.{arith}
@@ -78,7 +78,4 @@ pub in-range : (axes : List Axis) → outOfRange axes ≡ false → (some unfit 
 in-range axes o = let w = by (some unfit axes) (leb (upward axes) mostSigned) (leb (downward axes) (2 ^ 63)) (sym (out_is axes) ∙ o) in (w.0, omega (arith, leb-true _ _ w.1), leb-true _ _ w.2)
   where
     by : (x u d : Bool) → (x || is_none (if u && d then sums (upward axes) (downward axes) else None)) ≡ false → (x ≡ false) × (u ≡ true) × (d ≡ true)
-    by true u d e = absurd (true≢false e)
-    by false true true e = (refl, refl, refl)
-    by false true false e = absurd (true≢false e)
-    by false false d e = absurd (true≢false e)
+    by x u d e = grind (arith, nat_tests)

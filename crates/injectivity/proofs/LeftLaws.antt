@@ -1,6 +1,6 @@
 -- The active axes of a layout that is left to the block: their total, their span, and what holds of each.
 use Rattle.std.specs.Prelude.{if◌then◌else◌}
-use mathlib.Core.Path.{◌≡◌, refl, ap, subst}
+use mathlib.Core.Path.{◌≡◌, refl, ap}
 use mathlib.Core.Bool.{Bool, true, false, not, ◌&&◌, ◌||◌}
 use mathlib.Core.Logic.{◌≢◌}
 use mathlib.Core.List.{List, [], ◌∷◌}
@@ -8,7 +8,7 @@ use Prim.Native.Nat.{ℕ, suc, ◌+◌, ◌-◌, ◌*◌, ◌^◌, ◌≤◌, �
 use native.Mathlib.Nat.{le-mul_of_pos_right, mul_comm}
 use native.Mathlib.Omega.{arith}
 use lib.Dec.{T, ltb, ltb→lt, nltb→le}
-use lib.IntN.{ℤ, pos, negsuc, nat_abs}
+use lib.IntN.{ℤ, negsuc, nat_abs}
 use borrow.Author.Tests.{ltb-false}
 use Rattle.integer.specs.Multiple.{eqZ}
 use Rattle.integer.specs.Parts.{posPart, negPart}
@@ -23,6 +23,7 @@ use Rattle.specification.proofs.NormalAxes.{AllPositive}
 use Rattle.specification.proofs.Sorting.{Each}
 use Rattle.injectivity.specs.Inputs.{unfit}
 use Rattle.injectivity.proofs.ActiveLaws.{activeAxis}
+use Rattle.std.proofs.lemmas.Int.{ints}
 
 -- ---- their total and their span
 
@@ -65,8 +66,7 @@ below_span : (n m : ℕ) → 1 < n → m ≤ (n - 1) * m
 below_span n m h = let g : 0 < n - 1 = omega arith in omega (arith, le-mul_of_pos_right m g, mul_comm (n - 1) m)
 
 not_least : (s : ℤ) → s ≢ negsuc mostSigned → negPart s ≢ 2 ^ 63
-not_least (pos n) ne e = omega arith
-not_least (negsuc n) ne e = let q : n ≡ mostSigned = omega arith in ne (ap negsuc q)
+not_least s ne = grind (arith, ints)
 
 low-axis : (a : Axis) (k : ℕ) → 1 < a.extent → ltb mostSigned (a.extent - 1) ≡ false → eqZ a.stride (negsuc mostSigned) ≡ false
     → posPart (span a) < 2 ^ 63 → negPart (span a) ≤ 2 ^ 63 → Low (activeAxis k a)
@@ -77,8 +77,7 @@ low-axis a k h w l u d =
     record { extent-low = omega (arith, ltb-false mostSigned (a.extent - 1) w); stride-low = both a.stride (omega arith) (omega arith) ne }
   where
     both : (s : ℤ) → posPart s < 2 ^ 63 → negPart s ≤ 2 ^ 63 → negPart s ≢ 2 ^ 63 → nat_abs s < 2 ^ 63
-    both (pos n) p q ne = p
-    both (negsuc n) p q ne = omega arith
+    both s p q ne = grind (arith, ints)
 
 pub active-low : (k : ℕ) (axes : List Axis) → some unfit axes ≡ false → upward axes < 2 ^ 63 → downward axes ≤ 2 ^ 63 → Each Low (activeFrom k axes)
 unfolding activeFrom some upward downward
@@ -89,7 +88,4 @@ active-low k (a ∷ r) f u d = go (ltb 1 a.extent) (ltb mostSigned (a.extent - 1
     go : (x y z : Bool) → ltb mostSigned (a.extent - 1) ≡ y → eqZ a.stride (negsuc mostSigned) ≡ z → (T x → 1 < a.extent) → ((x && (y || z)) || some unfit r) ≡ false
         → (some unfit r ≡ false → Each Low (activeFrom (suc k) r))
         → Each Low (if x then activeAxis k a ∷ activeFrom (suc k) r else activeFrom (suc k) r)
-    go true true z p q h f rest = absurd (subst T f tt)
-    go true false true p q h f rest = absurd (subst T f tt)
-    go true false false p q h f rest = (low-axis a k (h tt) p q (omega arith) (omega arith), rest f)
-    go false y z p q h f rest = rest f
+    go x y z p q h f rest = grind (arith, ints, low-axis a k)

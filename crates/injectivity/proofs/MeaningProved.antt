@@ -1,5 +1,5 @@
 -- What the answers of the call say of the layout, from what is proved of the verdict.
-use mathlib.Core.Path.{◌≡◌, refl, sym, ap, ap₂, subst, ◌∙◌}
+use mathlib.Core.Path.{◌≡◌, refl, sym, ap, subst, ◌∙◌}
 use mathlib.Core.List.{List, [], ◌∷◌}
 use mathlib.Core.Logic.{◌≢◌}
 use Prim.Native.Nat.{ℕ}
@@ -10,7 +10,6 @@ use Rattle.specification.specs.Axis.{Axis, axesOf, Shared}
 use Rattle.specification.specs.Outcome.{Outcome, done, refused}
 use Rattle.specification.specs.Verdict.{Verdict, Distinct, Repeated, Undecided, Judged, judge, verdict, freedBy, wordsNeeded, BothBudgetsPassed}
 use Rattle.specification.specs.VerdictClaims.{Says}
-use Rattle.specification.proofs.OutcomeLaws.{clash, refused-inj, done_inj}
 use Rattle.specification.proofs.VerdictLaws.{verdict-claims, verdict-call-claims}
 use Rattle.injectivity.specs.Judgement.{Told, toldOf, JudgedAs}
 use Rattle.injectivity.specs.Meaning.{Answers, RefusedWith, NoneDue, Means, JudgementClaims}
@@ -18,16 +17,15 @@ use Rattle.injectivity.specs.declared.Judgement.{Judgement}
 use Rattle.view.specs.declared.layout.Refusal.{Refusal}
 use Rattle.std.specs.Prelude.{Result}
 use Rattle.injectivity.proofs.DueLaws.{Due, judged, due, refuse-three, refuse-eight, refuse-nine, is_one, is-two, is-eight, is-three, is-nine, one-of-five, none-due, is-answered}
+use Rattle.std.proofs.lemmas.Int.{ints}
 
 -- ---- what is told, and the outcome behind it
 
 told-done : {t : Outcome Told} {v : Verdict} {count : ℕ} (o : Outcome Judged) → t ≡ toldOf o → t ≡ done (record { answer = v; count = count }) → (j : Judged) × (o ≡ done j) × (j.answer ≡ v)
-told-done (done j) e d = (j, refl, ap (λ (x : Told). x.answer) (done_inj (sym e ∙ d)))
-told-done (refused n vs) e d = absurd (clash (sym d ∙ e))
+told-done o e d = grind (arith, ints)
 
 told-refused : {t : Outcome Told} {n : ℕ} {vs : List ℕ} (o : Outcome Judged) → t ≡ toldOf o → t ≡ refused n vs → o ≡ refused n vs
-told-refused (done j) e d = absurd (clash (sym e ∙ d))
-told-refused (refused m ws) e d = let w = refused-inj (sym e ∙ d) in ap₂ refused w.0 w.1
+told-refused o e d = grind (arith, ints)
 
 -- ---- what an answer says, and which there is
 
@@ -56,14 +54,10 @@ module _ (es : List ℕ) (ss : List ℤ) (words : ℕ) where
 -- ---- the call
 
 only-distinct : (l : List Axis) → ¬ (BothBudgetsPassed l) → ¬ (Shared l) → (w : Verdict) → Says w l → w ≡ Distinct
-only-distinct l b n Distinct s = refl
-only-distinct l b n Repeated s = absurd (n s)
-only-distinct l b n Undecided s = absurd (b s)
+only-distinct l b n w s = grind (arith, ints)
 
 only-repeated : (l : List Axis) → ¬ (BothBudgetsPassed l) → Shared l → (w : Verdict) → Says w l → w ≡ Repeated
-only-repeated l b n Distinct s = absurd (s n)
-only-repeated l b n Repeated s = refl
-only-repeated l b n Undecided s = absurd (b s)
+only-repeated l b n w s = grind (arith, ints)
 
 distinct-undecided : Distinct ≢ Undecided
 distinct-undecided e = let z : ◌≡◌ {A = ℕ} 0 1 = cc in omega arith

@@ -111,15 +111,15 @@ fitsTest a b mu mv c u₀ = leb (firstFrom b (lowest a b mv c) u₀) mu && leb (
 
 fitsTest-yes : (a b mu mv c u₀ : ℕ) → T (fitsTest a b mu mv c u₀) → FirstFits a b mu mv c u₀
 unfolding fitsTest FirstFits
-fitsTest-yes a b mu mv c u₀ h-6 = grind (arith, ints)
+fitsTest-yes a b mu mv c u₀ t = grind (arith, ints)
 
 fitsTest-of : (a b mu mv c u₀ : ℕ) → FirstFits a b mu mv c u₀ → T (fitsTest a b mu mv c u₀)
 unfolding fitsTest FirstFits
-fitsTest-of a b mu mv c u₀ h-6 = grind (arith, ints)
+fitsTest-of a b mu mv c u₀ f = grind (arith, ints)
 
 -- A factor of a positive number is positive.
 quotient-pos : (a g : ℕ) → a / g * g ≡ a → 0 < a → 0 < a / g
-quotient-pos a g h-2 h-3 = grind (arith, ints)
+quotient-pos a g e h = grind (arith, ints)
 
 -- Whether there is a solution, for positive a and b: the greatest common divisor divides c, and the root of the divided equation fits.
 unfoldable pub solvable : ℕ → ℕ → ℕ → ℕ → ℕ → Bool

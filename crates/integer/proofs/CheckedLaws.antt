@@ -16,10 +16,10 @@ use Rattle.std.proofs.lemmas.Int.{ints}
 
 -- The test `fits` and the machine's range are one.
 pub fits-of-sfits : (z : ℤ) → SFits w64 z → fits z ≡ true
-fits-of-sfits z h-1 = grind (arith, ints)
+fits-of-sfits z f = grind (arith, ints)
 
 pub sfits-of-fits : (z : ℤ) → fits z ≡ true → SFits w64 z
-sfits-of-fits z h-1 = grind (arith, ints)
+sfits-of-fits z e = grind (arith, ints)
 
 -- In the arm `Some(v)` of an answer about z: v is z, also as it is read back once bound, and z is in range by either test.
 pub record Within (z v : ℤ) : Type 0 where
@@ -29,11 +29,11 @@ pub record Within (z v : ℤ) : Type 0 where
   pub test : fits z ≡ true
 
 pub fits-arm : {r : Option ℤ} {v : ℤ} (z : ℤ) → r ≡ checkedOf z → r ≡ Some v → Within z v
-fits-arm z h-1 h-2 = grind (arith, ints)
+fits-arm z e k = grind (arith, ints)
 
 -- In the arm `None`: z is out of range.
 pub over-arm : {r : Option ℤ} (z : ℤ) → r ≡ checkedOf z → r ≡ None → fits z ≡ false
-over-arm z h-1 h-2 = grind (arith, ints)
+over-arm z e k = grind (arith, ints)
 
 -- What `checked_mul` and `checked_add` ensure speaks of their arguments as read back; these say it of the arguments.
 pub checked-mul-is : {r : Option ℤ} (n : ℕ) (s : ℤ) → SFits w64 s → r ≡ checkedOf (n · readBack s) → r ≡ checkedOf (n · s)

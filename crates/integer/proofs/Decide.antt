@@ -15,10 +15,10 @@ byTest false f g = no (λ p. g tt p)
 
 -- Two tests that both hold.
 pub and_both : (x y : Bool) → T (x && y) → T x × T y
-and_both x y h-2 = grind (arith, ints)
+and_both x y t = grind (arith, ints)
 
 pub both-and : (x y : Bool) → T x → T y → T (x && y)
-both-and x y h-2 h-3 = grind (arith, ints)
+both-and x y s t = grind (arith, ints)
 
 -- A bounded search: the greatest number below n that has the property, or that none has it.
 pub find : (P : ℕ → Type 0) → ((i : ℕ) → Dec (P i)) → (n : ℕ) → ((i : ℕ) × (i < n) × P i) ⊎ ((i : ℕ) → i < n → ¬ (P i))

@@ -19,7 +19,7 @@ readBack z = to_z w64 (of_z w64 z)
 -- The value of `x == y` is the test for equal integers.
 pub equal-tested : (x y : ℤ) → SFits w64 x → SFits w64 y → eqb (of_z w64 x) (of_z w64 y) ≡ eqZ x y
 unfolding eqZ
-equal-tested x y h-2 h-3 = grind (arith, ints)
+equal-tested x y f g = grind (arith, ints)
 
 -- What a test `s < 0` tells where it held.
 pub record Negative (s : ℤ) : Type 0 where
@@ -29,7 +29,7 @@ pub record Negative (s : ℤ) : Type 0 where
   pub at_most : nat_abs s ≤ 2 ^ 63
 
 pub negative-tested : (s : ℤ) → SFits w64 s → lt_z (readBack s) (pos 0) ≡ true → Negative s
-negative-tested s h-1 h-2 = grind (arith, ints)
+negative-tested s f e = grind (arith, ints)
 
 -- What it tells where it did not hold.
 pub record NonNegative (s : ℤ) : Type 0 where
@@ -38,4 +38,4 @@ pub record NonNegative (s : ℤ) : Type 0 where
   pub below : nat_abs s < 2 ^ 63
 
 pub nonnegative-tested : (s : ℤ) → SFits w64 s → lt_z (readBack s) (pos 0) ≡ false → NonNegative s
-nonnegative-tested s h-1 h-2 = grind (arith, ints)
+nonnegative-tested s f e = grind (arith, ints)

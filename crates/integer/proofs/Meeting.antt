@@ -1,4 +1,4 @@
--- When i₁ s₁ + i₂ s₂ takes a value twice, for i₁ and i₂ below bounds: the two-axis case of 01's verdict.
+-- When i₁ s₁ + i₂ s₂ takes a value twice, for i₁ and i₂ below bounds: the two-axis case of the verdict.
 use mathlib.Core.Path.{◌≡◌, ap, sym}
 use Prim.Native.Nat.{◌*◌, ◌+◌, ◌-◌, ◌/◌, ◌<◌, ◌≤◌, suc, zero, ℕ}
 use native.Mathlib.Decide.{dec_lt}

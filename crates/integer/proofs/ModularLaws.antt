@@ -8,11 +8,6 @@ use Rattle.integer.proofs.Congruence.{congruent-mul, congruent-of-equal, congrue
 use Rattle.integer.proofs.GcdLaws.{gcd-step, gcd-zero}
 use Rattle.integer.specs.Congruence.{Congruent, IsGcdInverse}
 use Rattle.integer.specs.Gcd.{gcd}
-use Rattle.std.proofs.lemmas.Int.{ints}
-
--- Two numbers below 2^32 have a product below 2^64.
-pub product-fits : (x y m : ℕ) → x < m → y < m → m ≤ 4294967296 → x * y < 18446744073709551616
-product-fits x y m h-3 h-4 h-5 = grind (arith, ints)
 
 -- The product by doubling: what is summed up and what is left to add make the product.
 pub record Doubling (x y m sum base left : ℕ) : Type 0 where

@@ -36,7 +36,7 @@ pub ·-add : (a b : ℕ) (s : ℤ) → (a + b) · s ≡ a · s +ℤ b · s
 -- The test for equal integers, where it holds and where it does not.
 pub eqZ-yes : (x y : ℤ) → T (eqZ x y) → x ≡ y
 unfolding eqZ
-eqZ-yes x y h-2 = grind (arith, ints)
+eqZ-yes x y t = grind (arith, ints)
 
 eqZ-refl : (x : ℤ) → T (eqZ x x)
 unfolding eqZ

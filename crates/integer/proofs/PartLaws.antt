@@ -39,7 +39,7 @@ negPart-scale x n = grind (arith, ints)
 
 -- Equality.
 pub parts-ext : {x y : ℤ} → posPart x + negPart y ≡ posPart y + negPart x → x ≡ y
-parts-ext h-0 = grind (arith, ints)
+parts-ext e = grind (arith, ints)
 
 pub parts-eq : {x y : ℤ} → x ≡ y → posPart x + negPart y ≡ posPart y + negPart x
 parts-eq {x} {y} e = subst (λ (z : ℤ). posPart x + negPart z ≡ posPart z + negPart x) e refl
@@ -54,32 +54,32 @@ one-part-zero x = grind (arith, ints)
 
 -- The tests `le_z` and `lt_z`, read by their value, and their value by the parts.
 pub leZ-true : (x y : ℤ) → le_z x y ≡ true → posPart x + negPart y ≤ posPart y + negPart x
-leZ-true x y h-2 = grind (arith, ints)
+leZ-true x y e = grind (arith, ints)
 
 pub leZ-false : (x y : ℤ) → le_z x y ≡ false → posPart y + negPart x < posPart x + negPart y
-leZ-false x y h-2 = grind (arith, ints)
+leZ-false x y e = grind (arith, ints)
 
 pub le-leZ : (x y : ℤ) → posPart x + negPart y ≤ posPart y + negPart x → le_z x y ≡ true
-le-leZ x y h-2 = grind (arith, ints)
+le-leZ x y h = grind (arith, ints)
 
 pub lt-leZ : (x y : ℤ) → posPart y + negPart x < posPart x + negPart y → le_z x y ≡ false
-lt-leZ x y h-2 = grind (arith, ints)
+lt-leZ x y h = grind (arith, ints)
 
 pub ltZ-true : (x y : ℤ) → lt_z x y ≡ true → posPart x + negPart y < posPart y + negPart x
-ltZ-true x y h-2 = grind (arith, ints)
+ltZ-true x y e = grind (arith, ints)
 
 pub ltZ-false : (x y : ℤ) → lt_z x y ≡ false → posPart y + negPart x ≤ posPart x + negPart y
-ltZ-false x y h-2 = grind (arith, ints)
+ltZ-false x y e = grind (arith, ints)
 
 pub lt-ltZ : (x y : ℤ) → posPart x + negPart y < posPart y + negPart x → lt_z x y ≡ true
-lt-ltZ x y h-2 = grind (arith, ints)
+lt-ltZ x y h = grind (arith, ints)
 
 pub le-ltZ : (x y : ℤ) → posPart y + negPart x ≤ posPart x + negPart y → lt_z x y ≡ false
-le-ltZ x y h-2 = grind (arith, ints)
+le-ltZ x y h = grind (arith, ints)
 
 -- The order.
 true-of-T : (b : Bool) → T b → b ≡ true
-true-of-T b h-1 = grind (arith, ints)
+true-of-T b t = grind (arith, ints)
 
 pub le_parts : {x y : ℤ} → x ≤ℤ y → posPart x + negPart y ≤ posPart y + negPart x
 le_parts {x} {y} h = leZ-true x y (true-of-T (le_z x y) h.le)
@@ -95,11 +95,5 @@ pub parts-lt : {x y : ℤ} → posPart x + negPart y < posPart y + negPart x →
 parts-lt {x} {y} h = record { lt = subst T (sym (lt-ltZ x y h)) tt }
 
 -- What an i64 holds: -2^63 ≤ z < 2^63. To show it, nothing need be said of which part is 0.
-pub posPart-below : {z : ℤ} → SFits w64 z → posPart z < 2 ^ 63
-posPart-below h-0 = grind (arith, ints)
-
-pub negPart-below : {z : ℤ} → SFits w64 z → negPart z ≤ 2 ^ 63
-negPart-below h-0 = grind (arith, ints)
-
 pub parts-fit : {z : ℤ} → posPart z < 2 ^ 63 + negPart z → negPart z ≤ 2 ^ 63 + posPart z → SFits w64 z
-parts-fit h-0 h-1 = grind (arith, ints)
+parts-fit p q = grind (arith, ints)

@@ -1,8 +1,6 @@
--- Equations and orders of ℤ by `omega`, products among them: a polynomial is written as data, and its value is `plus` less `minus`,
+-- Equations of ℤ by `omega`, products among them: a polynomial is written as data, and its value is `plus` less `minus`,
 -- two polynomials over ℕ that `omega` multiplies out.
 --     prove-eq (k ⊙ (int x ⊕ int y)) (k ⊙ int x ⊕ k ⊙ int y) (omega arith)      an equation that holds in every commutative ring
---     prove_le (int a ⊕ int c) (int b) (omega (arith, use-le (int a) (int b ⊖ int c) h))      an order, from a hypothesis h
---     prove-fits p (omega ..) (omega ..)      that an i64 holds the value
 use mathlib.Core.Path.{◌≡◌, ap}
 use Prim.Native.Nat.{◌*◌, ◌+◌, ℕ}
 use native.Mathlib.Omega.{arith}

@@ -12,7 +12,7 @@ use Rattle.std.proofs.lemmas.Int.{ints}
 
 -- An integer u - m with u ≤ 2 m has a magnitude of at most m.
 pub natAbs-of-shifted : (z : ℤ) (u m : ℕ) → posPart z + m ≡ u + negPart z → u ≤ 2 * m → nat_abs z < suc m
-natAbs-of-shifted z u m h-3 h-4 = grind (arith, ints)
+natAbs-of-shifted z u m e h = grind (arith, ints)
 
 -- Neither part is above the magnitude.
 pub negPart-of-natAbs : (z : ℤ) (m : ℕ) → nat_abs z < suc m → negPart z ≤ m

@@ -118,9 +118,6 @@ pub record Running (calls : List ℕ) (start : LayoutM) (rest : List ℕ) (curre
   pub goes_on : end_of start (calls_of calls) ≡ end_of current (calls_of rest)
   pub taken : takenWithin (length calls) calls + length rest ≡ length calls + takenWithin (length rest) rest
 
-pub running_start : (calls : List ℕ) (start : LayoutM) → Running calls start calls start
-running_start calls start = record { within = omega arith; goes_on = refl; taken = omega arith }
-
 module _ {calls : List ℕ} {start : LayoutM} {rest : List ℕ} {current : LayoutM} (r : Running calls start rest current) where
   -- a call was run
   pub running_more : {next : LayoutM} {c : Call} {behind : List ℕ} → first_of rest ≡ Some (c, behind) → next ≡ (after_call current c).layout → Running calls start behind next

@@ -33,7 +33,7 @@ model-again : (x : LayoutM) → modelOf (layout_of x) ≡ x
 unfolding layout_of
 model-again x = ap (λ (axes : List Axis). record { buffer = x.buffer; offset = x.offset; axes = axes }) (first_axes_take x.axes (length x.axes) (omega arith) ∙ take_all (length x.axes) x.axes (omega arith))
 
--- ---- an answer in 01's numbers
+-- ---- an answer in the rules' numbers
 
 -- a refusal of a call is a row of the table
 refusal-of : (l : LayoutM) (c : Call) (number : ℕ) (values : List ℕ) → rules.Refuses l c number values → (why : Refusal) × (outcomeOf {A = Unit {0}} (Err why) ≡ refused number values)

@@ -5,14 +5,18 @@ use Prim.Native.Nat.{ℕ, ◌+◌, ◌*◌, ◌/◌, ◌%◌, ◌≤◌}
 use native.Mathlib.Nat.{div-one}
 use native.Mathlib.Omega.{arith}
 use lib.IntN.{ℤ}
-use lib.ListN.{length, get_or, take, drop, length-append, length-drop, take-append-drop}
+use lib.ListN.{length, get_or, take, drop, length-append, take-append-drop}
 use lib.Seq.{take_at, drop_at, drop-drop, length-take-le}
 use Rattle.specification.specs.Axis.{Axis}
 use Rattle.specification.specs.Record.{bigEndian, twos, numberFrom, axisBytes}
 use mir.Syntax.{w16}
 use Rattle.std.specs.Int.{from_be_bytes}
+use Rattle.std.proofs.lemmas.List.{take_more}
 use Rattle.specification.proofs.RecordFields.{length-bigEndian, length-axisBytes}
 use Rattle.record.specs.Fields.{headBytes, axisField}
+
+-- how long the bytes of a number are, and the axes before place i
+pub ruleset lengths = (length-bigEndian, length-take-le, take_more)
 
 -- zs written right behind a front of n entries, over k of the rest
 pub behind-front : {A : Type 0} (front rest zs : List A) (n k : ℕ) → length front ≡ n
@@ -20,17 +24,17 @@ pub behind-front : {A : Type 0} (front rest zs : List A) (n k : ℕ) → length 
 behind-front front rest zs n k e = rw (take_at front rest n e, ← drop-drop k n (front ++ rest), drop_at front rest n e) (simp append_assoc)
 
 -- one axis is two numbers written one behind the other
-pub two-numbers : {A : Type 0} (xs es ss : List A) (n : ℕ) → n + 16 ≤ length xs → length es ≡ 8
+pub two_numbers : {A : Type 0} (xs es ss : List A) (n : ℕ) → n + 16 ≤ length xs → length es ≡ 8
     → take (n + 8) (take n xs ++ (es ++ drop (n + 8) xs)) ++ (ss ++ drop ((n + 8) + 8) (take n xs ++ (es ++ drop (n + 8) xs)))
     ≡ take n xs ++ ((es ++ ss) ++ drop (n + 16) xs)
-two-numbers xs es ss n h e =
+two_numbers xs es ss n h e =
     let g : take n xs ++ (es ++ drop (n + 8) xs) ≡ (take n xs ++ es) ++ drop (n + 8) xs = sym (append_assoc (take n xs) es (drop (n + 8) xs)) in
     let m : length (take n xs ++ es) ≡ n + 8 = simp (length-append) (omega (arith, length-take-le n xs (omega arith))) in
     let q : (n + 8) + 8 ≡ n + 16 = omega arith in
     rw g (behind-front (take n xs ++ es) (drop (n + 8) xs) ss (n + 8) 8 m ∙ rw (drop-drop 8 (n + 8) xs, q) (simp append_assoc))
 
-pub length-head : (rank verdict : ℕ) (offset : ℤ) → length (headBytes rank verdict offset) ≡ 13
-length-head rank verdict offset = simp (length-append, length-bigEndian) (omega arith)
+pub length_head : (rank verdict : ℕ) (offset : ℤ) → length (headBytes rank verdict offset) ≡ 13
+length_head rank verdict offset = simp (length-append, length-bigEndian) (omega arith)
 
 -- the bytes of axes and one more
 pub axisBytes-snoc : (axes : List Axis) (a : Axis) → axisBytes (axes ++ (a ∷ [])) ≡ axisBytes axes ++ axisField a
@@ -59,14 +63,10 @@ module _ (start : List ℕ) (axes : List Axis) (room : 13 + 16 * length axes ≤
   front_length : length (take 13 start ++ axisBytes axes) ≡ 13 + 16 * length axes
   front_length = simp length-append (omega (arith, length-take-le 13 start (omega arith), length-axisBytes axes))
 
-  -- the output keeps its length
-  pub length-written : length (written start axes) ≡ length start
-  length-written = simp length-append (omega (arith, simp length-append at front_length, length-drop (13 + 16 * length axes) start))
-
   -- one axis more
-  pub written-more : (a : Axis) (n : ℕ) → n ≡ length axes
+  pub written_more : (a : Axis) (n : ℕ) → n ≡ length axes
       → take (13 + 16 * n) (written start axes) ++ (axisField a ++ drop (13 + 16 * n + 16) (written start axes)) ≡ written start (axes ++ (a ∷ []))
-  written-more a n e =
+  written_more a n e =
       let m : length (axes ++ (a ∷ [])) ≡ length axes + 1 = simp length-append refl in
       let q : 13 + 16 * (length axes + 1) ≡ 13 + 16 * length axes + 16 = omega arith in
       rw (e, m, q) (behind-front (take 13 start ++ axisBytes axes) (drop (13 + 16 * length axes) start) (axisField a) (13 + 16 * length axes) 16 front_length

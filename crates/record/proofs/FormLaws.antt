@@ -1,9 +1,10 @@
 -- Laws of the parts of the reader's test for a normal form: the empty form, merged axes, and both ends in range.
-use Rattle.std.specs.Prelude.{if◌then◌else◌, None, Option, Some, option_map}
+use Rattle.std.specs.Prelude.{if◌then◌else◌, None, Option, Some, option_map, Ok, Err, Result}
+use Rattle.std.specs.Result.{is_err}
 use mathlib.Core.Path.{◌≡◌, refl, sym, subst, ◌∙◌}
 use mathlib.Core.Bool.{Bool, true, false, not, ◌&&◌, ◌||◌}
 use mathlib.Core.List.{List, [], ◌∷◌}
-use Prim.Native.Nat.{ℕ, ◌+◌}
+use Prim.Native.Nat.{ℕ, ◌+◌, ◌≤◌}
 use native.Mathlib.Omega.{arith}
 use lib.Dec.{T, eqb, ltb}
 use lib.IntN.{ℤ, pos}
@@ -18,12 +19,16 @@ use Rattle.integer.specs.Range.{mostSigned}
 use Rattle.integer.proofs.MachineInteger.{equal-tested}
 use Rattle.integer.proofs.PartLaws.{parts-fit}
 use Rattle.specification.specs.Tests.{some}
-use Rattle.specification.specs.Axis.{Axis, is_empty}
+use Rattle.specification.specs.Axis.{Axis, is_empty, extents}
 use Rattle.specification.specs.Layout.{LayoutM, lowest, highest}
 use Rattle.specification.specs.Normal.{continues, overfull}
 use Rattle.specification.specs.Views.{axisAt}
 use Rattle.specification.specs.Record.{isMerged, isEmptyForm, isNormal, withBuffer}
 use Rattle.specification.proofs.ReachLaws.{and-true}
+use Rattle.view.specs.Answers.{outcomeOf}
+use Rattle.view.specs.Count.{elementCount}
+use Rattle.view.specs.declared.layout.Refusal.{Refusal}
+use Rattle.view.proofs.CountLaws.{element-count-of-axes, counted-refused, counted_is}
 use Rattle.record.specs.Reader.{is_empty_form, in_range, highest_told, needed_length}
 
 -- no extent of merged axes is 0
@@ -98,3 +103,8 @@ module _ (l : LayoutM) where
         by : (t : Bool) → (if t then Some (posPart (highest l) + 1) else None) ≡ option_map (λ n. n + 1) (if t then Some (posPart (highest l)) else None)
         by true = refl
         by false = refl
+
+-- the count of positions says whether 64 bits hold it
+pub overfull_told : (axes : List Axis) (r : Result ℕ Refusal) → length axes ≤ 16 → outcomeOf r ≡ elementCount (extents axes) → is_err r ≡ overfull axes
+overfull_told axes (Ok n) few e = sym (counted_is axes (e ∙ element-count-of-axes axes few) refl).0
+overfull_told axes (Err why) few e = sym (counted-refused axes (e ∙ element-count-of-axes axes few) refl).0

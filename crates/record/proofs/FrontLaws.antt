@@ -15,7 +15,7 @@ use Rattle.specification.specs.Outcome.{Outcome, done, refused, refuseIf, ◌>>�
 use Rattle.specification.specs.Verdict.{Judged, judge, freedBy}
 use Rattle.specification.specs.Record.{verdictByte, axesFrom, fieldsRight, isNormal, withBuffer, layoutFrom, WasRead, read_of, readFrees}
 use Rattle.specification.proofs.OutcomeLaws.{clash, passed, done_inj, refuse-yes, refuse-no}
-use Rattle.specification.proofs.ReaderLaws.{fields-tested, rank-told}
+use Rattle.specification.proofs.ReaderLaws.{fields_tested, rank-told}
 use Rattle.record.specs.declared.reader.Head.{Head}
 use Rattle.record.specs.Fields.{axis_told}
 use Rattle.record.specs.Reader.{head_told, layout_told, needed_length, FrontM, frontOf}
@@ -28,12 +28,12 @@ axesFrom-snoc bytes i zero at e = let z : i ≡ at = omega arith in rw z
 axesFrom-snoc bytes i (suc n) at e = ap (λ (r : List Axis). axis_told bytes i ∷ r) (axesFrom-snoc bytes (i + 16) n at (omega arith))
 
 -- one axis more
-pub axesFrom-more : (bytes : List ℕ) (i n : ℕ) → axesFrom bytes i (n + 1) ≡ axesFrom bytes i n ++ (axis_told bytes (i + 16 * n) ∷ [])
-axesFrom-more bytes i n = rw add-one (axesFrom-snoc bytes i n (i + 16 * n) refl)
+pub axesFrom_more : (bytes : List ℕ) (i n : ℕ) → axesFrom bytes i (n + 1) ≡ axesFrom bytes i n ++ (axis_told bytes (i + 16 * n) ∷ [])
+axesFrom_more bytes i n = rw add-one (axesFrom-snoc bytes i n (i + 16 * n) refl)
 
-pub axesFrom-none : (bytes : List ℕ) (i : ℕ) → axesFrom bytes i 0 ≡ []
+pub axesFrom_none : (bytes : List ℕ) (i : ℕ) → axesFrom bytes i 0 ≡ []
 unfolding axesFrom
-axesFrom-none bytes i = refl
+axesFrom_none bytes i = refl
 
 -- ---- the layout told
 
@@ -109,7 +109,7 @@ module _ (bytes : List ℕ) where
     told-by-rank = e ∙ ap (λ (x : Head). layout_told bytes x.rank) t.is
 
     pub rank_few : rank l ≤ 16
-    rank_few = omega (arith, ap rank told-by-rank, rank_told bytes, (fields-tested bytes t.right).rank-small)
+    rank_few = omega (arith, ap rank told-by-rank, rank_told bytes, (fields_tested bytes t.right).rank-small)
 
     -- it needs no buffer length: it is no normal form
     pub front_formless : needed_length l ≡ None → frontOf bytes ≡ refused 11 []
@@ -159,7 +159,7 @@ front-few bytes {f} e =
     let p = passed (not (fieldsRight bytes)) 11 [] e in
     let q = passed (not (isNormal (layoutFrom bytes))) 11 [] p.1 in
     let same : rank f.layout ≡ rank (layoutFrom bytes) = ap (λ (x : FrontM). rank x.layout) (sym (done_inj q.1)) in
-    omega (arith, rank-told bytes, (fields-tested bytes (not-false (fieldsRight bytes) p.0)).rank-small)
+    omega (arith, rank-told bytes, (fields_tested bytes (not-false (fieldsRight bytes) p.0)).rank-small)
 
 -- ---- the words freed
 

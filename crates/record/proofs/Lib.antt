@@ -14,3 +14,4 @@ pub mod ChainLaws
 pub mod RunningLaws
 pub mod Ends
 pub mod Proved
+pub mod CallMadeLaws

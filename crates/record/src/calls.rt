@@ -19,7 +19,7 @@ pub enum Call<'a> {
 }
 
 /// What a call answers, and the layout after it.
-#[tactic(auto, unfolding(specification::specs::Calls::after_call))]
+#[tactic(auto, using(crate::proofs::CallMadeLaws::calls_made), unfolding(specification::specs::Calls::after_call))]
 pub fn after(layout: Layout, call: Call<'_>) -> Viewed
     ensures answer { viewedOf result ≡ after_call (modelOf layout) (call_in call.entry) }
     ensures made { CallMade layout result (call_in call.entry) }
@@ -32,6 +32,7 @@ pub fn after(layout: Layout, call: Call<'_>) -> Viewed
 }
 
 /// The layout after a list of calls, each on the layout after the last; a call that is refused leaves it.
+#[tactic(auto, using(crate::proofs::Ends::nothing_left))]
 pub fn run(start: Layout, calls: &[Call<'_>]) -> Layout
     ensures { modelOf result ≡ end_of (modelOf start) (map call_in calls.now) }
 {
@@ -71,7 +72,7 @@ fn first_call(numbers: &[usize]) -> Option<(Listed<'_>, &[usize])>
 }
 
 /// One call in numbers.
-#[tactic(auto, unfolding(specification::specs::Calls::after_call))]
+#[tactic(auto, using(crate::proofs::CallMadeLaws::calls_made), unfolding(specification::specs::Calls::after_call))]
 fn run_call(layout: &mut Layout, call: Listed<'_>) -> Result<(), Refusal>
     ensures answer { told result layout.new ≡ after_call (modelOf layout.old) (listed_call call.entry) }
     ensures made { CallMade layout.old (viewed_with layout.new result) (listed_call call.entry) }
@@ -85,6 +86,7 @@ fn run_call(layout: &mut Layout, call: Listed<'_>) -> Result<(), Refusal>
 
 /// Each call in turn on the layout after the last; a call that is refused leaves it. `Err(place)`: the list is ill-formed
 /// from there on, and was run up to there.
+#[tactic(auto, using(crate::proofs::CallListLaws::running_end, crate::proofs::CallListLaws::ended_well, crate::proofs::CallListLaws::ended_ill))]
 pub fn run_calls(layout: &mut Layout, calls: &[usize]) -> Result<(), usize>
     ensures { RunOf layout.old calls.now layout.new result }
 {

@@ -41,6 +41,7 @@ fn put_head(out: &mut [u8], rank: usize, verdict: u8, offset: ReadingOffset)
 }
 
 /// One axis from a place on: extent, then stride.
+#[tactic(auto, using(crate::proofs::FieldLaws::two_numbers, crate::proofs::FieldLaws::lengths))]
 fn put_axis_at(out: &mut [u8], at: BytePlace, axis: Axis)
     requires { at.0 + 16 ≤ length out.old }
     ensures { out.new ≡ take at.0 out.old ++ (axisField axis ++ drop (at.0 + 16) out.old) }
@@ -50,6 +51,7 @@ fn put_axis_at(out: &mut [u8], at: BytePlace, axis: Axis)
 }
 
 /// Axis after axis behind the head; the bytes before and behind them stay.
+#[tactic(auto, using(crate::proofs::FieldLaws::written_none, crate::proofs::FieldLaws::written_more, crate::proofs::FieldLaws::lengths))]
 fn put_axes(out: &mut [u8], axes: &[Axis])
     requires few { length axes.now ≤ 16 }
     requires room { recordLength (length axes.now) ≤ length out.old }
@@ -61,6 +63,7 @@ fn put_axes(out: &mut [u8], axes: &[Axis])
 }
 
 /// The record of a layout with a verdict byte at the front; the bytes past it stay.
+#[tactic(auto, using(view::proofs::AxesLaws::length_first_axes, crate::proofs::FieldLaws::written_behind, crate::proofs::FieldLaws::length_head))]
 pub(crate) fn put_record(out: &mut [u8], layout: &Layout, verdict: u8)
     requires few { layout.now.rank ≤ 16 }
     requires room { recordLength layout.now.rank ≤ length out.old }

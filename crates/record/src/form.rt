@@ -40,6 +40,7 @@ fn is_empty_form(offset: ReadingOffset, axes: &[Axis]) -> bool
 }
 
 /// Whether there are more than 2^64 - 1 positions.
+#[tactic(auto, using(crate::proofs::FormLaws::overfull_told))]
 fn is_overfull(axes: &[Axis]) -> bool
     requires { length axes.now ≤ 16 }
     ensures { result ≡ overfull axes.now }
@@ -61,6 +62,7 @@ fn highest_offset(offset: ReadingOffset, axes: &[Axis]) -> Option<u64>
 
 /// The buffer length that a layout needs, if it is a normal form of at most 2^64 - 1 positions with offsets within 0 to 2^63 - 1:
 /// the highest offset + 1, or 0 where there is no position.
+#[tactic(auto, using(view::proofs::AxesLaws::length_first_axes, crate::proofs::FormLaws::length_empty, crate::proofs::FormLaws::length_unmerged, crate::proofs::FormLaws::length_overfull))]
 pub(crate) fn buffer_length(layout: &Layout) -> Option<u64>
     requires { layout.now.rank ≤ 16 }
     ensures { result ≡ needed_length (modelOf layout.now) }

@@ -50,6 +50,7 @@ fn merge_into(merged: &mut [Axis; 16], axes: &[Axis]) -> usize
 }
 
 /// The normal form where there is a position.
+#[tactic(auto, using(view::proofs::AxesLaws::length_first_axes, specification::proofs::NormalLaws::normal_of_full))]
 fn merged(layout: &Layout) -> Layout
     requires few { layout.now.rank ≤ 16 }
     requires full { is_empty (modelOf layout.now).axes ≡ false }

@@ -57,6 +57,7 @@ fn axis_at(bytes: &[u8], at: BytePlace) -> Axis
 }
 
 /// The offset and the axes that the fields tell; the buffer length is not set yet.
+#[tactic(auto, using(crate::proofs::FrontLaws::axesFrom_none, view::proofs::AxesLaws::first_axes_take))]
 fn layout_at_front(bytes: &[u8], rank: usize) -> Layout
     requires few { rank ≤ 16 }
     requires whole { recordLength rank ≤ length bytes.now }
@@ -75,6 +76,7 @@ fn layout_at_front(bytes: &[u8], rank: usize) -> Layout
 }
 
 /// The layout of a whole record at the front, and the verdict that it claims.
+#[tactic(auto, using(view::proofs::AxesLaws::length_first_axes, specification::proofs::ReaderLaws::fields_tested, crate::proofs::FrontLaws::front_headless, crate::proofs::FrontLaws::head_is, crate::proofs::FrontLaws::rank_few, crate::proofs::FrontLaws::front_formless, crate::proofs::FrontLaws::front_is))]
 pub fn read_front(bytes: &[u8]) -> Option<Front>
     ensures { front_outcome result ≡ frontOf bytes.now }
 {

@@ -12,6 +12,7 @@ use Rattle.integer.proofs.PartLaws.{parts_add}
 use Rattle.specification.specs.Axis.{Axis, extents, offsetSum, downward}
 use Rattle.specification.specs.Search.{ActiveAxis, lengths, reach}
 use Rattle.specification.proofs.Positions.{IndexVector, empty, ◌and◌, Apart}
+use Rattle.std.proofs.lemmas.Int.{ints}
 
 -- all axes with their absolute strides, numbered from k on
 abbrev pub absolute : ℕ → List Axis → List ActiveAxis
@@ -42,13 +43,11 @@ turned (a ∷ r) (i ∷ x) = turn a.extent a.stride i ∷ turned r x
 
 -- it is below the extent
 turn_below : (n : ℕ) (s : ℤ) (i : ℕ) → i < n → turn n s i < n
-turn_below n (pos s) i h = h
-turn_below n (negsuc s) i h = omega arith
+turn_below n s i h = grind (arith, ints)
 
 -- turned twice it is as before
 turn-turn : (n : ℕ) (s : ℤ) (i : ℕ) → i < n → turn n s (turn n s i) ≡ i
-turn-turn n (pos s) i h = refl
-turn-turn n (negsuc s) i h = omega arith
+turn-turn n s i h = grind (arith, ints)
 
 -- a turned index vector is one
 pub turned-within : (l : List Axis) {x : List ℕ} → IndexVector (extents l) x → IndexVector (extents l) (turned l x)

@@ -13,7 +13,7 @@ use Rattle.integer.specs.Parts.{posPart, negPart}
 use Rattle.integer.proofs.MultipleLaws.{posPart-·, negPart-·}
 use Rattle.specification.specs.Tests.{some, up_from}
 use Rattle.specification.specs.Axis.{Axis, axesOf, is_empty, span, upward, downward}
-use Rattle.specification.specs.Outcome.{Check, done, refused, pass}
+use Rattle.specification.specs.Outcome.{Check, done, pass}
 use Rattle.specification.specs.Layout.{LayoutM, rank, Accepted, lowest, highest, tooLong, handed}
 use Rattle.specification.specs.CheckIn.{bounds, checkIn}
 use Rattle.specification.specs.Views.{unlessRefused, withAxes, axisAt, permute, pairFault, class_of, kept, fused, diagonalAxes, sumFaults, diagonalView, targetFault, spread, broadcast}
@@ -24,6 +24,7 @@ use Rattle.specification.proofs.OrderSums.{left, left-shift, whole_sum}
 use Rattle.specification.proofs.OutcomeLaws.{passed, passed-check, done_inj}
 use Rattle.specification.proofs.Sums.{sum_of}
 use Rattle.specification.proofs.TestLaws.{true-not-false, length-those}
+use Rattle.std.proofs.lemmas.Int.{ints}
 -- two laws of tests that files of other crates cite from here
 pub use borrow.Author.Tests.{not-false}
 pub use Rattle.specification.proofs.TestLaws.{or-true}
@@ -63,13 +64,11 @@ sum-order g axes (i ∷ r) = ap (λ (z : ℕ). g (axisAt axes i) + z) (sum-order
 
 up-sum : (l : List Axis) → upward l ≡ sumAxes (λ a. posPart (span a)) l
 unfolding upward sumAxes
-up-sum [] = refl
-up-sum (a ∷ r) = ap (λ (z : ℕ). posPart (span a) + z) (up-sum r)
+up-sum l = grind (arith, ints)
 
 down-sum : (l : List Axis) → downward l ≡ sumAxes (λ a. negPart (span a)) l
 unfolding downward sumAxes
-down-sum [] = refl
-down-sum (a ∷ r) = ap (λ (z : ℕ). negPart (span a) + z) (down-sum r)
+down-sum l = grind (arith, ints)
 
 abbrev is_zero : Axis → ℕ
 is_zero a = if eqb a.extent 0 then 1 else 0
@@ -104,8 +103,7 @@ empty-by-sum l m q e = go (is_empty m) refl
 -- what holds of the old layout, and of the new one if the check passes, holds of the layout after it
 pub old-or-new : (P : LayoutM → Type 0) (l n : LayoutM) (c : Check) → P l → (c ≡ pass → P n) → P (unlessRefused l c n).layout
 unfolding unlessRefused
-old-or-new P l n (done u) a f = f refl
-old-or-new P l n (refused m vs) a f = a
+old-or-new P l n c a f = grind (arith, ints)
 
 permute-keeps : (l : LayoutM) (order : List ℕ) → Accepted l → Accepted (permute l order).layout
 unfolding permute

@@ -14,9 +14,10 @@ use Rattle.specification.specs.Axis.{Axis}
 use Rattle.specification.specs.Views.{axisAt}
 use Rattle.specification.specs.Search.{ActiveAxis}
 use Rattle.specification.specs.Verdict.{activeFrom}
-use Rattle.specification.specs.BlockClaims.{entry_at, EntryOf, ActiveAxisOf}
+use Rattle.specification.specs.BlockClaims.{EntryOf, ActiveAxisOf}
 use Rattle.specification.proofs.AxisOrder.{Perm, nil, skip, swap, trans, perm-sym}
 use Rattle.specification.proofs.Sorting.{sort-perm}
+use Rattle.std.proofs.lemmas.Int.{ints}
 
 -- ---- entries
 
@@ -31,11 +32,7 @@ later-entry b w = record { place = suc w.place; in_list = omega (arith, w.in_lis
 
 -- an entry is the first or one of the rest
 pub entry-cases : {a b : ActiveAxis} {rest : List ActiveAxis} {P : Type 0} → (b ≡ a → P) → (EntryOf rest a → P) → EntryOf (b ∷ rest) a → P
-entry-cases {a} {b} {rest} {P} f g w = by w.place w.in_list w.stands-there
-  where
-    by : (i : ℕ) → i < length (b ∷ rest) → entry_at (b ∷ rest) i ≡ a → P
-    by zero h e = f e
-    by (suc i) h e = g (record { place = i; in_list = omega arith; stands-there = e })
+entry-cases f g w = grind (arith, ints)
 
 entry-perm : {a : ActiveAxis} {l m : List ActiveAxis} → Perm l m → EntryOf l a → EntryOf m a
 entry-perm nil w = w

@@ -11,6 +11,7 @@ use Rattle.specification.specs.Outcome.{Outcome, Check, done, refused, pass, ref
 use Rattle.specification.specs.Layout.{LayoutM}
 use Rattle.specification.specs.Views.{unlessRefused}
 use Rattle.specification.proofs.OutcomeLaws.{clash, refused-inj}
+use Rattle.std.proofs.lemmas.Int.{ints}
 
 -- a check passes exactly if P, and is refused with a number and values exactly if R holds of them
 pub record Answers (c : Check) (P : Type 0) (R : ℕ → List ℕ → Type 0) : Type 0 where
@@ -35,10 +36,7 @@ pub data FirstFault (n : ℕ) (Good : ℕ → Type 0) (Bad : ℕ → ℕ → Lis
 -- answers in other words
 pub restated : {c : Check} {P Q : Type 0} {R S : ℕ → List ℕ → Type 0} → Answers c P R → (P → Q) → (Q → P)
     → ((n : ℕ) (vs : List ℕ) → R n vs → S n vs) → ((n : ℕ) (vs : List ℕ) → S n vs → R n vs) → Answers c Q S
-restated a f g h k = record {
-  passes = (λ e. f (a.passes.0 e), λ q. a.passes.1 (g q));
-  refuses = λ n vs. (λ e. h n vs ((a.refuses n vs).0 e), λ s. (a.refuses n vs).1 (k n vs s));
-}
+restated a f g h k = grind (arith, ints)
 
 -- what does not pass is refused somehow
 pub some-refusal : (c : Check) {P : Type 0} {R : ℕ → List ℕ → Type 0} → Answers c P R → ¬ P → (n : ℕ) × (vs : List ℕ) × R n vs
@@ -89,32 +87,14 @@ of-answer old new {c} a = rw (answer-is old new c) a
 -- and leaves the old layout where it is refused
 pub left-old : (old new : LayoutM) (c : Check) {n : ℕ} {vs : List ℕ} → (unlessRefused old c new).answer ≡ refused n vs → (unlessRefused old c new).layout ≡ old
 unfolding unlessRefused
-left-old old new (done u) e = absurd (clash e)
-left-old old new (refused n vs) e = refl
+left-old old new c e = grind (arith, ints)
 
 -- ---- one check after another
 
 -- the second check is asked only where the first passes
 pub then-answers : (c d : Check) {P Q : Type 0} {R S : ℕ → List ℕ → Type 0} → Answers c P R → (P → Answers d Q S) → Answers (c >> d) (P × Q) (InOrder P R S)
 unfolding ◌>>◌
-then-answers (done u) d {P} {Q} {R} {S} a b =
-    let p : P = a.passes.0 refl in
-    record {
-      passes = (λ e. (p, (b p).passes.0 e), λ w. (b p).passes.1 w.1);
-      refuses = λ n vs. (λ e. later p (((b p).refuses n vs).0 e), λ o. at o);
-    }
-  where
-    at : {n : ℕ} {vs : List ℕ} → InOrder P R S n vs → d ≡ refused n vs
-    at {n} {vs} (sooner r) = absurd (clash ((a.refuses n vs).1 r))
-    at {n} {vs} (later p s) = ((b p).refuses n vs).1 s
-then-answers (refused m ws) d {P} {Q} {R} {S} a b = record {
-  passes = (λ e. absurd (clash (sym e)), λ w. a.passes.1 w.0);
-  refuses = λ n vs. (λ e. sooner ((a.refuses n vs).0 e), λ o. at o);
-}
-  where
-    at : {n : ℕ} {vs : List ℕ} → InOrder P R S n vs → ◌≡◌ {A = Check} (refused m ws) (refused n vs)
-    at {n} {vs} (sooner r) = (a.refuses n vs).1 r
-    at {n} {vs} (later p s) = absurd (clash (sym (a.passes.1 p)))
+then-answers c d a b = grind (arith, ints)
 
 pub then-assoc : {B : Type 0} (c d : Check) (o : Outcome B) → (c >> d) >> o ≡ c >> d >> o
 unfolding ◌>>◌
@@ -124,8 +104,7 @@ then-assoc (refused n vs) d o = refl
 -- what is done where a check passes is refused as the check is
 pub done-after : {B : Type 0} (c : Check) (x : B) (n : ℕ) (vs : List ℕ) → (c >> done x ≡ refused n vs) ↔ (c ≡ refused n vs)
 unfolding ◌>>◌
-done-after (done u) x n vs = (λ e. absurd (clash e), λ e. absurd (clash e))
-done-after (refused m ws) x n vs = (λ e. let w = refused-inj e in rw (w.0, w.1), λ e. let w = refused-inj e in rw (w.0, w.1))
+done-after c x n vs = grind (arith, ints)
 
 -- two checks with the same refusal have that refusal
 pub then-only : (c d : Check) {P Q : Type 0} (number : ℕ) (values : List ℕ) → Answers c P (Only number values P) → (P → Answers d Q (Only number values Q))
@@ -152,8 +131,7 @@ in_turn check (suc n) = check 0 >> in_turn (λ i. check (suc i)) n
 
 pub in-turn-ext : (f g : ℕ → Check) (n : ℕ) → ((i : ℕ) → f i ≡ g i) → in_turn f n ≡ in_turn g n
 unfolding in_turn
-in-turn-ext f g zero e = refl
-in-turn-ext f g (suc n) e = rw (e 0, in-turn-ext (λ i. f (suc i)) (λ i. g (suc i)) n (λ i. e (suc i)))
+in-turn-ext f g n e = grind (arith, ints)
 
 -- it passes if each place is good, and is refused at the first that is not
 pub turn-answers : (check : ℕ → Check) (n : ℕ) {Good : ℕ → Type 0} {Bad : ℕ → ℕ → List ℕ → Type 0} → ((i : ℕ) → i < n → Answers (check i) (Good i) (Bad i))

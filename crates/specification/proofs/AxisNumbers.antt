@@ -1,15 +1,14 @@
 -- The numbers of active axes all differ, so each of the three orders leaves no tie: by absolute stride, by extent for the two set apart, by axis for the others.
 use Rattle.std.specs.Prelude.{if◌then◌else◌}
-use mathlib.Core.Path.{◌≡◌, refl, sym, subst}
-use mathlib.Core.Bool.{Bool, true, false, ◌&&◌, ◌||◌, true≢false, false≢true}
-use mathlib.Core.Logic.{◌≢◌, ◌⊎◌, inl, inr}
+use mathlib.Core.Path.{sym, subst}
+use mathlib.Core.Bool.{Bool, true, false}
+use mathlib.Core.Logic.{◌≢◌}
 use mathlib.Core.List.{List, [], ◌∷◌}
 use Prim.Native.Nat.{ℕ, suc, ◌<◌, ◌≤◌}
 use native.Mathlib.Omega.{arith}
 use lib.Dec.{ltb}
 use lib.IntN.{nat_abs}
 use lib.ListN.{drop}
-use borrow.Author.Tests.{ltb-true, ltb-false, eqb-true, eqb-false}
 use Rattle.specification.specs.Tests.{sortBy}
 use Rattle.specification.specs.Axis.{Axis}
 use Rattle.specification.specs.Search.{ActiveAxis}
@@ -18,6 +17,7 @@ use Rattle.specification.specs.BlockClaims.{inOrder, Smaller}
 use Rattle.specification.specs.CountClaims.{SetApart, Larger}
 use Rattle.specification.proofs.Sorting.{Each, EachTwo, Tells, each-implies, each-two-implies, each-two-drop, perm-each, perm-each-two, sort-perm, sort_sorted}
 use Rattle.specification.proofs.BlockLaws.{last-each-two}
+use Rattle.std.proofs.lemmas.Int.{ints}
 
 -- two axes have different numbers
 abbrev Differ : ActiveAxis → ActiveAxis → Type 0
@@ -55,37 +55,13 @@ block-differ : (axes : List Axis) → EachTwo Differ (block_of axes)
 unfolding block_of
 block-differ axes = last-each-two Differ _ (sortBy smaller (activeFrom 0 axes)) (sort-differ smaller (activeFrom 0 axes) (active-differ 0 axes))
 
--- ---- two keys: the first decides, then the axis
-
-either_key : {P E Q : Type 0} (x y z : Bool) → (x ≡ true → P) → (y ≡ true → E) → (z ≡ true → Q) → (x || (y && z)) ≡ true → P ⊎ (E × Q)
-either_key true y z f g h e = inl (f refl)
-either_key false true true f g h e = inr (g refl, h refl)
-either_key false true false f g h e = absurd (false≢true e)
-either_key false false z f g h e = absurd (false≢true e)
-
-neither_key : {P E Q : Type 0} (x y z : Bool) → (x ≡ false → y ≡ false → P) → (y ≡ true → E) → (z ≡ false → Q) → (x || (y && z)) ≡ false → P ⊎ (E × Q)
-neither_key true y z f g h e = absurd (true≢false e)
-neither_key false true true f g h e = absurd (true≢false e)
-neither_key false true false f g h e = inr (g refl, h refl)
-neither_key false false z f g h e = inl (f refl refl)
-
--- of two numbers that differ, the one that is not less is greater
-other-less : (m n : ℕ) → ltb m n ≡ false → m ≢ n → n < m
-other-less m n e d = omega (arith, ltb-false m n e)
-
 -- ---- sorted by absolute stride
 
 smaller-chain : (a b c : ActiveAxis) → Smaller a b → Smaller b c → Smaller a c
-smaller-chain a b c (inl h) (inl k) = inl (omega arith)
-smaller-chain a b c (inl h) (inr k) = inl (omega (arith, k.0))
-smaller-chain a b c (inr h) (inl k) = inl (omega (arith, h.0))
-smaller-chain a b c (inr h) (inr k) = inr (omega arith, omega arith)
+smaller-chain a b c h k = grind (arith, ints)
 
 smaller-tells : (a b : ActiveAxis) → Differ a b → Tells smaller Smaller a b
-smaller-tells a b d = (
-  either_key _ _ _ (ltb-true _ _) (eqb-true _ _) (ltb-true _ _),
-  neither_key _ _ _ (λ e f. other-less a.stride b.stride e (eqb-false _ _ f)) (λ e. sym (eqb-true _ _ e)) (λ e. other-less a.axis b.axis e d),
-)
+smaller-tells a b d = grind (arith, ints)
 
 pub in_order : (axes : List Axis) → EachTwo Smaller (inOrder axes)
 in_order axes = sort_sorted smaller Smaller smaller-chain (activeFrom 0 axes) (each-two-implies smaller-tells (activeFrom 0 axes) (active-differ 0 axes))
@@ -93,16 +69,10 @@ in_order axes = sort_sorted smaller Smaller smaller-chain (activeFrom 0 axes) (e
 -- ---- the two set apart
 
 larger-chain : (a b c : ActiveAxis) → Larger a b → Larger b c → Larger a c
-larger-chain a b c (inl h) (inl k) = inl (omega arith)
-larger-chain a b c (inl h) (inr k) = inl (omega (arith, k.0))
-larger-chain a b c (inr h) (inl k) = inl (omega (arith, h.0))
-larger-chain a b c (inr h) (inr k) = inr (omega arith, omega arith)
+larger-chain a b c h k = grind (arith, ints)
 
 longer-tells : (a b : ActiveAxis) → Differ a b → Tells longer Larger a b
-longer-tells a b d = (
-  either_key _ _ _ (ltb-true _ _) (eqb-true _ _) (ltb-true _ _),
-  neither_key _ _ _ (λ e f. other-less b.extent a.extent e (λ q. eqb-false _ _ f (sym q))) (λ e. sym (eqb-true _ _ e)) (λ e. other-less a.axis b.axis e d),
-)
+longer-tells a b d = grind (arith, ints)
 
 by-extent : (block : List ActiveAxis) → EachTwo Differ block → EachTwo Larger (sortBy longer block)
 by-extent block d = sort_sorted longer Larger larger-chain block (each-two-implies longer-tells block d)
@@ -111,7 +81,7 @@ by-extent block d = sort_sorted longer Larger larger-chain block (each-two-impli
 
 by-axis : (l : List ActiveAxis) → EachTwo Differ l → EachTwo (λ a b. a.axis < b.axis) (sortBy lower l)
 by-axis l d = sort_sorted lower (λ a b. a.axis < b.axis) (λ a b c h k. omega arith) l
-    (each-two-implies (λ a b n. (ltb-true _ _, λ e. other-less a.axis b.axis e n)) l d)
+    (each-two-implies (λ a b n. grind (arith, ints)) l d)
 
 pub others-ascend : (axes : List Axis) → EachTwo (λ a b. a.axis < b.axis) (othersOf (block_of axes))
 unfolding othersOf

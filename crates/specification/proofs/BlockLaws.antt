@@ -6,8 +6,8 @@ use mathlib.Core.Bool.{Bool, true, false, not, ◌&&◌, ◌||◌}
 use mathlib.Core.List.{List, [], ◌∷◌, ◌++◌, append-nil}
 use Prim.Native.Nat.{ℕ, suc, ◌+◌, ◌*◌, ◌-◌, ◌<◌, ◌≤◌}
 use native.Mathlib.Omega.{arith}
-use lib.Dec.{T, leb, ltb, eqb, nleb→lt, ltb→lt, nltb→le, eqb-suc-zero}
-use lib.IntN.{ℤ, pos, negsuc, nat_abs}
+use lib.Dec.{T, leb, ltb, eqb, nleb→lt, ltb→lt, nltb→le}
+use lib.IntN.{ℤ, pos, nat_abs}
 use borrow.Author.Tests.{eqb-true, eqb-false}
 use Rattle.integer.specs.Multiple.{eqZ}
 use Rattle.specification.specs.Tests.{some, sortBy}
@@ -23,6 +23,7 @@ use Rattle.specification.proofs.Differences.{EqualSums}
 use Rattle.specification.proofs.AxisOrder.{Perm, nil, skip, swap, trans, perm-sym, apart-of-perm, Carry, carry-perm, carry-skip, carry-trans}
 use Rattle.specification.proofs.Sorting.{Each, EachTwo, perm-refl, perm-each, sort-perm}
 use Rattle.specification.proofs.Collisions.{pair-carry, single, single-back, still as still-pair}
+use Rattle.std.proofs.lemmas.Int.{ints}
 
 -- a pair of the rest is one of the whole
 pair-cons : (a : ActiveAxis) (r : List ActiveAxis) → 0 < a.extent → EqualSums r → EqualSums (a ∷ r)
@@ -137,8 +138,7 @@ active-carry k (AllPositive.more {a} {r} h t) = go (ltb 1 a.extent) (nltb→le 1
 -- the test for stride 0, on the absolute stride
 eqZ-abs : (z : ℤ) → eqZ z (pos 0) ≡ eqb (nat_abs z) 0
 unfolding eqZ
-eqZ-abs (pos n) = refl
-eqZ-abs (negsuc n) = sym (eqb-suc-zero n)
+eqZ-abs z = grind (arith, ints)
 
 -- the vector of zeros
 zeros : {es : List ℕ} → PositiveExtents es → (x : List ℕ) × IndexVector es x

@@ -1,34 +1,25 @@
 -- broadcast passes and is refused exactly as its rules say: the first axis whose extent is neither its target nor 1 gives 6.
-use mathlib.Core.Bool.{Bool, true, false, not, ◌||◌}
+use mathlib.Core.Bool.{false, not, ◌||◌}
 use mathlib.Core.List.{List, [], ◌∷◌}
-use mathlib.Core.Logic.{◌⊎◌, inl, inr, ◌↔◌}
+use mathlib.Core.Logic.{◌⊎◌, ◌↔◌}
 use mathlib.Core.Path.{◌≡◌, refl, sym, ap, ◌∙◌}
 use Prim.Native.Nat.{ℕ, suc, ◌+◌, ◌<◌, ◌≤◌}
 use native.Mathlib.Nat.{add-zero, zero-add}
 use native.Mathlib.Omega.{arith}
 use lib.Dec.{eqb}
 use lib.ListN.{length, get_or}
-use borrow.Author.Tests.{eqb-true, eq-eqb, not-false}
 use Rattle.specification.specs.Axis.{Axis}
 use Rattle.specification.specs.Outcome.{Check, refuseIf, ◌>>◌}
 use Rattle.specification.specs.Layout.{LayoutM, rank, Accepted}
 use Rattle.specification.specs.Views.{withAxes, axisAt, targetFault, spread, broadcast}
 use Rattle.specification.specs.ViewRules.{GoodExtent, Broadcasts, BroadcastRefused}
-use Rattle.specification.proofs.TestLaws.{or-true}
 use Rattle.specification.proofs.ReachClaimed.{HandedRefused, handed-answers}
 use Rattle.specification.proofs.AnswerRules.{Answers, Only, only, InOrder, sooner, later, FirstFault, first, restated, equal-tested, test-answers, of-answer, then-answers, in_turn, in-turn-ext, turn-answers}
+use Rattle.std.proofs.lemmas.Int.{ints}
 
 -- an extent is its target or 1
 extent-tested : (extent target : ℕ) → (not (eqb extent target || eqb extent 1) ≡ false) ↔ ((extent ≡ target) ⊎ (extent ≡ 1))
-extent-tested extent target = (λ e. go (eqb extent target) refl (not-false (eqb extent target || eqb extent 1) e), back)
-  where
-    go : (t : Bool) → eqb extent target ≡ t → (t || eqb extent 1) ≡ true → (extent ≡ target) ⊎ (extent ≡ 1)
-    go true q e = inl (eqb-true extent target q)
-    go false q e = inr (eqb-true extent 1 e)
-
-    back : (extent ≡ target) ⊎ (extent ≡ 1) → not (eqb extent target || eqb extent 1) ≡ false
-    back (inl e) = rw (eq-eqb extent target e)
-    back (inr e) = rw (eq-eqb extent 1 e, or-true (eqb extent target))
+extent-tested extent target = grind (arith, ints)
 
 -- the check of one axis, which answers with the number k
 unfoldable extentCheck : ℕ → ℕ → ℕ → Check

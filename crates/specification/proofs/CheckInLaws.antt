@@ -1,11 +1,10 @@
--- Check-in and the call of the normal form pass and refuse exactly as 01 says.
+-- Check-in and the call of the normal form pass and refuse exactly as the rules say.
 use Rattle.std.specs.Prelude.{if◌then◌else◌}
 use mathlib.Core.Bool.{Bool, true, false, not, ◌||◌}
 use mathlib.Core.List.{List, []}
 use mathlib.Core.Logic.{◌⊎◌, inl, inr, ◌↔◌}
 use mathlib.Core.Path.{◌≡◌, refl, sym, ◌∙◌}
 use Prim.Native.Nat.{ℕ, ◌-◌, ◌<◌, ◌≤◌}
-use native.Mathlib.Decide.{dec_lt}
 use native.Mathlib.Omega.{arith}
 use lib.Dec.{T, eqb}
 use lib.IntN.{ℤ, pos}
@@ -13,11 +12,10 @@ use lib.ListN.{length}
 use lib.Signed.{◌≤ℤ◌, ◌<ℤ◌, le_z, lt_z}
 use mir.Syntax.{w64}
 use mir.Val.{SFits}
-use borrow.Author.Tests.{ltb-false, le-ltb}
 use Rattle.integer.specs.Range.{fits, mostSigned}
 use Rattle.specification.specs.Tests.{some}
 use Rattle.specification.specs.Axis.{is_empty, span}
-use Rattle.specification.specs.Outcome.{Check, done, refused, pass, refuseIf, ◌>>◌}
+use Rattle.specification.specs.Outcome.{Check, done, pass, refuseIf, ◌>>◌}
 use Rattle.specification.specs.Layout.{LayoutM, rank, lowest, highest, Accepted, tooLong, handed}
 use Rattle.specification.specs.CheckIn.{tooWide, bounds, checkIn}
 use Rattle.specification.specs.Normal.{overfull, normalOf, normalForm}
@@ -26,18 +24,17 @@ use Rattle.specification.specs.CheckInClaims.{OutOfBounds, wide, span-out, too-h
 use Rattle.specification.specs.CheckInClaims as claims
 use Rattle.specification.proofs.TestLaws.{true-not-false}
 use Rattle.specification.proofs.TestsTold.{or-holds, not-holds, some-axis, too_wide, in-range}
-use Rattle.specification.proofs.ReachLaws.{or-false}
 use Rattle.specification.proofs.ReachClaimed.{HandedRefused, handed-answers}
 use Rattle.specification.proofs.ReachClaimed as reach
 use Rattle.specification.proofs.OutcomeLaws.{clash}
 use Rattle.specification.proofs.AnswerRules.{Answers, Only, only, InOrder, sooner, later, restated, test-answers, then-answers, then-assoc, done-after, equal-tested}
+use Rattle.std.proofs.lemmas.Int.{ints}
 
 -- ---- the five cases
 
 -- a test that holds is its value
 holds : (t : Bool) → (t ≡ true) ↔ T t
-holds true = (λ e. tt, λ p. refl)
-holds false = (λ e. true-not-false e refl, λ p. absurd p)
+holds t = grind (arith, ints)
 
 ltZ-holds : (x y : ℤ) → (lt_z x y ≡ true) ↔ (x <ℤ y)
 ltZ-holds x y = (λ e. record { lt = (holds (lt_z x y)).0 e }, λ h. (holds (lt_z x y)).1 h.lt)
@@ -112,11 +109,7 @@ module _ (l : LayoutM) where
 
 done-passes : {B : Type 0} (c : Check) (x y : B) → (c >> done x ≡ done y) ↔ ((c ≡ pass) × (x ≡ y))
 unfolding ◌>>◌
-done-passes (done u) x y = (λ e. (refl, done_inj e), λ w. rw w.1)
-  where
-    done_inj : {B : Type 0} {a b : B} → done a ≡ done b → a ≡ b
-    done_inj e = cc
-done-passes (refused n vs) x y = (λ e. absurd (clash (sym e)), λ w. absurd (clash (sym w.0)))
+done-passes c x y = grind (arith, ints)
 
 -- ---- check-in
 
@@ -128,18 +121,10 @@ module _ (buffer : ℕ) (offset : ℤ) (extents : List ℕ) (strides : List ℤ)
   Few = (length extents ≤ 16) × (length strides ≤ 16)
 
   few-tested : ((tooLong extents || tooLong strides) ≡ false) ↔ Few
-  few-tested = (
-    λ e. let w = or-false (tooLong extents) (tooLong strides) e in (ltb-false 16 (length extents) w.0, ltb-false 16 (length strides) w.1),
-    λ w. rw (le-ltb 16 (length extents) w.0, le-ltb 16 (length strides) w.1),
-  )
+  few-tested = grind (arith, ints)
 
   not-few : ¬ Few → (16 < length extents) ⊎ (16 < length strides)
-  not-few f = go (dec_lt 16 (length extents)) (dec_lt 16 (length strides))
-    where
-      go : Dec (16 < length extents) → Dec (16 < length strides) → (16 < length extents) ⊎ (16 < length strides)
-      go (yes h) d = inl h
-      go (no h) (yes k) = inr k
-      go (no h) (no k) = absurd (f (omega arith))
+  not-few f = grind (arith, ints)
 
   abbrev first : Check
   first = refuseIf (tooLong extents || tooLong strides) 1 []

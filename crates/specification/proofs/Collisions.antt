@@ -16,6 +16,7 @@ use Rattle.specification.proofs.DifferenceWalk.{Found, found-zero, zero-split}
 use Rattle.integer.proofs.PartLaws.{parts-ext}
 use Rattle.specification.specs.Axis.{Axis, Shared, extents, offsetSum}
 use Rattle.specification.specs.Search.{ActiveAxis, lengths, reach}
+use Rattle.std.proofs.lemmas.Int.{ints}
 
 -- no two vectors of one sum: sums tell vectors apart
 pub no-pair : (l : List ActiveAxis) → ¬ (EqualSums l) → SumsApart l
@@ -27,14 +28,7 @@ no-pair l f x y bx by e = go (ℕ_discrete (place (lengths l) x) (place (lengths
 
 -- two vectors of one sum carried over to other axes
 pub pair-carry : {l m : List ActiveAxis} → Carry l m → EqualSums l → EqualSums m
-pair-carry c p = record {
-  x = c.to p.x;
-  y = c.to p.y;
-  bx = c.box p.x p.bx;
-  by = c.box p.y p.by;
-  other = λ e. p.other (c.inj p.x p.y p.bx p.by e);
-  same = c.same p.x p.bx ∙ p.same ∙ sym (c.same p.y p.by);
-}
+pair-carry c p = grind (arith, ints)
 
 -- vectors of one sum over absolute strides, turned, are positions of one offset
 pub pair-shared : (l : List Axis) → EqualSums (absolute 0 l) → Shared l

@@ -1,5 +1,5 @@
 -- Where the search is due, answer and count are those of the first difference vector that completes; elsewhere the count is 0.
-use mathlib.Core.Path.{◌≡◌, refl, sym, ap, ap₂, subst, ◌∙◌}
+use mathlib.Core.Path.{◌≡◌, refl, sym, ap, subst, ◌∙◌}
 use mathlib.Core.Logic.{◌↔◌}
 use mathlib.Core.List.{List, ◌∷◌}
 use Prim.Native.Nat.{ℕ, suc, ◌<◌, ◌≤◌}
@@ -18,13 +18,12 @@ use Rattle.specification.proofs.SearchLaws.{SearchEnd, collided, completed, exha
 use Rattle.specification.proofs.PlanCases.{SearchCase, searching, enumerating, past-both, small, large, PlanCase, when-empty, when-one, when-still, by-block, comes-to-search, search-planned, judgedAs, judged-by}
 use Rattle.specification.proofs.AxisNumbers.{two-before-others}
 use Rattle.specification.proofs.VerdictTruth.{apart-perm}
+use Rattle.std.proofs.lemmas.Int.{ints}
 
 -- ---- where the search is due
 
 searching-plan : {block : List ActiveAxis} {p : Plan} {a b : ActiveAxis} {more : List ActiveAxis} → SearchCase block p → half (othersOf block) ≤ 4194304 → sortBy longer block ≡ a ∷ b ∷ more → p ≡ searched a b (othersOf block)
-searching-plan {block} (searching {a = a'} {b = b'} h e) s q = ap₂ (λ (x y : ActiveAxis). searched x y (othersOf block)) (cc) (cc)
-searching-plan (enumerating h k) s q = absurd (omega arith)
-searching-plan (past-both h k) s q = absurd (omega arith)
+searching-plan c s q = grind (arith, ints)
 
 judge-searched : (axes : List Axis) (a b : ActiveAxis) (words : ℕ) → Searches axes → SetApart axes a b → judge axes words ≡ carryOut words (searched a b (othersOf (block_of axes)))
 unfolding judge
@@ -59,10 +58,7 @@ abbrev FirstAt : ActiveAxis → ActiveAxis → List ActiveAxis → ℕ → Type 
 FirstAt a b others c = (c < half others) × CompletesAt a b others (suc c) × ((d : ℕ) → d < c → ¬ (CompletesAt a b others (suc d)))
 
 one-first : (a b : ActiveAxis) (others : List ActiveAxis) (c d : ℕ) → FirstAt a b others c → FirstAt a b others d → c ≡ d
-one-first a b others c d u v =
-    let p : ¬ (c < d) = λ h. v.2 c h u.1 in
-    let q : ¬ (d < c) = λ h. u.2 d h v.1 in
-    omega arith
+one-first a b others c d u v = grind (arith, ints)
 
 module _ (words : ℕ) {a b : ActiveAxis} {others : List ActiveAxis} (ha : 0 < a.stride) (hb : 0 < b.stride) where
   end-alone : {p : Plan} → SearchEnd a b others p → (carryOut words p ≡ judged Repeated 0) ↔ TwoCollide a b

@@ -22,6 +22,7 @@ use Rattle.specification.proofs.WriterAnswers.{Writes, writes, answered-exactly}
 use Rattle.specification.proofs.VerdictByte.{true-byte}
 use Rattle.specification.proofs.EqualRecords.{equal-exactly}
 use Rattle.specification.proofs.OutcomeLaws.{clash}
+use Rattle.std.proofs.lemmas.Int.{ints}
 
 -- ---- the lists
 
@@ -87,8 +88,7 @@ module _ (x : LayoutM) (a : Accepted x) (output scratch : List ℕ) {m : Made} (
 unchanged-of : (o : Outcome Made) (number : ℕ) (values output scratch scratch-then : List ℕ) → writeAnswer o ≡ refused number values → ScratchAfter (writeFrees o) scratch scratch-then
     → (outputAfter o output ≡ output) × (scratch-then ≡ scratch)
 unfolding writeAnswer writeFrees
-unchanged-of (done m) number values output scratch scratch-then e s = absurd (clash e)
-unchanged-of (refused number' values') number values output scratch scratch-then e s = (refl, s.1)
+unchanged-of o number values output scratch scratch-then e s = grind (arith, ints)
 
 -- where the answer is a length, a record was made and stands in the output
 record Wrote (x : LayoutM) (output scratch output-then scratch-then : List ℕ) : Type 0 where

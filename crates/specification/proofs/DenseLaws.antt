@@ -26,6 +26,7 @@ use Rattle.specification.proofs.Digits.{PositiveExtents, none, more, product-pos
 use Rattle.specification.proofs.OutcomeLaws.{clash, passed, refuse-yes, refuse-no, done_inj, refused-inj}
 use Rattle.specification.proofs.ReachLaws.{or-false}
 use Rattle.specification.proofs.TestLaws.{true-not-false, some-reverse}
+use Rattle.std.proofs.lemmas.Int.{ints}
 
 -- the product or the extent does not fit 63 bits
 abbrev Past : ℕ → ℕ → Type 0
@@ -83,9 +84,7 @@ stepped-length (held e p s) = ap suc (stepped-length s)
 
 -- the first of them is the step
 first-is : {empty : Bool} {step : ℕ} {extents : List ℕ} {strides : List ℤ} → Stepped empty step extents strides → 0 < length extents → get_or strides 0 (pos 0) ≡ pos step
-first-is ended h = absurd (omega arith)
-first-is (fitting p q s) h = refl
-first-is (held e p s) h = refl
+first-is s h = grind (arith, ints)
 
 products-from : {empty : Bool} {step : ℕ} {extents : List ℕ} {strides : List ℤ} → Stepped empty step extents strides → (i : ℕ) → i < length extents
     → ((j : ℕ) → j < i → (step * product (take (suc j) extents) ≤ mostSigned) × (get_or extents j 0 ≤ mostSigned)) → get_or strides i (pos 0) ≡ pos (step * product (take i extents))
@@ -259,8 +258,7 @@ product-reverse extents = into extents [] ∙ mul-one (product extents)
 -- what an answer is made into does not refuse
 bind-refuses : {A B : Type 0} (o : Outcome A) (f : A → B) (number : ℕ) (values : List ℕ) → (o >>= (λ a. done (f a)) ≡ refused number values) ↔ (o ≡ refused number values)
 unfolding ◌>>=◌
-bind-refuses (done a) f number values = (λ e. absurd (clash e), λ e. absurd (clash e))
-bind-refuses (refused n vs) f number values = (λ e. let w = refused-inj e in rw (w.0, w.1), λ e. let w = refused-inj e in rw (w.0, w.1))
+bind-refuses o f number values = grind (arith, ints)
 
 row-refuses : (extents : List ℕ) (number : ℕ) (values : List ℕ) → (rowMajor extents ≡ refused number values) ↔ DenseRefused extents number values
 row-refuses extents number values =

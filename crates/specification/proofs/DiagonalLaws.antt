@@ -30,6 +30,7 @@ use Rattle.specification.proofs.SearchLaws.{First, first-of}
 use Rattle.specification.proofs.Sums.{sum_of, sum-ext, sum-zero, sum-times, sum-swap, sum-those, sum_one, sum-range}
 use Rattle.specification.proofs.TestLaws.{true-not-false}
 use Rattle.specification.proofs.ViewLaws.{permuted, stretched, weigh, parts, by-axis, settled}
+use Rattle.std.proofs.lemmas.Int.{ints}
 
 -- ---- some entry of a range that passes one test passes another
 
@@ -81,18 +82,10 @@ module _ (pairs : List (ℕ × ℕ)) (n : ℕ) where
   q a = not (some (λ b. ltb b a) (class_of pairs n a))
 
   pub test-tied : (a b : ℕ) → t a b ≡ true → Tied pairs a b
-  test-tied a b e = go (tied? pairs a b) e
-    where
-      go : (d : Dec (Tied pairs a b)) → is_yes d ≡ true → Tied pairs a b
-      go (yes p) e = p
-      go (no f) e = absurd (subst T (sym e) tt)
+  test-tied a b e = grind (arith, ints)
 
   pub tied-test : (a b : ℕ) → Tied pairs a b → t a b ≡ true
-  tied-test a b p = go (tied? pairs a b)
-    where
-      go : (d : Dec (Tied pairs a b)) → is_yes d ≡ true
-      go (yes _) = refl
-      go (no f) = absurd (f p)
+  tied-test a b p = grind (arith, ints)
 
   record Root (a : ℕ) : Type 0 where
     root : ℕ

@@ -1,14 +1,13 @@
 -- The difference vectors stand in the order of the numbers whose digits they are: vector k is the one of number k, and the middle one is zero.
 use mathlib.Core.Path.{◌≡◌, refl, sym, ap, ap₂, subst, ◌∙◌}
-use mathlib.Core.Logic.{◌⊎◌, inl, inr}
 use mathlib.Core.List.{List, [], ◌∷◌}
 use Prim.Native.Nat.{ℕ, zero, suc, ◌+◌, ◌-◌, ◌*◌, ◌<◌}
 use native.Mathlib.Omega.{arith}
 use lib.IntN.{ℤ, pos, nat_abs, ◌+ℤ◌, ◌-ℤ◌, -ℤ-+ℤ_cancel}
 use lib.ListN.{length, get_or}
 use Rattle.integer.specs.Parts.{posPart, negPart}
-use Rattle.integer.proofs.PartLaws.{parts_add, parts-ext, natAbs-parts, one-part-zero}
-use Rattle.integer.proofs.SignedEquation.{natAbs-of-shifted, negPart-of-natAbs, posPart-of-natAbs, shifted}
+use Rattle.integer.proofs.PartLaws.{parts-ext}
+use Rattle.integer.proofs.SignedEquation.{natAbs-of-shifted, posPart-of-natAbs, shifted}
 use Rattle.specification.specs.Search.{ActiveAxis, lengths, widths, box, half, fromDigits, differenceAt}
 use Rattle.specification.specs.Verdict.{block_of, othersOf}
 use Rattle.specification.specs.CountClaims.{numberOfDigits, Small, NoneEmpty, DigitClaims}
@@ -19,6 +18,7 @@ use Rattle.specification.proofs.DifferenceWalk.{widths-positive, noDifference-wi
 use Rattle.specification.proofs.Sorting.{each-two-at}
 use Rattle.specification.proofs.SearchLaws.{half_is}
 use Rattle.specification.proofs.AxisNumbers.{others-ascend}
+use Rattle.std.proofs.lemmas.Int.{ints}
 
 -- the axis that is read past the end of a list
 abbrev noAxis : ActiveAxis
@@ -49,11 +49,7 @@ digits-of-digits (a ∷ r) (◌and◌ {i = i} h b) = ap₂ (λ (x : ℕ) (y : Li
 
 -- a difference d of at most m, sign aside, has the digit d + m
 digit-is : (d : ℤ) (m : ℕ) → nat_abs d < suc m → nat_abs (d +ℤ pos m) + negPart d ≡ posPart d + m
-digit-is d m h = go (one-part-zero (d +ℤ pos m))
-  where
-    go : (posPart (d +ℤ pos m) ≡ 0) ⊎ (negPart (d +ℤ pos m) ≡ 0) → nat_abs (d +ℤ pos m) + negPart d ≡ posPart d + m
-    go (inl e) = omega (arith, natAbs-parts (d +ℤ pos m), parts_add d (pos m), negPart-of-natAbs d m h)
-    go (inr e) = omega (arith, natAbs-parts (d +ℤ pos m), parts_add d (pos m))
+digit-is d m h = grind (arith, ints)
 
 difference-of-digit : (d : ℤ) (m : ℕ) → nat_abs d < suc m → pos (nat_abs (d +ℤ pos m)) -ℤ pos m ≡ d
 difference-of-digit d m h = parts-ext (omega (arith, digit-is d m h, shifted (nat_abs (d +ℤ pos m)) m))

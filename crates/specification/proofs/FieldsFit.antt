@@ -21,7 +21,7 @@ use Rattle.specification.specs.Layout.{LayoutM, Accepted, AllRanges}
 use Rattle.specification.specs.Views.{withAxes}
 use Rattle.specification.specs.Normal.{normalAxes, normalOf, overfull}
 use Rattle.specification.proofs.NormalAxes.{AllPositive, Normal, none, more, normal-positive}
-use Rattle.specification.proofs.NormalLaws.{positions-pos, normalAxes-normal, normal-of-empty, normal-of-full, normal-same}
+use Rattle.specification.proofs.NormalLaws.{positions-pos, normalAxes-normal, normal-of-empty, normal_of_full, normal-same}
 use Rattle.specification.proofs.ReachLaws.{accepted-within, spans_fit}
 use Rattle.specification.proofs.WriterLaws.{normal-accepted}
 
@@ -69,7 +69,7 @@ offset-in-range x a e =
 full-fits : (x : LayoutM) → Accepted x → is_empty x.axes ≡ false → positions x.axes ≤ mostUnsigned → FieldsFit (withAxes x (normalAxes x.axes))
 full-fits x a e m =
     let n = normalAxes-normal x.axes e in
-    let f = normal-of-full x e in
+    let f = normal_of_full x e in
     let count : positions (normalAxes x.axes) ≡ positions x.axes = ap (λ (l : LayoutM). positions l.axes) (sym f) ∙ (normal-same x).as_many in
     record {
       offset-fits = offset-in-range x a e;
@@ -83,4 +83,4 @@ fields_fit x a o = go (is_empty x.axes) refl o
     go : (t : Bool) → is_empty x.axes ≡ t → (if t then false else ltb mostUnsigned (positions x.axes)) ≡ false → FieldsFit (normalOf x)
     go true e o = subst FieldsFit (sym (normal-of-empty x e))
         (record { offset-fits = record { sfits = omega arith }; axes-fit = (record { extent-fits = omega arith; stride-fits = record { sfits = omega arith } }, tt) })
-    go false e o = subst FieldsFit (sym (normal-of-full x e)) (full-fits x a e (ltb-false mostUnsigned (positions x.axes) o))
+    go false e o = subst FieldsFit (sym (normal_of_full x e)) (full-fits x a e (ltb-false mostUnsigned (positions x.axes) o))

@@ -1,6 +1,6 @@
 -- An accepted layout of at most 2^64 - 1 positions is judged, or refused 9 for want of words: never 3 and never 8.
 use Rattle.std.specs.Prelude.{if◌then◌else◌}
-use mathlib.Core.Path.{◌≡◌, refl, sym, ap, subst, ◌∙◌}
+use mathlib.Core.Path.{◌≡◌, refl, sym, subst}
 use mathlib.Core.Bool.{Bool, true, false}
 use mathlib.Core.List.{[], ◌∷◌}
 use Prim.Native.Nat.{ℕ, ◌<◌, ◌≤◌}
@@ -15,7 +15,8 @@ use Rattle.specification.specs.Search.{total, spanSum, wordsFor}
 use Rattle.specification.specs.Decided.{sameSum?}
 use Rattle.specification.specs.Verdict.{Distinct, Repeated, Judged, Plan, answered, enumerated, carryOut, judge, words_of, wordsNeeded}
 use Rattle.specification.proofs.WriterLaws.{plan-done}
-use Rattle.specification.proofs.OutcomeLaws.{clash, refuse-yes, refuse-no, done_inj}
+use Rattle.specification.proofs.OutcomeLaws.{refuse-yes, refuse-no}
+use Rattle.std.proofs.lemmas.Int.{ints}
 
 -- judged, with the words needed freed; or the words are too few
 pub data Judging (need words : ℕ) (o : Outcome Judged) : Type 0 where
@@ -45,5 +46,4 @@ judging l a o words =
 
 -- what is judged frees the words needed
 pub freed-is-needed : {need words : ℕ} {o : Outcome Judged} {j : Judged} → Judging need words o → o ≡ done j → j.freed ≡ need
-freed-is-needed (is-judged h k q f) e = ap (λ (x : Judged). x.freed) (done_inj (sym e ∙ q)) ∙ f
-freed-is-needed (too_few h q) e = absurd (clash (sym e ∙ q))
+freed-is-needed j e = grind (arith, ints)

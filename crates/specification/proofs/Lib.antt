@@ -2,7 +2,6 @@ pub mod Computing
 pub mod StarredLines
 pub mod ComputedCases
 pub mod TestLaws
-pub mod SomeLaws
 pub mod DenseLaws
 pub mod OrderLaws
 pub mod OffsetLaws

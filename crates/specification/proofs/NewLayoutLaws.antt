@@ -1,6 +1,5 @@
 -- What each view answers with where it passes: the claims on the new layout.
 use Rattle.std.specs.Prelude.{if◌then◌else◌}
-use mathlib.Core.Bool.{Bool, true, false}
 use mathlib.Core.List.{List, [], ◌∷◌, map}
 use mathlib.Core.Path.{◌≡◌, refl, ap, ap₂, ◌∙◌}
 use Prim.Native.Nat.{ℕ, zero, suc, ◌<◌}
@@ -8,7 +7,7 @@ use native.Mathlib.Omega.{arith}
 use lib.Dec.{eqb}
 use lib.IntN.{pos}
 use lib.ListN.{length, get_or, length-map}
-use borrow.Author.Tests.{eqb-true, eq-eqb, ne_eqb}
+use borrow.Author.Tests.{eq-eqb, ne_eqb}
 use Rattle.specification.specs.Axis.{Axis, extents}
 use Rattle.specification.specs.Outcome.{Check, pass}
 use Rattle.specification.specs.Layout.{LayoutM, rank}
@@ -21,6 +20,7 @@ use Rattle.specification.proofs.PermuteAnswers.{permute-answers}
 use Rattle.specification.proofs.DiagonalAnswers.{diagonal-answers}
 use Rattle.specification.proofs.BroadcastAnswers.{broadcast-answers}
 use Rattle.specification.proofs.ClassLaws.{least-at-most, least-is-one, tied_at, at-tied, kept_at}
+use Rattle.std.proofs.lemmas.Int.{ints}
 
 -- what holds of the new layout holds of the layout after a view that passes
 of-new : (P : LayoutM → Type 0) (l new : LayoutM) (c : Check) → (unlessRefused l c new).answer ≡ pass → P new → P (unlessRefused l c new).layout
@@ -49,14 +49,7 @@ abbrev stretchedAxis : Axis → ℕ → Axis
 stretchedAxis a target = if eqb a.extent target then a else record { extent = target; stride = pos 0 }
 
 stretched-extent : (a : Axis) (target : ℕ) → (stretchedAxis a target).extent ≡ target
-stretched-extent a target = go (eqb a.extent target) (eqb-true a.extent target)
-  where
-    new : Bool → Axis
-    new t = if t then a else record { extent = target; stride = pos 0 }
-
-    go : (t : Bool) → (t ≡ true → a.extent ≡ target) → (new t).extent ≡ target
-    go true f = f refl
-    go false f = refl
+stretched-extent a target = grind (arith, ints)
 
 spread-extents : (axes : List Axis) (targets : List ℕ) → length targets ≡ length axes → extents (spread axes targets) ≡ targets
 unfolding spread

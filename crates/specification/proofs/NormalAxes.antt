@@ -9,7 +9,7 @@ use Prim.Native.Nat.{ℕ, zero, suc, ◌+◌, ◌*◌, ◌/◌, ◌%◌, ◌<◌
 use native.Mathlib.Nat.{mod-zero, mod-one, div-one, mod-add-div, mul-zero, zero-mul, mul_assoc, mul_comm, mul-le-mul, one-mul, div-div-eq-div-mul, add_comm}
 use native.Mathlib.Omega.{arith}
 use lib.Arith.{mod-mul}
-use lib.Dec.{T, T_not, eqb, eqb→eq, eqb_refl}
+use lib.Dec.{T}
 use lib.IntN.{ℤ, ◌+ℤ◌, +ℤ_idl, +ℤ_assoc}
 use Rattle.integer.specs.Multiple.{◌·◌}
 use Rattle.integer.proofs.MultipleLaws.{eqZ-no, eqZ-yes, ·-add, ·-mul, ·-zero}
@@ -17,6 +17,7 @@ use Rattle.specification.specs.Tests.{those}
 use Rattle.specification.specs.Axis.{Axis, extents, positions, product, index_at, offsetSum, sum_at}
 use Rattle.specification.specs.Normal.{continues, both, mergeInto, merge, normalAxes}
 use Rattle.specification.proofs.Digits.{PositiveExtents, product-positive}
+use Rattle.std.proofs.lemmas.Int.{ints}
 
 -- ---- what one more axis in front comes to
 
@@ -36,11 +37,7 @@ merged-either P a b r f g = go (continues a b) (eqZ-yes b.stride (a.extent · a.
 -- the normal form of a before others: a is dropped, or merged into their normal form
 normal-either : (P : List Axis → Type 0) (a : Axis) (r : List Axis) → (a.extent ≡ 1 → P (normalAxes r)) → (a.extent ≢ 1 → P (mergeInto a (normalAxes r))) → P (normalAxes (a ∷ r))
 unfolding normalAxes merge those
-normal-either P a r f g = go (eqb a.extent 1) (eqb→eq a.extent 1) (λ t e. T_not (eqb a.extent 1) t (rw e (eqb_refl 1)))
-  where
-    go : (t : Bool) → (T t → a.extent ≡ 1) → (T (not t) → a.extent ≢ 1) → P (merge (if not t then a ∷ those (λ a. not (eqb a.extent 1)) r else those (λ a. not (eqb a.extent 1)) r))
-    go true y n = f (y tt)
-    go false y n = g (n tt)
+normal-either P a r f g = grind (arith, ints)
 
 -- ---- lists that read alike
 
@@ -60,10 +57,7 @@ alike-trans p q = record { count = p.count ∙ q.count; sums = λ k. p.sums k �
 -- with one more axis in front of both
 pub alike-more : (a : Axis) {l m : List Axis} → ReadsAlike l m → ReadsAlike (a ∷ l) (a ∷ m)
 unfolding product index_at offsetSum
-alike-more a p = record {
-  count = ap (λ (x : ℕ). a.extent * x) p.count;
-  sums = λ k. ap (λ (x : ℤ). (k % a.extent) · a.stride +ℤ x) (p.sums (k / a.extent));
-}
+alike-more a p = grind (arith, ints)
 
 -- an axis of extent 1 dropped
 pub alike-dropped : (a : Axis) (r : List Axis) → a.extent ≡ 1 → ReadsAlike r (a ∷ r)

@@ -1,6 +1,6 @@
 -- The normal form of a layout keeps the offsets, is canonical, and is where any order of dropping and merging ends: what NormalAxes, NormalCanonical and
 -- NormalOrder prove of axes with no extent 0, for every layout. An empty layout has no position, and one normal form.
-use mathlib.Core.Path.{◌≡◌, refl, sym, ap, ap₂, subst, ◌∙◌}
+use mathlib.Core.Path.{◌≡◌, refl, sym, ap, subst, ◌∙◌}
 use mathlib.Core.Bool.{Bool, true, false, ◌||◌}
 use mathlib.Core.Logic.{◌↔◌}
 use mathlib.Core.List.{List, [], ◌∷◌}
@@ -18,6 +18,7 @@ use Rattle.specification.specs.NormalClaims.{SameOffsets, SameForm, NormalClaims
 use Rattle.specification.proofs.NormalAxes.{AllPositive, none, more, Normal, normal-alike, normal-positive, normal-is-normal}
 use Rattle.specification.proofs.NormalCanonical.{sum-at-zero}
 use Rattle.specification.proofs.NormalOrder.{normal-canonical, normal-of-normal, any_order}
+use Rattle.std.proofs.lemmas.Int.{ints}
 pub use Rattle.specification.proofs.NormalAxes.{positions-pos}
 
 -- ---- empty or not
@@ -54,9 +55,9 @@ unfolding normalOf
 normal-of-empty l e = rw e
 
 -- of one that is not empty
-pub normal-of-full : (l : LayoutM) → is_empty l.axes ≡ false → normalOf l ≡ withAxes l (normalAxes l.axes)
+pub normal_of_full : (l : LayoutM) → is_empty l.axes ≡ false → normalOf l ≡ withAxes l (normalAxes l.axes)
 unfolding normalOf
-normal-of-full l e = rw e
+normal_of_full l e = rw e
 
 -- the merged axes of a layout that is not empty are normal
 pub normalAxes-normal : (l : List Axis) → is_empty l ≡ false → Normal (normalAxes l)
@@ -78,10 +79,7 @@ same-trans s t = record { as_many = s.as_many ∙ t.as_many; alike = λ k h. s.a
 
 -- equal but for the buffer length: the same offsets
 same-form : {x y : LayoutM} → SameForm x y → SameOffsets x y
-same-form f = record {
-  as_many = ap positions f.same-axes;
-  alike = λ k h. ap₂ (λ (o : ℤ) (l : List Axis). o +ℤ sum_at l k) f.same-offset f.same-axes;
-}
+same-form f = grind (arith, ints)
 
 -- the normal form has the same offsets
 pub normal-same : (l : LayoutM) → SameOffsets (normalOf l) l
@@ -90,7 +88,7 @@ normal-same l = go (is_empty l.axes) refl
   where
     go : (t : Bool) → is_empty l.axes ≡ t → SameOffsets (normalOf l) l
     go true e = rw (normal-of-empty l e) (record { as_many = sym (empty-none l.axes e); alike = λ k h. absurd (omega arith) })
-    go false e = let n = normal-alike l.axes in rw (normal-of-full l e) (record { as_many = n.count; alike = λ k h. ap (λ (z : ℤ). l.offset +ℤ z) (n.sums k) })
+    go false e = let n = normal-alike l.axes in rw (normal_of_full l e) (record { as_many = n.count; alike = λ k h. ap (λ (z : ℤ). l.offset +ℤ z) (n.sums k) })
 
 -- ---- canonical
 
@@ -115,7 +113,7 @@ canonical x y s = go (is_empty x.axes) (is_empty y.axes) refl refl
     go true true e f = rw (normal-of-empty x e, normal-of-empty y f) (record { same-offset = refl; same-axes = refl })
     go true false e f = absurd (clash x.axes y.axes e f s.as_many)
     go false true e f = absurd (clash y.axes x.axes f e (sym s.as_many))
-    go false false e f = let c = canonical-full x y (full-pos x.axes e) (full-pos y.axes f) s in rw (normal-of-full x e, normal-of-full y f) (record { same-offset = c.0; same-axes = c.1 })
+    go false false e f = let c = canonical-full x y (full-pos x.axes e) (full-pos y.axes f) s in rw (normal_of_full x e, normal_of_full y f) (record { same-offset = c.0; same-axes = c.1 })
 
 -- and unequal offsets have unequal ones
 pub canonical-iff : (x y : LayoutM) → SameForm (normalOf x) (normalOf y) ↔ SameOffsets x y
@@ -129,7 +127,7 @@ buffer-stays l = go (is_empty l.axes) refl
   where
     go : (t : Bool) → is_empty l.axes ≡ t → (normalOf l).buffer ≡ l.buffer
     go true e = ap (λ (x : LayoutM). x.buffer) (normal-of-empty l e)
-    go false e = ap (λ (x : LayoutM). x.buffer) (normal-of-full l e)
+    go false e = ap (λ (x : LayoutM). x.buffer) (normal_of_full l e)
 
 -- all that is claimed of the normal form
 pub normal-claims : NormalClaims

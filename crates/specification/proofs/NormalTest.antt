@@ -22,7 +22,7 @@ use Rattle.specification.specs.Normal.{continues, normalAxes, overfull}
 use Rattle.specification.specs.Record.{isMerged, isEmptyForm, isNormal}
 use Rattle.specification.specs.RecordClaims.{NormalRecord}
 use Rattle.specification.proofs.NormalAxes.{Normal, none, more, normal-positive}
-use Rattle.specification.proofs.NormalLaws.{emptyAxes, empty-none, normalAxes-normal, normalAxes-own, normal-of-empty, normal-of-full}
+use Rattle.specification.proofs.NormalLaws.{emptyAxes, empty-none, normalAxes-normal, normalAxes-own, normal-of-empty, normal_of_full}
 use Rattle.specification.proofs.ReachLaws.{reach_of, and-true}
 use Rattle.specification.proofs.TestLaws.{or-true}
 use Rattle.specification.proofs.FieldsFit.{not-empty}
@@ -98,7 +98,7 @@ merged-record l e =
     let r = and-true (isMerged l.axes) (not (overfull l.axes)) q.0 in
     let m = merged-normal l.axes r.0 in
     let full = not-empty (normal-positive m) in
-    let n = normal-of-full l full in
+    let n = normal_of_full l full in
     record {
       normal = record { same-offset = ap (λ (x : LayoutM). x.offset) n; same-axes = ap (λ (x : LayoutM). x.axes) n ∙ normalAxes-own m };
       few = not-true (overfull l.axes) r.1;
@@ -111,7 +111,7 @@ merged-record l e =
 full-passes : (l : LayoutM) → is_empty l.axes ≡ false → NormalRecord l → isNormal l ≡ true
 unfolding isNormal
 full-passes l e r =
-    let own : normalAxes l.axes ≡ l.axes = ap (λ (x : LayoutM). x.axes) (sym (normal-of-full l e)) ∙ r.normal.same-axes in
+    let own : normalAxes l.axes ≡ l.axes = ap (λ (x : LayoutM). x.axes) (sym (normal_of_full l e)) ∙ r.normal.same-axes in
     let m : Normal l.axes = subst Normal own (normalAxes-normal l.axes e) in
     let w = reach_of l e in
     let low : pos 0 ≤ℤ lowest l = subst (λ (z : ℤ). pos 0 ≤ℤ z) w.low (r.within w.low-at w.low-is).0 in

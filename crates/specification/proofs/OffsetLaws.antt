@@ -7,7 +7,7 @@ use mathlib.Core.Logic.{◌↔◌}
 use Prim.Native.Nat.{ℕ, zero, suc, ◌+◌, ◌-◌, ◌<◌, ◌≤◌}
 use native.Mathlib.Nat.{add-zero, mul-le-mul_right}
 use native.Mathlib.Omega.{arith}
-use borrow.Author.Tests.{leb-false, lt-leb, ltb-false, le-ltb, eqb-true, not-false}
+use borrow.Author.Tests.{leb-false, lt-leb, eqb-true}
 use lib.Dec.{eqb, ltb, leb}
 use lib.IntN.{ℤ, pos, ◌+ℤ◌, +ℤ_assoc, +ℤ_idr}
 use lib.ListN.{length, take, get_or}
@@ -16,7 +16,6 @@ use mir.Val.{SFits}
 use Rattle.integer.specs.Multiple.{◌·◌}
 use Rattle.integer.specs.Parts.{posPart, negPart}
 use Rattle.integer.specs.Range.{fits, mostSigned}
-use Rattle.integer.proofs.CheckedLaws.{fits-of-sfits, sfits-of-fits}
 use Rattle.integer.proofs.MultipleLaws.{posPart-·, negPart-·}
 use Rattle.integer.proofs.PartLaws.{parts_add, parts-minus, parts-fit}
 use Rattle.specification.specs.Axis.{Axis, offsetSum, is_empty, upward, downward}
@@ -28,7 +27,8 @@ use Rattle.specification.specs.BesideClaims.{sumBefore, InRange, GoodIndex, Offs
 use Rattle.specification.proofs.AnswerRules.{Answers, Only, only, InOrder, sooner, later, FirstFault, first, restated, test-answers, equal-tested, then-answers, then-assoc, done-after, in_turn, in-turn-ext, turn-answers}
 use Rattle.specification.proofs.OutcomeLaws.{refuse-yes}
 use Rattle.specification.proofs.ReachClaimed.{HandedRefused, handed-answers}
-use Rattle.specification.proofs.ReachLaws.{accepted-within, or-false}
+use Rattle.specification.proofs.ReachLaws.{accepted-within}
+use Rattle.std.proofs.lemmas.Int.{ints}
 
 -- ---- one axis after another
 
@@ -68,22 +68,7 @@ module _ (l : LayoutM) (index : List ℕ) (i : ℕ) where
   Below = get_or index i 0 < (axisAt l.axes i).extent
 
   range-tested : (outOfSum (get_or index i 0) (get_or index i 0 · (axisAt l.axes i).stride) (sumBefore l index (suc i)) ≡ false) ↔ InRange l index i
-  range-tested = (
-    λ e.
-        let w = or-false (ltb mostSigned x || not (fits p)) (not (fits s)) e in
-        let v = or-false (ltb mostSigned x) (not (fits p)) w.0 in
-        record { index-fits = ltb-false mostSigned x v.0; product-fits = sfits-of-fits p (not-false (fits p) v.1); sum_fits = sfits-of-fits s (not-false (fits s) w.1) },
-    λ r. rw (le-ltb mostSigned x r.index-fits, fits-of-sfits p r.product-fits, fits-of-sfits s r.sum_fits),
-  )
-    where
-      x : ℕ
-      x = get_or index i 0
-
-      p : ℤ
-      p = x · (axisAt l.axes i).stride
-
-      s : ℤ
-      s = sumBefore l index (suc i)
+  range-tested = grind (arith, ints)
 
   abbrev Bad : ℕ → List ℕ → Type 0
   Bad = InOrder Below (Only 7 (i ∷ []) Below) (Only 3 [] (InRange l index i))

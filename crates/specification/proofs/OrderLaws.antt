@@ -7,7 +7,7 @@ use mathlib.Core.Logic.{◌≢◌, ◌↔◌}
 use Prim.Native.Nat.{ℕ, zero, suc, ◌+◌, ◌<◌, ◌≤◌}
 use native.Mathlib.Decide.{dec_lt}
 use native.Mathlib.Omega.{arith}
-use borrow.Author.Tests.{ltb-true, ltb-false, lt-ltb, le-ltb, eq-eqb}
+use borrow.Author.Tests.{ltb-false, lt-ltb, le-ltb, eq-eqb}
 use lib.Dec.{T, eqb, ltb}
 use lib.IntN.{ℤ, pos, nat_abs}
 use lib.ListN.{length, get_or, length-map}
@@ -19,8 +19,8 @@ use Rattle.specification.specs.Layout.{tooLong}
 use Rattle.specification.specs.Beside.{orderAmong, indexOrder, orderAfter}
 use Rattle.specification.specs.BesideClaims.{OrderRefused, too_many, wrong-length, OrderClaims}
 use Rattle.specification.proofs.AnswerRules.{Answers, Only, only, InOrder, sooner, later, restated, test-answers, equal-tested, then-answers, then-assoc, done-after}
-use Rattle.specification.proofs.ReachLaws.{and-true}
 use Rattle.specification.proofs.TestLaws.{those-no-more, those-fewer, those-all, those-none}
+use Rattle.std.proofs.lemmas.Int.{ints}
 
 -- the strides that the number of s counts
 abbrev below : ℤ → ℤ → Bool
@@ -41,18 +41,11 @@ order-of-nonzero strides s n = rw (ne-eqZ s (pos 0) n)
 
 -- what is below a stride is below every stride that is no smaller
 below-mono : (s u : ℤ) → nat_abs s ≤ nat_abs u → (t : ℤ) → below s t ≡ true → below u t ≡ true
-below-mono s u h t e =
-    let w = and-true (not (eqZ t (pos 0))) (ltb (nat_abs t) (nat_abs s)) e in
-    let k : nat_abs t < nat_abs s = ltb-true (nat_abs t) (nat_abs s) w.1 in
-    rw (w.0, lt-ltb (nat_abs t) (nat_abs u) (omega arith))
+below-mono s u h t e = grind (arith, ints)
 
 -- no stride is below itself
 below_self : (s : ℤ) → below s s ≡ false
-below_self s = go (not (eqZ s (pos 0)))
-  where
-    go : (t : Bool) → (t && ltb (nat_abs s) (nat_abs s)) ≡ false
-    go true = le-ltb (nat_abs s) (nat_abs s) (omega arith)
-    go false = refl
+below_self s = grind (arith, ints)
 
 -- numbers rise exactly with the absolute value
 rises : (strides : List ℤ) (i j : ℕ) → i < length strides → j < length strides → get_or strides i (pos 0) ≢ pos 0 → get_or strides j (pos 0) ≢ pos 0

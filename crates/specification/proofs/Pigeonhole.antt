@@ -6,6 +6,7 @@ use Prim.Native.Nat.{ℕ, zero, suc, ◌<◌}
 use native.Mathlib.Decide.{ℕ_discrete}
 use Rattle.integer.proofs.Decide.{find}
 use native.Mathlib.Omega.{arith}
+use Rattle.std.proofs.lemmas.Int.{ints}
 
 -- two arguments below n that share a value
 pub record Clash (f : ℕ → ℕ) (n : ℕ) : Type 0 where
@@ -23,16 +24,12 @@ moved v m x (no p) = x
 -- values below m + 1 other than v come below m
 moved-lt : (v m x : ℕ) (d : Dec (x ≡ m)) → v < suc m → x < suc m → x ≢ v → moved v m x d < m
 unfolding moved
-moved-lt v m x (yes p) hv hx ne = omega arith
-moved-lt v m x (no p) hv hx ne = omega arith
+moved-lt v m x d hv hx ne = grind (arith, ints)
 
 -- and stay different
 moved-inj : (v m x y : ℕ) (d : Dec (x ≡ m)) (e : Dec (y ≡ m)) → x ≢ v → y ≢ v → moved v m x d ≡ moved v m y e → x ≡ y
 unfolding moved
-moved-inj v m x y (yes p) (yes q) hx hy h = omega arith
-moved-inj v m x y (yes p) (no q) hx hy h = omega arith
-moved-inj v m x y (no p) (yes q) hx hy h = omega arith
-moved-inj v m x y (no p) (no q) hx hy h = h
+moved-inj v m x y d e hx hy h = grind (arith, ints)
 
 -- n arguments with values below m
 pub pigeonhole : (m n : ℕ) (f : ℕ → ℕ) → ((i : ℕ) → i < n → f i < m) → m < n → Clash f n

@@ -20,6 +20,7 @@ use Rattle.specification.specs.VerdictClaims.{ComesToSearch}
 use Rattle.specification.proofs.OutcomeLaws.{passed, refuse-no, bound, bind_done, done_inj}
 use Rattle.specification.proofs.OnePosition.{one_block}
 use Rattle.specification.proofs.Sorting.{perm-length, sort-perm}
+use Rattle.std.proofs.lemmas.Int.{ints}
 
 -- ---- three axes or more: steps 5 and 6
 
@@ -89,7 +90,7 @@ pub record ToBlock (axes : List Axis) : Type 0 where
   pub no-still-axis : some still axes ≡ false
   pub not_three : outOfRange axes ≡ false
 
--- in 01's order: empty, 8, one position, an active stride 0, 3, the block
+-- in the rules' order: empty, 8, one position, an active stride 0, 3, the block
 pub data PlanCase (axes : List Axis) : Outcome Plan → Type 0 where
   when-empty : is_empty axes ≡ true → PlanCase axes (done (answered Distinct 0))
   when-overfull : is_empty axes ≡ false → overfull axes ≡ true → PlanCase axes (refused 8 [])
@@ -142,11 +143,7 @@ contrary p q = absurd (false≢true (sym p ∙ q))
 
 -- a block of three axes or more that is not crowded is not small
 not-small : {block : List ActiveAxis} {v : Verdict} → SmallCase block v → 3 ≤ length block → total block - 1 ≤ spanSum block → ⊥
-not-small no_block n h = omega arith
-not-small one-axis n h = omega arith
-not-small (crowded k) n h = omega arith
-not-small (two-apart e) n h = omega arith
-not-small (two-meet e) n h = omega arith
+not-small c n h = grind (arith, ints)
 
 -- where the block is large, a plan is one of steps 5 and 6
 pub plan-of-large : {axes : List Axis} {p : Plan} → PlanCase axes (done p) → is_empty axes ≡ false → some still axes ≡ false
@@ -159,14 +156,7 @@ plan-of-large (by-block t (large m k c)) e s n h = c
 
 -- what holds of such a block, under the names of the claims
 pub comes-to-search : {axes : List Axis} → ToBlock axes → 3 ≤ length (block_of axes) → total (block_of axes) - 1 ≤ spanSum (block_of axes) → ComesToSearch axes
-comes-to-search t n h = record {
-  no-zero-extent = t.no-zero-extent;
-  not_eight = t.not_eight;
-  no-still-axis = t.no-still-axis;
-  not_three = t.not_three;
-  three-or-more = n;
-  not-crowded = h;
-}
+comes-to-search t n h = grind (arith, ints)
 
 -- and where nothing is refused there is such a plan
 pub search-planned : (axes : List Axis) → ComesToSearch axes → (p : Plan) × (plan_of axes ≡ done p) × SearchCase (block_of axes) p

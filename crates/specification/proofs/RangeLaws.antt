@@ -7,15 +7,13 @@ use Prim.Native.Nat.{ℕ, zero, suc, ◌*◌, ◌^◌, ◌<◌, ◌≤◌}
 use native.Mathlib.Nat.{le-mul_of_pos_right, mul-le-mul_right}
 use native.Mathlib.Omega.{arith}
 use lib.Dec.{eqb, ltb}
-use lib.IntN.{ℤ, pos, negsuc}
+use lib.IntN.{ℤ, pos}
 use lib.ListN.{length, get_or}
 use lib.Seq.{take-length}
-use lib.Signed.{le_z}
 use borrow.Author.Tests.{ltb-false}
 use mir.Syntax.{w64}
 use mir.Val.{SFits}
-use Rattle.integer.specs.Range.{fits, mostSigned, mostUnsigned}
-use Rattle.integer.proofs.PartLaws.{leZ-true, parts-fit}
+use Rattle.integer.specs.Range.{fits, mostUnsigned}
 use Rattle.specification.specs.Tests.{those}
 use Rattle.specification.specs.Axis.{Axis, positions, product, is_empty}
 use Rattle.specification.specs.Layout.{LayoutM, rank, AxisRanges, AllRanges, Ranges, handed}
@@ -26,15 +24,13 @@ use Rattle.specification.specs.ViewRules.{SumsFit}
 use Rattle.specification.specs.ViewClaims.{TargetsFit, RangeClaims}
 use Rattle.specification.proofs.NormalAxes.{AllPositive, none, more, normal-is-normal, normal-positive, positions-of-normal}
 use Rattle.specification.proofs.NormalLaws.{full-pos, positions-pos}
-use Rattle.specification.proofs.ReachLaws.{and-true}
 use Rattle.specification.proofs.OutcomeLaws.{passed-check}
 use Rattle.specification.proofs.AcceptedLaws.{old-or-new}
 use Rattle.specification.proofs.DiagonalAnswers.{sums-answers}
+use Rattle.std.proofs.lemmas.Int.{ints}
 
 fits_signed : (z : ℤ) → fits z ≡ true → SFits w64 z
-fits_signed z e =
-    let w = and-true (le_z (negsuc mostSigned) z) (le_z z (pos mostSigned)) e in
-    parts-fit (omega (arith, leZ-true z (pos mostSigned) w.1)) (omega (arith, leZ-true (negsuc mostSigned) z w.0))
+fits_signed z e = grind (arith, ints)
 
 -- an axis that stands still
 still-ranges : (extent : ℕ) → extent ≤ mostUnsigned → AxisRanges (record { extent = extent; stride = pos 0 })

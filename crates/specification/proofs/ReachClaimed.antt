@@ -5,12 +5,11 @@ use mathlib.Core.List.{List, [], ◌∷◌}
 use mathlib.Core.Logic.{◌⊎◌, inl, inr, ◌↔◌}
 use mathlib.Core.Path.{◌≡◌, refl}
 use Prim.Native.Nat.{ℕ, ◌+◌, ◌<◌, ◌≤◌}
-use native.Mathlib.Decide.{dec_lt}
 use native.Mathlib.Omega.{arith}
 use lib.IntN.{pos}
 use lib.ListN.{length}
 use lib.Signed.{le_z, lt_z}
-use borrow.Author.Tests.{ltb-false, le-ltb, not-false}
+use borrow.Author.Tests.{not-false}
 use Rattle.integer.specs.Range.{fits, mostSigned}
 use Rattle.integer.proofs.PartLaws.{le-ltZ, lt-leZ}
 use Rattle.specification.specs.Tests.{some}
@@ -20,9 +19,9 @@ use Rattle.specification.specs.Layout.{LayoutM, rank, Accepted, lowest, highest,
 use Rattle.specification.specs.CheckIn.{tooWide, bounds}
 use Rattle.specification.specs.ReachClaims.{ReachClaims}
 use Rattle.specification.proofs.NormalLaws.{full-pos, positions-pos, empty-none}
-use Rattle.specification.proofs.ReachLaws.{reach_of, accepted-within, tested-yes, tested-no, or-false, Within, bounds-within, bounds-reach, spans_fit, fits-small}
-use Rattle.specification.proofs.OutcomeLaws.{clash, refused-inj}
+use Rattle.specification.proofs.ReachLaws.{reach_of, accepted-within, tested-yes, tested-no, Within, bounds-within, bounds-reach, spans_fit, fits-small}
 use Rattle.specification.proofs.AnswerRules.{Answers, Only, only, InOrder, sooner, later, restated, test-answers, then-answers}
+use Rattle.std.proofs.lemmas.Int.{ints}
 
 -- a layout with no position is empty
 none-empty : (axes : List Axis) → positions axes ≡ 0 → is_empty axes ≡ true
@@ -45,21 +44,13 @@ module _ (l : LayoutM) (list : List ℕ) where
 
   -- the tests of refusals 1 and 3
   few-tested : ((tooLong l.axes || tooLong list) ≡ false) ↔ Few
-  few-tested = (
-    λ e. let w = or-false (tooLong l.axes) (tooLong list) e in (ltb-false 16 (rank l) w.0, ltb-false 16 (length list) w.1),
-    λ w. rw (le-ltb 16 (rank l) w.0, le-ltb 16 (length list) w.1),
-  )
+  few-tested = grind (arith, ints)
 
   reach-tested : rank l ≤ 16 → (not (inReach l) ≡ false) ↔ Accepted l
   reach-tested n = (λ e. tested-no l n (not-false (inReach l) e), λ a. rw (tested-yes l a))
 
   not-few : ¬ Few → (16 < rank l) ⊎ (16 < length list)
-  not-few f = go (dec_lt 16 (rank l)) (dec_lt 16 (length list))
-    where
-      go : Dec (16 < rank l) → Dec (16 < length list) → (16 < rank l) ⊎ (16 < length list)
-      go (yes h) d = inl h
-      go (no h) (yes k) = inr k
-      go (no h) (no k) = absurd (f (omega arith))
+  not-few f = grind (arith, ints)
 
   pub handed-answers : Answers (handed l list) (Accepted l × (length list ≤ 16)) (HandedRefused l list)
   unfolding handed
@@ -123,12 +114,7 @@ module _ (l : LayoutM) where
 
   only-three : {n : ℕ} {vs : List ℕ} → bounds l ≡ refused n vs → (3 ≡ n) × ([] ≡ vs)
   unfolding bounds fiveCases refuseIf
-  only-three {n} {vs} e = go (is_empty l.axes) fiveCases e
-    where
-      go : (t u : Bool) → (if t then pass else refuseIf u 3 []) ≡ refused n vs → (3 ≡ n) × ([] ≡ vs)
-      go true u e = absurd (clash e)
-      go false true e = refused-inj e
-      go false false e = absurd (clash e)
+  only-three e = grind (arith, ints)
 
 -- check-in has one refusal
 pub data BoundsRefused (l : LayoutM) : ℕ → List ℕ → Type 0 where

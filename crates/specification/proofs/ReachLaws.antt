@@ -1,19 +1,18 @@
 -- The lowest and the highest offset are offsets of positions, none lies outside, and the tests on them say what is accepted.
 use Rattle.std.specs.Prelude.{if◌then◌else◌}
-use mathlib.Core.Path.{◌≡◌, refl, sym, ap, subst, ◌∙◌}
+use mathlib.Core.Path.{◌≡◌, refl, ap, ◌∙◌}
 use mathlib.Core.Bool.{Bool, true, false, not, ◌&&◌, ◌||◌}
 use mathlib.Core.List.{List, [], ◌∷◌}
 use mathlib.Core.Logic.{◌⊎◌, inl, inr}
 use Prim.Native.Nat.{ℕ, ◌+◌, ◌-◌, ◌<◌, ◌≤◌}
 use native.Mathlib.Nat.{mul-le-mul_right}
 use native.Mathlib.Omega.{arith}
-use lib.Dec.{T}
 use lib.IntN.{ℤ, pos, negsuc, ◌+ℤ◌}
 use lib.Signed.{le_z, lt_z}
 use Rattle.integer.specs.Multiple.{◌·◌}
 use Rattle.integer.specs.Parts.{posPart, negPart}
 use Rattle.integer.proofs.MultipleLaws.{posPart-·, negPart-·}
-use Rattle.integer.proofs.PartLaws.{parts_add, parts-minus, parts-ext, leZ-true, leZ-false, le-leZ, ltZ-true, ltZ-false, lt-ltZ, le_parts, parts-le, lt-parts, parts-lt}
+use Rattle.integer.proofs.PartLaws.{parts_add, parts-minus, parts-ext, leZ-false, le-leZ, ltZ-false, lt-ltZ, le_parts, parts-le, lt-parts, parts-lt}
 use Rattle.integer.specs.Range.{fits, mostSigned}
 use Rattle.specification.specs.Tests.{some}
 use Rattle.specification.specs.Axis.{Axis, extents, offsetSum, sum_at, is_empty, span, upward, downward}
@@ -24,7 +23,7 @@ use Rattle.specification.specs.ReachClaims.{Reach}
 use Rattle.specification.proofs.NormalAxes.{AllPositive}
 use Rattle.specification.proofs.Positions.{IndexVector, empty, ◌and◌, place, indices-within, indices-place, place-lt}
 use Rattle.specification.proofs.NormalLaws.{full-pos, empty-none}
-use Rattle.specification.proofs.OutcomeLaws.{clash}
+use Rattle.std.proofs.lemmas.Int.{ints}
 
 -- ---- the two ends
 
@@ -53,12 +52,10 @@ one-high n (pos s) = simp (posPart-·, negPart-·) (omega arith)
 one-high n (negsuc s) = simp (posPart-·, negPart-·) (omega arith)
 
 low-lt : (n : ℕ) (s : ℤ) → 0 < n → low_of n s < n
-low-lt n (pos s) h = h
-low-lt n (negsuc s) h = omega arith
+low-lt n s h = grind (arith, ints)
 
 high_lt : (n : ℕ) (s : ℤ) → 0 < n → high_of n s < n
-high_lt n (pos s) h = omega arith
-high_lt n (negsuc s) h = h
+high_lt n s h = grind (arith, ints)
 
 low-box : {l : List Axis} → AllPositive l → IndexVector (extents l) (lowIndex l)
 low-box AllPositive.none = empty
@@ -131,14 +128,10 @@ pub record Within (l : LayoutM) : Type 0 where
   pub w-in : posPart (highest l) < l.buffer + negPart (highest l)
 
 pub and-true : (x y : Bool) → (x && y) ≡ true → (x ≡ true) × (y ≡ true)
-and-true true y e = (refl, e)
-and-true false y e = absurd (subst T (sym e) tt)
+and-true x y e = grind (arith, ints)
 
 pub tests : (l : LayoutM) → (le_z (pos 0) (lowest l) && le_z (highest l) (pos mostSigned) && lt_z (highest l) (pos l.buffer)) ≡ true → Within l
-tests l e =
-    let w = and-true (le_z (pos 0) (lowest l) && le_z (highest l) (pos mostSigned)) (lt_z (highest l) (pos l.buffer)) e in
-    let v = and-true (le_z (pos 0) (lowest l)) (le_z (highest l) (pos mostSigned)) w.0 in
-    record { w-low = omega (arith, leZ-true (pos 0) (lowest l) v.0); w-most = omega (arith, leZ-true (highest l) (pos mostSigned) v.1); w-in = omega (arith, ltZ-true (highest l) (pos l.buffer) w.1) }
+tests l e = grind (arith, ints)
 
 pub untests : (l : LayoutM) → Within l → (le_z (pos 0) (lowest l) && le_z (highest l) (pos mostSigned) && lt_z (highest l) (pos l.buffer)) ≡ true
 untests l w = rw (le-leZ (pos 0) (lowest l) (omega (arith, w.w-low)), le-leZ (highest l) (pos mostSigned) (omega (arith, w.w-most)), lt-ltZ (highest l) (pos l.buffer) (omega (arith, w.w-in)))
@@ -189,13 +182,11 @@ tested-no l n q = go (is_empty l.axes) refl q
     go false e q = within-accepted l e n (tests l q)
 
 pub or-false : (x y : Bool) → (x || y) ≡ false → (x ≡ false) × (y ≡ false)
-or-false true y e = absurd (subst T e tt)
-or-false false y e = (refl, e)
+or-false x y e = grind (arith, ints)
 
 pass-false : (t : Bool) → refuseIf t 3 [] ≡ pass → t ≡ false
 unfolding refuseIf
-pass-false true e = absurd (clash (sym e))
-pass-false false e = refl
+pass-false t e = grind (arith, ints)
 
 -- check-in lets pass an empty layout, and one with no extent too wide whose ends are within
 pub bounds-within : (l : LayoutM) → bounds l ≡ pass → (is_empty l.axes ≡ true) ⊎ ((some tooWide l.axes ≡ false) × Within l)

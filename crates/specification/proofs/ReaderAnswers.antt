@@ -16,7 +16,7 @@ use Rattle.specification.specs.RecordClaims.{WholeRecord, ReadRefused, no_record
 use Rattle.specification.proofs.ReachLaws.{and-true}
 use Rattle.specification.proofs.NormalTest.{normal-tested}
 use Rattle.specification.proofs.JudgeLaws.{Judging, is-judged, too_few, judging}
-use Rattle.specification.proofs.ReaderLaws.{fields-tested, fields-pass, whole-accepted, buffer-read}
+use Rattle.specification.proofs.ReaderLaws.{fields_tested, fields-pass, whole-accepted, buffer-read}
 use Rattle.specification.proofs.OutcomeLaws.{clash, false-unless, refuse-yes, refuse-no, bind_done, bind-refused}
 
 -- ---- a whole record or not
@@ -26,7 +26,7 @@ wholeTest bytes = fieldsRight bytes && isNormal (layoutFrom bytes)
 
 whole-tested : (bytes : List ℕ) → (wholeTest bytes ≡ true) ↔ WholeRecord bytes
 whole-tested bytes = (
-  λ e. let p = and-true (fieldsRight bytes) (isNormal (layoutFrom bytes)) e in record { fields = fields-tested bytes p.0; form = (normal-tested (layoutFrom bytes)).0 p.1 },
+  λ e. let p = and-true (fieldsRight bytes) (isNormal (layoutFrom bytes)) e in record { fields = fields_tested bytes p.0; form = (normal-tested (layoutFrom bytes)).0 p.1 },
   λ w. rw (fields-pass bytes w.fields, (normal-tested (layoutFrom bytes)).1 w.form),
 )
 
@@ -135,7 +135,7 @@ module _ (bytes : List ℕ) (words : ℕ) where
 
 pub reader-claims : ReaderClaims
 reader-claims = record {
-  fields_told = λ bytes. (fields-tested bytes, fields-pass bytes);
+  fields_told = λ bytes. (fields_tested bytes, fields-pass bytes);
   normal-tested = normal-tested;
   refuses = λ bytes words number values. (refuses-forth bytes words, refuses-back bytes words);
   buffer-read = buffer-read;

@@ -6,7 +6,7 @@ use mathlib.Core.Logic.{◌↔◌}
 use Prim.Native.Nat.{ℕ, zero, suc, ◌+◌, ◌<◌, ◌≤◌}
 use native.Mathlib.Omega.{arith}
 use lib.Dec.{eqb}
-use lib.IntN.{ℤ, pos, negsuc, ◌+ℤ◌}
+use lib.IntN.{ℤ, pos, ◌+ℤ◌}
 use lib.ListN.{length, get_or}
 use lib.Signed.{◌≤ℤ◌, ◌<ℤ◌}
 use borrow.Author.Tests.{eqb-true, not-false}
@@ -25,6 +25,7 @@ use Rattle.specification.proofs.ReachLaws.{reach_of}
 use Rattle.specification.proofs.TestsTold.{and-holds, leb-holds, eqb-holds}
 use Rattle.specification.proofs.AcceptedLaws.{views-keep, ends-keep, checked-in}
 use Rattle.specification.proofs.OutcomeLaws.{passed, bound, done_inj}
+use Rattle.std.proofs.lemmas.Int.{ints}
 
 -- ---- the fields
 
@@ -35,8 +36,8 @@ unfolding fieldsRight
 each-field bytes =
     and-holds _ _ (and-holds _ _ (and-holds _ _ (and-holds _ _ (and-holds _ _ (and-holds _ _ (leb-holds _ _) (eqb-holds _ _)) (leb-holds _ _)) (leb-holds _ _)) (leb-holds _ _)) (eqb-holds _ _)) (leb-holds _ _)
 
-pub fields-tested : (bytes : List ℕ) → fieldsRight bytes ≡ true → Fields bytes
-fields-tested bytes e = let f = (each-field bytes).0 e in record {
+pub fields_tested : (bytes : List ℕ) → fieldsRight bytes ≡ true → Fields bytes
+fields_tested bytes e = let f = (each-field bytes).0 e in record {
   front-there = f.0.0.0.0.0.0;
   version-is = f.0.0.0.0.0.1;
   verdict-from = f.0.0.0.0.1;
@@ -67,7 +68,7 @@ reads bytes words w e =
     let b = bound q.1 in
     let s = passed (not (eqb (verdictByte b.what.answer) (get_or bytes 3 0))) 11 [] b.after in
     record {
-      whole = record { fields = fields-tested bytes (not-false (fieldsRight bytes) p.0); form = (normal-tested (layoutFrom bytes)).0 (not-false (isNormal (layoutFrom bytes)) q.0) };
+      whole = record { fields = fields_tested bytes (not-false (fieldsRight bytes) p.0); form = (normal-tested (layoutFrom bytes)).0 (not-false (isNormal (layoutFrom bytes)) q.0) };
       j = b.what;
       judged = b.was;
       true-byte = eqb-true (verdictByte b.what.answer) (get_or bytes 3 0) (not-false (eqb (verdictByte b.what.answer) (get_or bytes 3 0)) s.0);
@@ -90,8 +91,7 @@ rank-told bytes = length-axesFrom bytes 13 (get_or bytes 4 0)
 
 -- one more than a number from 0 on
 one_more : (z : ℤ) → pos 0 ≤ℤ z → z +ℤ pos 1 ≡ pos (posPart z + 1)
-one_more (pos n) h = refl
-one_more (negsuc n) h = absurd (omega (arith, le_parts h))
+one_more z h = grind (arith, ints)
 
 module _ (l : LayoutM) where
   buffer-empty : is_empty l.axes ≡ true → (withBuffer l).buffer ≡ 0

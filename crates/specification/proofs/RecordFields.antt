@@ -1,17 +1,15 @@
 -- The fields of a record, byte by byte: how long each is, that what was written is read, and that what was read is written again.
 use Rattle.std.specs.Prelude.{if◌then◌else◌}
 use mathlib.Core.Path.{◌≡◌, refl, sym, ap, ap₂, ◌∙◌}
-use mathlib.Core.Bool.{Bool, true, false}
 use mathlib.Core.List.{List, [], ◌∷◌, ◌++◌, append_assoc}
 use Prim.Native.Nat.{ℕ, zero, suc, ◌+◌, ◌*◌, ◌-◌, ◌/◌, ◌%◌, ◌^◌, ◌<◌, ◌≤◌}
-use native.Mathlib.Nat.{mod-eq_of_lt, mod-one, pow-zero, pow-succ', add_comm, zero-add, add-mul-mod_self_right, add-mul-div_right, mul-le-mul_right, div-eq_of_lt}
+use native.Mathlib.Nat.{mod-eq_of_lt, mod-one, pow-zero, pow-succ', add_comm, add-mul-mod_self_right, add-mul-div_right, mul-le-mul_right}
 use native.Mathlib.Omega.{arith}
 use lib.Arith.{mod-mul}
 use lib.Dec.{ltb}
 use lib.IntN.{ℤ, pos, negsuc}
 use lib.ListN.{length, get_or, take, drop, length-append}
 use lib.Seq.{get_or-append-add, drop-cons, take-add, drop-drop}
-use borrow.Author.Tests.{lt-ltb, le-ltb}
 use mir.Syntax.{w64}
 use mir.Val.{SFits}
 use Rattle.specification.specs.Axis.{Axis}
@@ -19,6 +17,7 @@ use Rattle.specification.specs.Layout.{LayoutM, rank, AllRanges}
 use Rattle.specification.specs.Verdict.{Verdict}
 use Rattle.specification.specs.Record.{bigEndian, twos, recordLength, axisBytes, recordBytes, numberFrom, signedFrom, axesFrom}
 use Rattle.specification.specs.RecordClaims.{Bytes}
+use Rattle.std.proofs.lemmas.Int.{ints}
 
 -- ---- lengths
 
@@ -71,13 +70,11 @@ numberFrom-at front n x rest i e h =
     none_more a = omega arith
 
 twos-below : (z : ℤ) → SFits w64 z → twos z < 2 ^ 64
-twos-below (pos n) f = omega arith
-twos-below (negsuc n) f = omega arith
+twos-below z f = grind (arith, ints)
 
 -- two's complement read back
 signed-of-twos : (z : ℤ) (k : ℕ) → SFits w64 z → k ≡ twos z → (if ltb k (2 ^ 63) then pos k else negsuc (2 ^ 64 - suc k)) ≡ z
-signed-of-twos (pos n) k f e = rw (lt-ltb k (2 ^ 63) (omega arith)) (ap pos e)
-signed-of-twos (negsuc n) k f e = rw (le-ltb k (2 ^ 63) (omega arith)) (ap negsuc (omega arith))
+signed-of-twos z k f e = grind (arith, ints)
 
 pub signedFrom-at : (front : List ℕ) (z : ℤ) (rest : List ℕ) (i : ℕ) → length front ≡ i → SFits w64 z → signedFrom (front ++ (bigEndian 8 (twos z) ++ rest)) i ≡ z
 signedFrom-at front z rest i e f = signed-of-twos z (numberFrom (front ++ (bigEndian 8 (twos z) ++ rest)) i 8) f (numberFrom-at front 8 (twos z) rest i e (twos-below z f))
@@ -134,10 +131,7 @@ bigEndian-low (suc n) q m =
 
 -- the highest byte of a byte and a lower number
 high_byte : (n x low : ℕ) → x < 256 → low < 256 ^ n → (x * 256 ^ n + low) / 256 ^ n % 256 ≡ x
-high_byte n x low h k =
-    ap (λ (z : ℕ). z / 256 ^ n % 256) (add_comm (x * 256 ^ n) low)
-    ∙ ap (λ (z : ℕ). z % 256) (add-mul-div_right low x (power-positive n) ∙ ap (λ (z : ℕ). z + x) (div-eq_of_lt k) ∙ zero-add x)
-    ∙ mod-eq_of_lt h
+high_byte n x low h k = grind (arith, ints)
 
 pub bigEndian-numberFrom : (bytes : List ℕ) (i n : ℕ) → Bytes bytes → i + n ≤ length bytes → bigEndian n (numberFrom bytes i n) ≡ take n (drop i bytes)
 unfolding bigEndian numberFrom
@@ -150,11 +144,7 @@ bigEndian-numberFrom bytes i (suc n) b h =
     ∙ ap (λ (l : List ℕ). take (suc n) l) (sym d)
 
 twos-of-signed : (k : ℕ) → k < 2 ^ 64 → twos (if ltb k (2 ^ 63) then pos k else negsuc (2 ^ 64 - suc k)) ≡ k
-twos-of-signed k h = go (ltb k (2 ^ 63))
-  where
-    go : (t : Bool) → twos (if t then pos k else negsuc (2 ^ 64 - suc k)) ≡ k
-    go true = refl
-    go false = omega arith
+twos-of-signed k h = grind (arith, ints)
 
 pub twos-signedFrom : (bytes : List ℕ) (i : ℕ) → Bytes bytes → twos (signedFrom bytes i) ≡ numberFrom bytes i 8
 twos-signedFrom bytes i b = twos-of-signed (numberFrom bytes i 8) (numberFrom-below bytes i 8 b)

@@ -7,11 +7,12 @@ use lib.ListN.{length, get_or, length-append}
 use lib.Seq.{drop_at}
 use borrow.Author.Tests.{le-ltb}
 use Rattle.specification.specs.Layout.{LayoutM, rank}
-use Rattle.specification.specs.Verdict.{Verdict, Distinct, Repeated, Undecided}
+use Rattle.specification.specs.Verdict.{Verdict}
 use Rattle.specification.specs.Record.{bigEndian, twos, verdictByte, recordLength, axisBytes, recordBytes, numberFrom, signedFrom, axesFrom, withBuffer, layoutFrom, rest_of}
 use Rattle.specification.specs.RecordClaims.{Fields}
 use Rattle.specification.proofs.FieldsFit.{FieldsFit}
 use Rattle.specification.proofs.RecordFields.{length-bigEndian, length-recordBytes, numberFrom-at, signedFrom-at, axesFrom-at}
+use Rattle.std.proofs.lemmas.Int.{ints}
 
 -- a record, and bytes behind it
 abbrev pub recordThen : LayoutM → Verdict → List ℕ → List ℕ
@@ -22,9 +23,7 @@ abbrev header : LayoutM → Verdict → List ℕ
 header n v = bigEndian 2 (recordLength (rank n)) ++ (1 ∷ verdictByte v ∷ rank n ∷ [])
 
 byte-in-range : (v : Verdict) → (1 ≤ verdictByte v) × (verdictByte v ≤ 3)
-byte-in-range Distinct = (omega arith, omega arith)
-byte-in-range Repeated = (omega arith, omega arith)
-byte-in-range Undecided = (omega arith, omega arith)
+byte-in-range v = grind (arith, ints)
 
 module _ (n : LayoutM) (v : Verdict) (behind : List ℕ) where
   version-byte : get_or (recordThen n v behind) 2 0 ≡ 1

@@ -1,13 +1,12 @@
 -- Steps 5 and 6 tell the truth of a block; each way that the search ends, with its count.
 use Rattle.std.specs.Prelude.{if◌then◌else◌}
-use mathlib.Core.Path.{◌≡◌, refl, sym, ap, subst, ◌∙◌}
+use mathlib.Core.Path.{◌≡◌, refl, sym, ap, ◌∙◌}
 use mathlib.Core.Bool.{Bool, true, false}
 use mathlib.Core.Option.{Option, none, some}
 use mathlib.Core.List.{List, [], ◌∷◌}
 use Prim.Native.Nat.{ℕ, zero, suc, ◌+◌, ◌*◌, ◌-◌, ◌<◌, ◌≤◌}
 use native.Mathlib.Decide.{ℕ_discrete}
 use native.Mathlib.Omega.{arith}
-use lib.Dec.{T}
 use lib.IntN.{ℤ, pos, nat_abs, ◌-ℤ◌, ◌*ℤ◌}
 use Rattle.integer.specs.Parts.{posPart, negPart}
 use Rattle.integer.proofs.PartLaws.{parts_add, posPart-scale, negPart-scale}
@@ -25,6 +24,7 @@ use Rattle.specification.proofs.DifferenceWalk.{Solves, Found, middle, half-half
 use Rattle.specification.proofs.Collisions.{search_no, search-yes}
 use Rattle.specification.proofs.TwoAxes.{no-pair-of-two, pair-of-two}
 use Rattle.specification.proofs.BlockLaws.{Live, Lives, lives-pos}
+use Rattle.std.proofs.lemmas.Int.{ints}
 
 -- what a plan says of axes; U is what Undecided says
 abbrev pub TruePlan : Type 0 → List ActiveAxis → Plan → Type 0
@@ -104,12 +104,10 @@ first-of test (suc n) c = go (test c) refl (first_of test n (suc c)) (first-of t
     go false e (some p) w = (omega (arith, w.0), omega (arith, w.1), w.2, λ d l h. here d l e (λ m. w.3 d m h) (ℕ_discrete c d))
 
 yes-is : {P : Type 0} (d : Dec P) → is_yes d ≡ true → P
-yes-is (yes p) e = p
-yes-is (no f) e = absurd (subst T (sym e) tt)
+yes-is d e = grind (arith, ints)
 
 no-is : {P : Type 0} (d : Dec P) → is_yes d ≡ false → P → ⊥
-no-is (yes p) e q = subst T e tt
-no-is (no f) e q = f q
+no-is d e q = grind (arith, ints)
 
 hit-yes : (a b : ActiveAxis) (others : List ActiveAxis) (c : ℕ) → hit a b others c ≡ true → CompletesAt a b others c
 unfolding hit

@@ -1,4 +1,4 @@
--- The starred lines of 01, together: they compute.
+-- The starred lines of the rules, together: they compute.
 use mathlib.Core.Path.{refl}
 use Rattle.specification.specs.Starred.{Starred}
 use Rattle.specification.proofs.Computing.{computing}

@@ -8,6 +8,7 @@ use native.Mathlib.Decide.{ℕ_discrete}
 use native.Mathlib.Omega.{arith}
 use lib.Dec.{T}
 use Rattle.specification.specs.Tests.{those, up_from}
+use Rattle.std.proofs.lemmas.Int.{ints}
 
 -- the sum of f over the entries
 unfoldable pub sum_of : (ℕ → ℕ) → List ℕ → ℕ
@@ -16,8 +17,7 @@ sum_of f (a ∷ r) = f a + sum_of f r
 
 pub sum-ext : (f g : ℕ → ℕ) (l : List ℕ) → ((a : ℕ) → f a ≡ g a) → sum_of f l ≡ sum_of g l
 unfolding sum_of
-sum-ext f g [] e = refl
-sum-ext f g (a ∷ r) e = ap₂ (λ (x y : ℕ). x + y) (e a) (sum-ext f g r e)
+sum-ext f g l e = grind (arith, ints)
 
 pub sum-zero : (l : List ℕ) → sum_of (λ a. 0) l ≡ 0
 unfolding sum_of

@@ -5,7 +5,6 @@ use mathlib.Core.List.{List, [], ◌∷◌}
 use mathlib.Core.Logic.{◌⊎◌, inl, inr, ◌↔◌}
 use mathlib.Core.Path.{◌≡◌, refl, sym, subst}
 use Prim.Native.Nat.{ℕ, zero, suc, ◌-◌, ◌^◌, ◌<◌, ◌≤◌}
-use native.Mathlib.Decide.{dec_lt}
 use native.Mathlib.Omega.{arith}
 use lib.Dec.{T, eqb, ltb, leb}
 use lib.IntN.{ℤ, pos, negsuc, neg_ℤ}
@@ -17,7 +16,6 @@ use Rattle.integer.specs.Multiple.{eqZ}
 use Rattle.integer.specs.Range.{fits, mostSigned, mostUnsigned}
 use Rattle.integer.proofs.CheckedLaws.{fits-of-sfits, sfits-of-fits}
 use Rattle.integer.proofs.MultipleLaws.{eqZ-yes, eqZ-no}
-use Rattle.integer.proofs.PartLaws.{posPart-below, negPart-below, parts-fit, posPart-neg, negPart-neg}
 use Rattle.specification.specs.Tests.{some}
 use Rattle.specification.specs.Axis.{Axis, positions, is_empty, active, span, upward, downward}
 use Rattle.specification.specs.CheckIn.{tooWide}
@@ -27,23 +25,18 @@ use Rattle.specification.specs.Verdict.{outOfRange}
 use Rattle.specification.specs.TestClaims.{SomeAxis, OutOfRange, wide, span-out, upward-out, downward-out, least-stride, TestClaims}
 use Rattle.specification.proofs.ReachLaws.{and-true}
 use Rattle.specification.proofs.TestLaws.{true-not-false}
+use Rattle.std.proofs.lemmas.Int.{ints}
 
 -- ---- tests on tests
 
 pub or-holds : (s t : Bool) {P Q : Type 0} → ((s ≡ true) ↔ P) → ((t ≡ true) ↔ Q) → ((s || t) ≡ true) ↔ (P ⊎ Q)
-or-holds true t h k = (λ e. inl (h.0 refl), λ w. refl)
-or-holds false t {P} {Q} h k = (λ e. inr (k.0 e), λ w. second w)
-  where
-    second : P ⊎ Q → t ≡ true
-    second (inl p) = absurd (true-not-false (h.1 p) refl)
-    second (inr q) = k.1 q
+or-holds s t h k = grind (arith, ints)
 
 pub and-holds : {P Q : Type 0} (s t : Bool) → ((s ≡ true) ↔ P) → ((t ≡ true) ↔ Q) → ((s && t) ≡ true) ↔ (P × Q)
 and-holds s t h k = (λ e. let w = and-true s t e in (h.0 w.0, k.0 w.1), λ w. rw (h.1 w.0, k.1 w.1))
 
 pub not-holds : {P : Type 0} (t : Bool) → ((t ≡ true) ↔ P) → (not t ≡ true) ↔ (¬ P)
-not-holds true h = (λ e p. true-not-false e refl, λ f. absurd (f (h.0 refl)))
-not-holds false h = (λ e p. true-not-false (h.1 p) refl, λ f. refl)
+not-holds t h = grind (arith, ints)
 
 ltb-holds : (a b : ℕ) → (ltb a b ≡ true) ↔ (a < b)
 ltb-holds a b = (ltb-true a b, lt-ltb a b)
@@ -103,24 +96,10 @@ over axes = go (is_empty axes) (empty axes)
 -- ---- step 2
 
 above_most : (n : ℕ) → (not (fits (pos n)) ≡ true) ↔ (mostSigned < n)
-above_most n = (λ e. go (dec_lt mostSigned n) (w.0 e), λ h. w.1 (λ f. omega (arith, posPart-below f)))
-  where
-    w : (not (fits (pos n)) ≡ true) ↔ (¬ (SFits w64 (pos n)))
-    w = not-holds (fits (pos n)) (in-range (pos n))
-
-    go : Dec (mostSigned < n) → ¬ (SFits w64 (pos n)) → mostSigned < n
-    go (yes h) f = h
-    go (no h) f = absurd (f (parts-fit (omega arith) (omega arith)))
+above_most n = grind (arith, ints)
 
 below-least : (n : ℕ) → (not (fits (neg_ℤ (pos n))) ≡ true) ↔ (2 ^ 63 < n)
-below-least n = (λ e. go (dec_lt (2 ^ 63) n) (w.0 e), λ h. w.1 (λ f. omega (arith, negPart-below f, negPart-neg (pos n))))
-  where
-    w : (not (fits (neg_ℤ (pos n))) ≡ true) ↔ (¬ (SFits w64 (neg_ℤ (pos n))))
-    w = not-holds (fits (neg_ℤ (pos n))) (in-range (neg_ℤ (pos n)))
-
-    go : Dec (2 ^ 63 < n) → ¬ (SFits w64 (neg_ℤ (pos n))) → 2 ^ 63 < n
-    go (yes h) f = h
-    go (no h) f = absurd (f (parts-fit (omega (arith, posPart-neg (pos n))) (omega (arith, negPart-neg (pos n)))))
+below-least n = grind (arith, ints)
 
 module _ (axes : List Axis) where
   abbrev Wide : Type 0

@@ -6,7 +6,7 @@ use mathlib.Core.List.{List, [], ◌∷◌}
 use Prim.Native.Nat.{ℕ, ◌+◌, ◌*◌, ◌/◌, ◌<◌}
 use native.Mathlib.Omega.{arith}
 use lib.Dec.{T, leb, leb→le, nleb→lt}
-use lib.IntN.{ℤ, pos, negsuc, nat_abs, ◌-ℤ◌, +ℤ_idr}
+use lib.IntN.{ℤ, pos, nat_abs, ◌-ℤ◌, +ℤ_idr}
 use Rattle.integer.specs.Gcd.{gcd}
 use Rattle.integer.specs.Parts.{posPart, negPart}
 use Rattle.integer.proofs.Meeting.{Meet, meet-if, meet-only-if}
@@ -16,6 +16,7 @@ use Rattle.specification.specs.Search.{ActiveAxis, lengths, reach, twoDistinct}
 use Rattle.specification.specs.CountClaims.{TwoCollide}
 use Rattle.specification.proofs.Positions.{IndexVector, empty, ◌and◌}
 use Rattle.specification.proofs.Differences.{EqualSums}
+use Rattle.std.proofs.lemmas.Int.{ints}
 
 -- the two vectors that `Meet` names
 abbrev Meeting : ActiveAxis → ActiveAxis → Type 0
@@ -56,8 +57,7 @@ pair-meet a b p = go p.x p.y p.bx p.by p.other p.same
 -- ---- a difference that sums to 0
 
 below_both : (z : ℤ) (i j d : ℕ) → posPart z + j ≡ i + negPart z → i < d → j < d → nat_abs z < d
-below_both (pos n) i j d e h k = omega arith
-below_both (negsuc n) i j d e h k = omega arith
+below_both z i j d e h k = grind (arith, ints)
 
 no_difference : (i j : ℕ) → pos i -ℤ pos j ≡ pos 0 → i ≡ j
 no_difference i j e = omega (arith, shifted i j, ap posPart e, ap negPart e)

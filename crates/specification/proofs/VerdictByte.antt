@@ -1,10 +1,8 @@
 -- The verdict byte is true of the layout whose normal form was judged: layouts with the same offsets share an offset together.
-use mathlib.Core.Path.{◌≡◌, refl, sym, ap, ◌∙◌}
+use mathlib.Core.Path.{◌≡◌, refl, ap}
 use Prim.Native.Nat.{ℕ}
 use native.Mathlib.Omega.{arith}
-use lib.IntN.{ℤ, ◌+ℤ◌}
-use Rattle.integer.proofs.PartLaws.{parts_add, parts-ext, parts-eq}
-use Rattle.specification.specs.Axis.{sum_at, Shared}
+use Rattle.specification.specs.Axis.{Shared}
 use Rattle.specification.specs.Outcome.{done}
 use Rattle.specification.specs.Layout.{LayoutM}
 use Rattle.specification.specs.Normal.{normalOf}
@@ -15,20 +13,10 @@ use Rattle.specification.specs.VerdictClaims.{Says}
 use Rattle.specification.specs.Demand3.{TrueByte}
 use Rattle.specification.proofs.NormalLaws.{normal-same, same-sym}
 use Rattle.specification.proofs.VerdictLaws.{true-answer, only-undecided}
-
-add-cancel-left : (o a b : ℤ) → o +ℤ a ≡ o +ℤ b → a ≡ b
-add-cancel-left o a b e = parts-ext (omega (arith, parts_add o a, parts_add o b, parts-eq e))
+use Rattle.std.proofs.lemmas.Int.{ints}
 
 shared-by-same : {x y : LayoutM} → SameOffsets x y → Shared x.axes → Shared y.axes
-shared-by-same {x} {y} s w = record {
-  one = w.one;
-  other = w.other;
-  one-is = rw (← s.as_many) w.one-is;
-  other-is = rw (← s.as_many) w.other-is;
-  different = w.different;
-  same = add-cancel-left y.offset (sum_at y.axes w.one) (sum_at y.axes w.other)
-      (sym (s.alike w.one w.one-is) ∙ ap (λ (z : ℤ). x.offset +ℤ z) w.same ∙ s.alike w.other w.other-is);
-}
+shared-by-same s w = grind (arith, ints)
 
 module _ (x : LayoutM) where
   shared-forth : Shared (normalOf x).axes → Shared x.axes

@@ -18,32 +18,25 @@ use Rattle.specification.specs.VerdictClaims.{VerdictClaims, VerdictCallClaims}
 use Rattle.specification.proofs.OutcomeLaws.{bind-refused, refuse-yes}
 pub use Rattle.specification.proofs.VerdictTruth.{true-answer, only-undecided}
 pub use Rattle.specification.proofs.VerdictRefusals.{needed-no}
-use Rattle.specification.proofs.VerdictRefusals.{Refusal, eight, three, nine, plan-eight, plan-three, judge-refused}
+use Rattle.specification.proofs.VerdictRefusals.{Refusal, plan-eight, plan-three, judge-refused}
 pub use Rattle.specification.proofs.VerdictWords.{words-claims}
 use Rattle.specification.proofs.VerdictWords.{freed-are}
+use Rattle.std.proofs.lemmas.Int.{ints}
 
 -- ---- each refusal, and where it stands
 
 module _ (axes : List Axis) (words : ℕ) where
   is-eight : {n : ℕ} {vs : List ℕ} → Refusal axes words n vs → n ≡ 8 → (overfull axes ≡ true) × (vs ≡ [])
-  is-eight (eight o) e = (o, refl)
-  is-eight (three f o s r) e = absurd (omega arith)
-  is-eight (nine h) e = absurd (omega arith)
+  is-eight o e = grind (arith, ints)
 
   is-three : {n : ℕ} {vs : List ℕ} → Refusal axes words n vs → n ≡ 3 → (is_empty axes ≡ false) × (overfull axes ≡ false) × (some still axes ≡ false) × (outOfRange axes ≡ true) × (vs ≡ [])
-  is-three (eight o) e = absurd (omega arith)
-  is-three (three f o s r) e = (f, o, s, r, refl)
-  is-three (nine h) e = absurd (omega arith)
+  is-three o e = grind (arith, ints)
 
   is-nine : {n : ℕ} {vs : List ℕ} → Refusal axes words n vs → n ≡ 9 → (words < wordsNeeded axes) × (vs ≡ wordsNeeded axes ∷ [])
-  is-nine (eight o) e = absurd (omega arith)
-  is-nine (three f o s r) e = absurd (omega arith)
-  is-nine (nine h) e = (h, refl)
+  is-nine o e = grind (arith, ints)
 
   one_of_three : {n : ℕ} {vs : List ℕ} → Refusal axes words n vs → (n ≡ 8) ⊎ ((n ≡ 3) ⊎ (n ≡ 9))
-  one_of_three (eight o) = inl refl
-  one_of_three (three f o s r) = inr (inl refl)
-  one_of_three (nine h) = inr (inr refl)
+  one_of_three o = grind (arith, ints)
 
   with_values : {n : ℕ} {vs ws : List ℕ} → judge axes words ≡ refused n vs → ws ≡ vs → judge axes words ≡ refused n ws
   with_values {n} e q = e ∙ ap (refused n) (sym q)
@@ -73,9 +66,7 @@ verdict-claims = record {
 -- ---- the public call
 
 either : (s t : Bool) → (s ≡ true) ⊎ (t ≡ true) → (s || t) ≡ true
-either s t (inl e) = rw e
-either true t (inr e) = refl
-either false t (inr e) = e
+either s t e = grind (arith, ints)
 
 call-one : (extents : List ℕ) (strides : List ℤ) (words : ℕ) → (16 < length extents) ⊎ (16 < length strides) → verdict extents strides words ≡ refused 1 []
 unfolding verdict

@@ -1,4 +1,4 @@
--- The verdict is refused 8, 3 or 9 and nothing else, each exactly where 01 has it.
+-- The verdict is refused 8, 3 or 9 and nothing else, each exactly where the rules have it.
 use Rattle.std.specs.Prelude.{if◌then◌else◌}
 use mathlib.Core.Path.{◌≡◌, refl, ap, subst₂, ◌∙◌}
 use mathlib.Core.Bool.{Bool, true, false}

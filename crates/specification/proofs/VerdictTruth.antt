@@ -26,6 +26,7 @@ use Rattle.specification.proofs.TwoAxes.{no-pair-of-two, pair-of-two}
 use Rattle.specification.proofs.SearchLaws.{TruePlan, move, search-end, says-search, same-pair, no_same}
 use Rattle.specification.proofs.NormalLaws.{full-pos, empty-none}
 use Rattle.specification.proofs.PlanCases.{SmallCase, no_block, one-axis, crowded, two-apart, two-meet, SearchCase, searching, enumerating, past-both, BlockCase, small, large, ToBlock, PlanCase, when-empty, when-one, when-still, by-block, plan-of-large, judgedAs, judged-by}
+use Rattle.std.proofs.lemmas.Int.{ints}
 
 -- ---- a block
 
@@ -113,9 +114,7 @@ says-plan axes p (by-block t c) =
 -- ---- the claims
 
 undecided-plan : {block : List ActiveAxis} {p : Plan} → SearchCase block p → 4194304 < half (othersOf block) → 16777216 < total block → (judgedAs p).answer ≡ Undecided
-undecided-plan (searching h e) s t = absurd (omega arith)
-undecided-plan (enumerating h k) s t = absurd (omega arith)
-undecided-plan (past-both h k) s t = refl
+undecided-plan c s t = grind (arith, ints)
 
 module _ (axes : List Axis) (words : ℕ) (j : Judged) where
   pub true-answer : judge axes words ≡ done j → Says j.answer axes

@@ -1,4 +1,4 @@
--- The words that the verdict needs: 01's number where step 6 enumerates, none elsewhere; just these are free afterwards.
+-- The words that the verdict needs: the rules' number where step 6 enumerates, none elsewhere; just these are free afterwards.
 use mathlib.Core.Path.{◌≡◌, refl, sym, ap, ◌∙◌}
 use mathlib.Core.List.{List}
 use Prim.Native.Nat.{ℕ, ◌+◌, ◌/◌, ◌<◌, ◌≤◌}
@@ -11,13 +11,12 @@ use Rattle.specification.specs.Verdict.{Judged, Plan, answered, enumerated, bloc
 use Rattle.specification.specs.VerdictClaims.{Enumerates, WordsClaims}
 use Rattle.specification.proofs.SearchLaws.{SearchEnd, collided, completed, exhausted, search-end}
 use Rattle.specification.proofs.PlanCases.{SearchCase, searching, enumerating, past-both, small, large, PlanCase, when-empty, when-overfull, when-one, when-still, when-out, by-block, plan-case, comes-to-search, search-planned, judgedAs, judged-by}
+use Rattle.std.proofs.lemmas.Int.{ints}
 
 -- ---- where step 6 enumerates
 
 enumerating-plan : {block : List ActiveAxis} {p : Plan} → SearchCase block p → 4194304 < half (othersOf block) → total block ≤ 16777216 → p ≡ enumerated block
-enumerating-plan (searching h e) s t = absurd (omega arith)
-enumerating-plan (enumerating h k) s t = refl
-enumerating-plan (past-both h k) s t = absurd (omega arith)
+enumerating-plan c s t = grind (arith, ints)
 
 words-enumerated : (axes : List Axis) → Enumerates axes → wordsNeeded axes ≡ wordsFor (total (block_of axes)) (spanSum (block_of axes))
 unfolding words_of

@@ -1,6 +1,6 @@
 -- What permute and broadcast do to the offset of an index vector.
 use Rattle.std.specs.Prelude.{if◌then◌else◌}
-use mathlib.Core.Path.{◌≡◌, refl, sym, ap, ap₂, ◌∙◌}
+use mathlib.Core.Path.{◌≡◌, refl, ap, ap₂, ◌∙◌}
 use mathlib.Core.Bool.{Bool, true, false, not}
 use mathlib.Core.List.{List, [], ◌∷◌, map}
 use Prim.Native.Nat.{ℕ, ◌+◌, ◌*◌}
@@ -15,13 +15,14 @@ use Rattle.integer.proofs.MultipleLaws.{posPart-·, negPart-·}
 use Rattle.integer.proofs.PartLaws.{parts_add, parts-ext}
 use Rattle.specification.specs.Tests.{some}
 use Rattle.specification.specs.Axis.{Axis, offsetSum}
-use Rattle.specification.specs.Outcome.{Check, done, refused, pass, refuseIf, ◌>>◌}
+use Rattle.specification.specs.Outcome.{Check, pass, refuseIf, ◌>>◌}
 use Rattle.specification.specs.Layout.{LayoutM, rank, handed}
 use Rattle.specification.specs.Views.{unlessRefused, withAxes, axisAt, orderFault, permute, targetFault, spread, broadcast}
 use Rattle.specification.specs.ViewClaims.{heldBack}
 use Rattle.specification.proofs.OrderSums.{left, left-shift, whole_sum}
-use Rattle.specification.proofs.OutcomeLaws.{clash, passed, passed-check}
+use Rattle.specification.proofs.OutcomeLaws.{passed, passed-check}
 use Rattle.specification.proofs.Sums.{sum_of}
+use Rattle.std.proofs.lemmas.Int.{ints}
 
 -- a view that is not refused
 pub record Settled (l n : LayoutM) (c : Check) : Type 0 where
@@ -30,8 +31,7 @@ pub record Settled (l n : LayoutM) (c : Check) : Type 0 where
 
 pub settled : (l n : LayoutM) (c : Check) → (unlessRefused l c n).answer ≡ pass → Settled l n c
 unfolding unlessRefused
-settled l n (done u) e = record { passes = refl; becomes = refl }
-settled l n (refused m vs) e = absurd (clash (sym e))
+settled l n c e = grind (arith, ints)
 
 -- the sum of index × one part of the stride
 unfoldable pub weigh : (ℤ → ℕ) → List Axis → List ℕ → ℕ

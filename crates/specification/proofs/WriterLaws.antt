@@ -20,24 +20,20 @@ use Rattle.specification.specs.Axis.{Axis, positions, is_empty, active, span, up
 use Rattle.specification.specs.Outcome.{Outcome, done, refused, pass, refuseIf, ◌>>◌}
 use Rattle.specification.specs.Layout.{LayoutM, rank, Accepted, handed}
 use Rattle.specification.specs.CheckIn.{tooWide}
-use Rattle.specification.specs.Normal.{both, mergeInto, merge, normalAxes, normalOf, overfull, normalForm, continues}
+use Rattle.specification.specs.Normal.{mergeInto, merge, normalAxes, normalOf, overfull, normalForm}
 use Rattle.specification.specs.Verdict.{Plan, answered, Distinct, Repeated, still, outOfRange, plan_of, block_of, byBlock}
-use Rattle.specification.proofs.NormalLaws.{full-pos, positions-pos, empty-none, normal-of-empty, normal-of-full, normal-same, buffer-stays}
+use Rattle.specification.proofs.NormalLaws.{full-pos, positions-pos, empty-none, normal-of-empty, normal_of_full, normal-same, buffer-stays}
 use Rattle.specification.proofs.ReachLaws.{or-false, spans_fit, fits-small}
 use Rattle.specification.proofs.ReachClaimed.{handed-answers}
 use Rattle.specification.proofs.TestLaws.{length-those}
 use Rattle.specification.proofs.OutcomeLaws.{false-unless, refuse-no}
+use Rattle.std.proofs.lemmas.Int.{ints}
 
 -- ---- the normal form is accepted
 
 length-mergeInto : (a : Axis) (rest : List Axis) → length (mergeInto a rest) ≤ suc (length rest)
 unfolding mergeInto
-length-mergeInto a [] = omega arith
-length-mergeInto a (b ∷ rest) = go (continues a b)
-  where
-    go : (t : Bool) → length (if t then both a b ∷ rest else a ∷ b ∷ rest) ≤ suc (suc (length rest))
-    go true = omega arith
-    go false = omega arith
+length-mergeInto a rest = grind (arith, ints)
 
 length-merge : (axes : List Axis) → length (merge axes) ≤ length axes
 unfolding merge
@@ -53,7 +49,7 @@ normal-rank x a = go (is_empty x.axes) refl
   where
     go : (t : Bool) → is_empty x.axes ≡ t → rank (normalOf x) ≤ 16
     go true e = omega (arith, ap rank (normal-of-empty x e))
-    go false e = omega (arith, ap rank (normal-of-full x e), length-normalAxes x.axes, a.few)
+    go false e = omega (arith, ap rank (normal_of_full x e), length-normalAxes x.axes, a.few)
 
 pub normal-accepted : (x : LayoutM) → Accepted x → Accepted (normalOf x)
 normal-accepted x a =

@@ -16,19 +16,19 @@ spelled-least n (byte ∷ rest) = omega (arith, spelled-least (n * 10 + (byte - 
 
 module _ (text : List ℕ) (i n : ℕ) where
   -- the digit at place i is spelled behind those of n
-  pub spelled-on : i < length text → spelledFrom n (drop i text) ≡ spelledFrom (n * 10 + (get_or text i 0 - 48)) (drop (i + 1) text)
+  pub spelled_on : i < length text → spelledFrom n (drop i text) ≡ spelledFrom (n * 10 + (get_or text i 0 - 48)) (drop (i + 1) text)
   unfolding spelledFrom
-  spelled-on h = rw (add-one, drop-cons text i 0 h)
+  spelled_on h = rw (add-one, drop-cons text i 0 h)
 
-  pub spelled-end : length text ≤ i → spelledFrom n (drop i text) ≡ n
+  pub spelled_end : length text ≤ i → spelledFrom n (drop i text) ≡ n
   unfolding spelledFrom
-  spelled-end h = rw (drop_of_length-le text h)
+  spelled_end h = rw (drop_of_length-le text h)
 
   -- digits that pass 2^64 pass it for good
-  pub unsigned-over : i < length text → spelledFrom 0 text ≡ spelledFrom n (drop i text) → 2 ^ 64 ≤ n * 10 + (get_or text i 0 - 48) → unsignedOf text ≡ None
+  pub unsigned_over : i < length text → spelledFrom 0 text ≡ spelledFrom n (drop i text) → 2 ^ 64 ≤ n * 10 + (get_or text i 0 - 48) → unsignedOf text ≡ None
   unfolding unsignedOf
-  unsigned-over h so_far over =
-      let past : 2 ^ 64 ≤ spelledFrom 0 text = omega (arith, so_far, spelled-on h, spelled-least (n * 10 + (get_or text i 0 - 48)) (drop (i + 1) text)) in
+  unsigned_over h so_far over =
+      let past : 2 ^ 64 ≤ spelledFrom 0 text = omega (arith, so_far, spelled_on h, spelled-least (n * 10 + (get_or text i 0 - 48)) (drop (i + 1) text)) in
       rw (le-ltb _ _ past) (by_test (length text == 0 || not (list_all is_ascii_digit text)))
     where
       by_test : (b : Bool) → cond {A = Option ℕ} b None None ≡ None

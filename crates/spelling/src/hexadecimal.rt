@@ -27,6 +27,7 @@ fn are_digits(text: &[u8]) -> bool
 }
 
 /// The bytes that the pairs write. A byte that is no digit is told before an odd number of digits.
+#[tactic(auto, using(crate::proofs::HexadecimalLaws::odd_from_err))]
 pub fn read_bytes(alloc: Global, text: &[u8]) -> Result<Vec<u8>, HexadecimalError>
     ensures bytes { IfOk result (λ v. decode_of text.now ≡ Ok v.items) }
     ensures bad_digit { (result ≡ Err BadDigit) ↔ (list_all is_hex_digit text.now ≡ false) }

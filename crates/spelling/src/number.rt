@@ -17,7 +17,7 @@ fn are_digits(text: &[u8]) -> bool
 }
 
 /// The number that the bytes spell, where they are digits, at least one, and a u64 holds it.
-#[tactic(auto, unfolding(crate::specs::Number::unsignedOf))]
+#[tactic(auto, using(crate::proofs::NumberLaws::spelled_on, crate::proofs::NumberLaws::spelled_end, crate::proofs::NumberLaws::unsigned_over), unfolding(crate::specs::Number::unsignedOf))]
 pub fn read_unsigned(text: &[u8]) -> Option<u64>
     ensures { result ≡ unsignedOf text.now }
 {

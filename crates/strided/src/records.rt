@@ -30,6 +30,7 @@ fn answer_wrote(wrote: Result<BytePlace, Refusal>, values: &mut [u64]) -> u8
 }
 
 /// The record of a layout's normal form at the front of the output.
+#[tactic(auto, unfolding(specification::specs::Record::writeFrees, specification::specs::Record::writeAnswer))]
 #[unsafe(no_mangle)]
 pub extern "C" fn strided_write(
     numbers: &[u64],
@@ -71,6 +72,7 @@ pub extern "C" fn strided_read(
 }
 
 /// Where the bytes behind the record at the front begin.
+#[tactic(auto, using(std::proofs::lemmas::Grind::common_steps), unfolding(specification::specs::Record::rest_of))]
 #[unsafe(no_mangle)]
 pub extern "C" fn strided_step(bytes: &[u8]) -> usize
     ensures { Behind bytes.now result }

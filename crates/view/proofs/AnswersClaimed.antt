@@ -3,18 +3,19 @@ use Rattle.std.specs.Prelude.{if◌then◌else◌}
 use mathlib.Core.Bool.{Bool, true, false}
 use mathlib.Core.List.{[]}
 use mathlib.Core.Path.{◌≡◌, refl, sym, ◌∙◌}
-use Prim.Native.Nat.{ℕ}
 use native.Mathlib.Omega.{arith}
 use lib.IntN.{ℤ}
 use Rattle.specification.specs.Axis.{is_empty}
 use Rattle.specification.specs.Outcome.{done, refused, refuseIf, ◌>>◌}
 use Rattle.specification.specs.Layout.{LayoutM, lowest, highest, inReach}
 use Rattle.specification.proofs.OutcomeLaws.{clash}
+use Rattle.view.specs.Claims.{Claims}
 use Rattle.specification.proofs.ReachClaimed.{reach-claims}
 use Rattle.view.specs.Reach.{none, ends, reachOf}
 use Rattle.view.specs.AnswerClaims.{ReachAnswerClaims, ElementCountClaims}
 use Rattle.view.proofs.BoundsLaws.{reach-empty, within-ends}
 use Rattle.view.proofs.CountLaws.{count-many, element-count-of-axes}
+use Rattle.std.proofs.lemmas.Int.{ints}
 
 -- ---- reach
 
@@ -26,10 +27,6 @@ outside-refused : (l : LayoutM) → inReach l ≡ false → reachOf l ≡ refuse
 unfolding reachOf refuseIf ◌>>◌
 outside-refused l e = rw e
 
--- no ends are no two ends
-none-ends : {low high : ℤ} {A : Type 0} → none ≡ ends low high → A
-none-ends e = absurd (let z : ◌≡◌ {A = ℕ} 0 1 = cc in omega arith)
-
 refused-only : (l : LayoutM) → (inReach l ≡ true → ⊥) → reachOf l ≡ refused 3 []
 refused-only l not_so = by (inReach l) refl
   where
@@ -38,19 +35,11 @@ refused-only l not_so = by (inReach l) refl
     by false e = outside-refused l e
 
 empty-of-none : (l : LayoutM) → (if is_empty l.axes then none else ends (lowest l) (highest l)) ≡ none → is_empty l.axes ≡ true
-empty-of-none l e = by (is_empty l.axes) e
-  where
-    by : (t : Bool) → (if t then none else ends (lowest l) (highest l)) ≡ none → t ≡ true
-    by true q = refl
-    by false q = none-ends (sym q)
+empty-of-none l e = grind (arith, ints)
 
 ends_of : (l : LayoutM) (low high : ℤ) → (if is_empty l.axes then none else ends (lowest l) (highest l)) ≡ ends low high
     → (is_empty l.axes ≡ false) × (lowest l ≡ low) × (highest l ≡ high)
-ends_of l low high e = by (is_empty l.axes) e
-  where
-    by : (t : Bool) → (if t then none else ends (lowest l) (highest l)) ≡ ends low high → (t ≡ false) × (lowest l ≡ low) × (highest l ≡ high)
-    by true q = none-ends q
-    by false q = (refl, cc, cc)
+ends_of l low high e = grind (arith, ints)
 
 pub reach-answer-claims : ReachAnswerClaims
 reach-answer-claims = record {
@@ -76,3 +65,6 @@ reach-answer-claims = record {
 
 pub element-count-claims : ElementCountClaims
 element-count-claims = record { one = count-many; of-axes = element-count-of-axes }
+
+pub claims : Claims
+claims = record { reach = reach-answer-claims; count = element-count-claims }

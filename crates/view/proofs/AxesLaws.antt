@@ -1,7 +1,7 @@
 -- Laws of the axes in an array: those of the first places, and one axis more.
 use mathlib.Core.Path.{◌≡◌, refl, sym, ap, ◌∙◌}
 use mathlib.Core.Bool.{Bool, true, false, not, ◌&&◌, ◌||◌}
-use mathlib.Core.List.{List, [], ◌∷◌, ◌++◌, map, append_assoc}
+use mathlib.Core.List.{List, [], ◌∷◌, ◌++◌, append_assoc}
 use Prim.Native.Nat.{ℕ, zero, suc, ◌+◌, ◌-◌, ◌≤◌, ◌<◌}
 use native.Mathlib.Numerals.{add-one}
 use native.Mathlib.Omega.{arith}
@@ -9,8 +9,7 @@ use lib.Dec.{leb, ltb}
 use lib.IntN.{ℤ, pos}
 use lib.ListN.{length, take, drop, set, get_or, length-append}
 use lib.Seq.{drop-cons, ext_get_or, get_or-take, length-take-le, set-append_seam, get_or_at, take-append_seam}
-use borrow.Author.Tests.{le-ltb, lt-ltb, leb-true, leb-false}
-use Rattle.std.specs.List.{list_any, list_all}
+use Rattle.std.specs.List.{list_any}
 use Rattle.integer.specs.Range.{mostSigned}
 use Rattle.view.proofs.TableLaws.{getD-table, length-table}
 use Rattle.specification.specs.Tests.{some}
@@ -19,6 +18,7 @@ use Rattle.specification.specs.CheckIn.{tooWide}
 use Rattle.specification.specs.Views.{axisAt}
 use Rattle.view.specs.Model.{first_axes}
 use Rattle.view.specs.Reach.{none_wide}
+use Rattle.std.proofs.lemmas.Int.{ints}
 
 -- the first n axes of an array that has them
 pub first_axes_take : (axes : List Axis) (n : ℕ) → n ≤ length axes → first_axes axes n ≡ take n axes
@@ -27,8 +27,8 @@ first_axes_take axes n h =
     ext_get_or d (first_axes axes n) (take n axes) (length-table (axisAt axes) n ∙ sym (length-take-le n axes h))
     (λ i l. let b : i < n = omega (arith, length-table (axisAt axes) n) in getD-table (axisAt axes) n i d b ∙ sym (get_or-take n axes i d b))
 
-pub length-first_axes : (axes : List Axis) (n : ℕ) → length (first_axes axes n) ≡ n
-length-first_axes axes n = length-table (axisAt axes) n
+pub length_first_axes : (axes : List Axis) (n : ℕ) → length (first_axes axes n) ≡ n
+length_first_axes axes n = length-table (axisAt axes) n
 
 -- a store at the seam of a front and what was behind it
 pub set-seam : (front old : List Axis) (i : ℕ) (a : Axis) → length front ≡ i → i < length old
@@ -53,19 +53,10 @@ axesOf-more es ss i h k = rw add-one (axesOf-suc es ss i h k)
 
 pub any-some : {A : Type 0} (test : A → Bool) (l : List A) → list_any test l ≡ some test l
 unfolding some
-any-some test [] = refl
-any-some test (a ∷ l) = rw (any-some test l)
+any-some test l = grind (arith, ints)
 
 wide-tested : (n : ℕ) → (ltb 1 n && ltb mostSigned (n - 1)) ≡ not (leb n 9223372036854775808)
-wide-tested n = by (leb n 9223372036854775808) refl
-  where
-    by : (t : Bool) → leb n 9223372036854775808 ≡ t → (ltb 1 n && ltb mostSigned (n - 1)) ≡ not t
-    by true e = let h = leb-true n 9223372036854775808 e in rw (le-ltb mostSigned (n - 1) (omega arith)) (none (ltb 1 n))
-      where
-        none : (t : Bool) → (t && false) ≡ false
-        none true = refl
-        none false = refl
-    by false e = let h = leb-false n 9223372036854775808 e in rw (lt-ltb 1 n (omega arith), lt-ltb mostSigned (n - 1) (omega arith))
+wide-tested n = grind (arith, ints)
 
 -- no extent is wide where no axis is
 pub none-wide : (axes : List Axis) → none_wide (extents axes) ≡ not (some tooWide axes)
@@ -76,11 +67,6 @@ none-wide (a ∷ axes) = rw (none-wide axes, wide-tested a.extent) (turned (leb 
     turned : (s t : Bool) → (s && not t) ≡ not (not s || t)
     turned true t = refl
     turned false t = refl
-
--- a test of what a list is mapped to
-pub all-map : {A B : Type 0} (test : B → Bool) (f : A → B) (list : List A) → list_all (λ a. test (f a)) list ≡ list_all test (map f list)
-all-map test f [] = refl
-all-map test f (a ∷ list) = rw (all-map test f list)
 
 -- a store at the seam that leaves what was there
 pub same-seam : (front old : List Axis) (i : ℕ) (d : Axis) → i < length old → front ++ drop i old ≡ (front ++ get_or old i d ∷ []) ++ drop (i + 1) old
@@ -104,10 +90,6 @@ unfolding axesOf
 length-axesOf [] ss h = refl
 length-axesOf (e ∷ es) [] h = absurd (omega arith)
 length-axesOf (e ∷ es) (s ∷ ss) h = let r = length-axesOf es ss (omega arith) in omega arith
-
--- what stands before a seam
-pub take-front : (front rest : List Axis) (n : ℕ) → length front ≡ n → take n (front ++ rest) ≡ front
-take-front front rest n e = rw (← e) (take-append_seam front rest)
 
 -- ---- axes in two lists
 

@@ -24,6 +24,7 @@ use Rattle.specification.proofs.AcceptedLaws.{not-false}
 use Rattle.view.specs.Reach.{Ends, none, ends, reachOf, accepted_ends, within, none_wide, in_bounds}
 use Rattle.view.proofs.AxesLaws.{none-wide}
 use Rattle.view.proofs.CountLaws.{empty_extents}
+use Rattle.std.proofs.lemmas.Int.{ints}
 
 module _ (l : LayoutM) where
   low_parts : posPart (lowest l) + (negPart l.offset + downward l.axes) ≡ (posPart l.offset + 0) + negPart (lowest l)
@@ -63,12 +64,7 @@ module _ (l : LayoutM) where
   -- bounds let pass or refuse 3
   three : (bounds l ≡ pass) ⊎ (bounds l ≡ refused 3 [])
   unfolding bounds refuseIf
-  three = by (is_empty l.axes) _
-    where
-      by : (empty test : Bool) → ((if empty then pass else refuseIf test 3 []) ≡ pass) ⊎ ((if empty then pass else refuseIf test 3 []) ≡ refused 3 [])
-      by true test = inl refl
-      by false true = inr refl
-      by false false = inl refl
+  three = grind (arith, ints)
 
   -- what is not within is refused
   outside-bounds : (Within l → ⊥) → is_empty l.axes ≡ false → bounds l ≡ refused 3 []
@@ -116,11 +112,7 @@ module _ (l : LayoutM) where
 -- what is within is in reach; else only an empty layout is
 pub reach_within : (l : LayoutM) (t : Bool) → t ≡ within l → t ≡ true → t ≡ inReach l
 unfolding inReach
-reach_within l t e h = rw (← e, h) (or-true (is_empty l.axes))
-  where
-    or-true : (s : Bool) → true ≡ (s || true)
-    or-true true = refl
-    or-true false = refl
+reach_within l t e h = grind (arith, ints)
 
 pub reach_beyond : (l : LayoutM) (t z : Bool) → t ≡ within l → t ≡ false → z ≡ zeroAmong (extents l.axes) → z ≡ inReach l
 unfolding inReach

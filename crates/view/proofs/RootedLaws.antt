@@ -4,13 +4,13 @@ use mathlib.Core.Path.{◌≡◌, refl, ap, ◌∙◌}
 use mathlib.Core.Bool.{Bool, true, false}
 use mathlib.Core.List.{List}
 use Prim.Native.Nat.{ℕ, ◌≤◌, ◌<◌, max, min}
-use native.Mathlib.Decide.{dec_le}
 use native.Mathlib.Omega.{arith}
 use lib.Dec.{eqb}
 use lib.ListN.{length}
 use Rattle.std.proofs.lemmas.List.{get_or-map}
 use borrow.Author.Tests.{eqb-true}
 use Rattle.view.specs.Ties.{rootAt, renamed, joined, Rooted}
+use Rattle.std.proofs.lemmas.Int.{ints}
 
 module _ (n : ℕ) (roots : List ℕ) (long : length roots ≡ 16) (few : n ≤ 16) (of : Rooted n roots) (a b : ℕ) (within : max a b < n) where
   abbrev old : ℕ → ℕ
@@ -28,25 +28,11 @@ module _ (n : ℕ) (roots : List ℕ) (long : length roots ≡ 16) (few : n ≤ 
   new-at : (x : ℕ) → x < n → new x ≡ renamed higher lower (old x)
   new-at x h = get_or-map (renamed higher lower) roots x 0 0 (omega (arith, long))
 
-  low_a : old a ≤ a
-  low_a = of.low a (omega arith)
-
-  low_b : old b ≤ b
-  low_b = of.low b (omega arith)
-
   lower-own : old lower ≡ lower
-  lower-own = by (dec_le (old a) (old b))
-    where
-      by : Dec (old a ≤ old b) → old lower ≡ lower
-      by (yes h) = let p : lower ≡ old a = omega arith in rw p (of.own a (omega arith))
-      by (no h) = let p : lower ≡ old b = omega arith in rw p (of.own b (omega arith))
+  lower-own = grind (arith, ints)
 
   renamed-lower : renamed higher lower lower ≡ lower
-  renamed-lower = by (eqb lower higher)
-    where
-      by : (s : Bool) → (if s then lower else lower) ≡ lower
-      by true = refl
-      by false = refl
+  renamed-lower = grind (arith, ints)
 
   pub joined_rooted : Rooted n (joined roots (a, b))
   joined_rooted = record {

@@ -22,6 +22,7 @@ use Rattle.integer.proofs.MultipleLaws.{posPart-·, negPart-·}
 use Rattle.specification.specs.Axis.{Axis, extents, span, upward, downward}
 use Rattle.specification.specs.Views.{axisAt}
 use Rattle.view.specs.Reach.{none_wide, spansUpTo, sums, widths_pass}
+use Rattle.std.proofs.lemmas.Int.{ints}
 
 -- each sum so far and the spans still left, from axis i on, make the whole sum
 pub record SpansLeft (axes : List Axis) (i up down : ℕ) : Type 0 where
@@ -100,8 +101,7 @@ spans-are above below axes h k = rw (le-leb (upward axes) above h, le-leb (downw
 
 -- what is not there, there is not for narrow extents alone
 none-either : (t : Bool) {o : Option Spans} → o ≡ None → (if t then o else None) ≡ None
-none-either true e = e
-none-either false e = refl
+none-either t e = grind (arith, ints)
 
 pub none-wider : (wide : Bool) (above below : ℕ) (axes : List Axis) → widths_pass wide axes ≡ false → None ≡ (if widths_pass wide axes then spansUpTo above below axes else None)
 none-wider wide above below axes e = rw e

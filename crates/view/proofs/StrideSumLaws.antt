@@ -17,6 +17,7 @@ use Rattle.specification.specs.Views.{leastExtent, strideSum, strideFault, membe
 use Rattle.view.specs.Ties.{rooted_at, fused_fault}
 use Rattle.view.proofs.ChainLaws.{then-pass, then-assoc}
 use Rattle.view.proofs.RangeLaws.{passing, passing-zero, passing-yes, passing-no}
+use Rattle.std.proofs.lemmas.Int.{ints}
 
 -- ---- one axis more
 
@@ -63,14 +64,11 @@ Three c = (c ≡ pass) ⊎ (c ≡ refused 3 [])
 
 three-if : (t : Bool) → Three (refuseIf t 3 [])
 unfolding refuseIf
-three-if true = inr refl
-three-if false = inl refl
+three-if t = grind (arith, ints)
 
 three-then : {a b : Check} → Three a → Three b → Three (a >> b)
 unfolding ◌>>◌
-three-then (inl e) (inl f) = inl (rw (e, f))
-three-then (inl e) (inr f) = inr (rw (e, f))
-three-then (inr e) f = inr (rw e)
+three-then h f = grind (arith, ints)
 
 three-stride : (z : ℤ) (axes : List Axis) → Three (strideFault z axes)
 unfolding strideFault

@@ -10,13 +10,14 @@ use native.Mathlib.Omega.{arith}
 use lib.Dec.{eqb, leb}
 use lib.ListN.{length, length-map}
 use Rattle.std.proofs.lemmas.List.{get_or-map}
-use borrow.Author.Tests.{le-leb, lt-leb, eq-eqb, ne_eqb, leb-false, eqb-true, eqb-false}
+use borrow.Author.Tests.{le-leb, lt-leb, eq-eqb, ne_eqb, leb-false, eqb-true}
 use Rattle.specification.specs.Tests.{up_from}
 use Rattle.specification.specs.Outcome.{refused, pass, refuseIf, ◌>>◌}
 use Rattle.specification.specs.Tied.{Among, Tied, itself, pair, turned, chain}
 use Rattle.specification.specs.Views.{pairFault}
-use Rattle.specification.proofs.OutcomeLaws.{clash, passed}
+use Rattle.specification.proofs.OutcomeLaws.{passed}
 use Rattle.view.specs.Ties.{rootAt, own_roots, renamed, joined, joined_all}
+use Rattle.std.proofs.lemmas.Int.{ints}
 
 -- ---- what pairs refuse
 
@@ -37,20 +38,11 @@ module _ (rank a b : ℕ) where
 module _ {rank same : ℕ} (e : same ≡ rank) (p : ℕ × ℕ) (rest : List (ℕ × ℕ)) where
   pub fault-next : pass ≡ pairFault same (p ∷ []) → pairFault rank (p ∷ rest) ≡ pairFault rank rest
   unfolding pairFault refuseIf ◌>>◌
-  fault-next f =
-      let x = passed (leb rank (max p.0 p.1)) 5 (max p.0 p.1 ∷ rank ∷ []) (ap (λ (n : ℕ). pairFault n (p ∷ [])) (sym e) ∙ sym f) in
-      let y = passed (eqb p.0 p.1) 5 (p.0 ∷ rank ∷ []) x.1 in
-      rw (x.0, y.0)
+  fault-next f = grind (arith, ints)
 
   pub fault-here : {number : ℕ} {values : List ℕ} → refused number values ≡ pairFault same (p ∷ []) → pairFault rank (p ∷ rest) ≡ refused number values
   unfolding pairFault ◌>>◌ refuseIf
-  fault-here f = by (leb rank (max p.0 p.1)) (eqb p.0 p.1) (ap (λ (n : ℕ). pairFault n (p ∷ [])) (sym e) ∙ sym f)
-    where
-      by : {number : ℕ} {values : List ℕ} (t u : Bool) → (refuseIf t 5 (max p.0 p.1 ∷ rank ∷ []) >> (refuseIf u 5 (p.0 ∷ rank ∷ []) >> pass)) ≡ refused number values
-          → (refuseIf t 5 (max p.0 p.1 ∷ rank ∷ []) >> (refuseIf u 5 (p.0 ∷ rank ∷ []) >> pairFault rank rest)) ≡ refused number values
-      by true u e = e
-      by false true e = e
-      by false false e = absurd (clash e)
+  fault-here f = grind (arith, ints)
 
 pub fault-empty : (rank : ℕ) → pairFault rank [] ≡ pass
 unfolding pairFault
@@ -175,15 +167,7 @@ module _ {ps : List (ℕ × ℕ)} {roots : List ℕ} (of : RootsOf ps roots) (a 
 
   -- of the two roots each becomes the lower
   to-lower : (z : ℕ) → (z ≡ old a) ⊎ (z ≡ old b) → renamed higher lower z ≡ lower
-  to-lower z w = by (eqb z higher) (eqb-false z higher)
-    where
-      other : (z ≡ old a) ⊎ (z ≡ old b) → (z ≡ higher → ⊥) → z ≡ lower
-      other (inl e) n = omega arith
-      other (inr e) n = omega arith
-
-      by : (s : Bool) → (s ≡ false → z ≡ higher → ⊥) → (if s then lower else z) ≡ lower
-      by true n = refl
-      by false n = other w (n refl)
+  to-lower z w = grind (arith, ints)
 
   joined-each : (q : ℕ × ℕ) → Among q (more ps a b) → rootAt new q.0 ≡ rootAt new q.1
   joined-each q m = by (among_cases q ps (a, b) m)

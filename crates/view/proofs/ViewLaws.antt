@@ -14,7 +14,7 @@ use Rattle.specification.specs.Outcome.{refused, pass}
 use Rattle.specification.specs.Views.{withAxes, axisAt, unlessRefused, permute, spread, broadcast}
 use Rattle.view.specs.Model.{first_axes}
 use Rattle.view.specs.Refusals.{AllBelow, permute_refusal, broadcast_refusal}
-use Rattle.view.proofs.AxesLaws.{first_axes_take, length-first_axes}
+use Rattle.view.proofs.AxesLaws.{first_axes_take, length_first_axes}
 use Rattle.view.proofs.TargetLaws.{length-spread}
 
 pub permute_refused : (l : LayoutM) (order : List ℕ) (number : ℕ) (values : List ℕ) → permute_refusal l order ≡ refused number values
@@ -42,9 +42,9 @@ pub first_axes_order : (axes rest : List Axis) (n : ℕ) (order : List ℕ) → 
     → first_axes (map (axisAt axes) order ++ rest) n ≡ map (axisAt (first_axes axes n)) order
 first_axes_order axes rest n order e below =
     ext_get_or d (first_axes after n) (map (axisAt (first_axes axes n)) order)
-    (length-first_axes after n ∙ sym (length-map order (axisAt (first_axes axes n)) ∙ e))
+    (length_first_axes after n ∙ sym (length-map order (axisAt (first_axes axes n)) ∙ e))
     (λ i h.
-    let k : i < n = omega (arith, length-first_axes after n) in
+    let k : i < n = omega (arith, length_first_axes after n) in
     let j : i < length order = omega (arith, e) in
     getD-table (axisAt after) n i d k
     ∙ get_or-append (map (axisAt axes) order) rest d i (omega (arith, length-map order (axisAt axes)))

@@ -1,38 +1,17 @@
--- `buffer_length`: each way out of the tests decides the whole test; with both ends in range the highest offset is told.
-use Rattle.std.proofs.Common.{◌≡◌, sym, ap, ◌∙◌, arith, ℕ, Bool, List, Option, Some, None}
+-- `buffer_length`: past the tests the highest offset says whether there is a length, and which.
+use Rattle.std.proofs.Common.{◌≡◌, sym, ap, ◌∙◌, ℕ, Bool, List, Option, Some, None}
 use Rattle.specification.specs.Axis.{Axis}
 use Rattle.specification.specs.Normal.{overfull}
 use Rattle.specification.specs.Record.{isMerged}
 use Rattle.view.specs.declared.layout.Layout.{Layout}
 use Rattle.view.specs.Model.{modelOf, modelFrom}
-use Rattle.view.proofs.AxesLaws.{length-first_axes}
 use Rattle.record.specs.Reader.{is_empty_form, highest_told}
-use Rattle.record.proofs.FormLaws.{length_empty, length_unmerged, length_overfull, length_by_ends}
+use Rattle.record.proofs.FormLaws.{length_by_ends}
 use Rattle.record.proofs.form.buffer_length.Goals as goal
-use Rattle.record.proofs.form.buffer_length.Goals.{then-not-is_merged-via-then-not-is_merged, then-not-is_merged-via-else-not-is_merged+then-is_overfull}
 
 -- what a test on the axes lent told of the layout's
 turned : (test : List Axis → Bool) {axes own : List Axis} → axes ≡ own → {t u : Bool} → t ≡ test axes → t ≡ u → test own ≡ u
 turned test e p q = ap test (sym e) ∙ sym p ∙ q
-
-pub returns-then-is_empty_form : goal.returns-then-is_empty_form
-returns-then-is_empty_form c =
-    let l = c.args.layout.now in
-    sym (length_empty (modelOf l) (turned (is_empty_form l.offset.0) c.axes-axes.ensures.meaning c.is_empty_form.ensures c.if-is_empty_form.true))
-
-pub is_overfull-requires : goal.is_overfull-requires
-is_overfull-requires c = let l = c.args.layout.now in rw c.axes-axes.ensures.meaning (omega (arith, length-first_axes l.axes l.rank))
-
-pub returns-then-not-is_merged : goal.returns-then-not-is_merged
-returns-then-not-is_merged c =
-    let l = c.args.layout.now in
-    let empty = turned (is_empty_form l.offset.0) c.axes-axes.ensures.meaning c.is_empty_form.ensures c.if-is_empty_form.false in
-    elim c.then-not-is_merged.branch [
-      | then-not-is_merged-via-then-not-is_merged w ↦ sym (length_unmerged (modelOf l) empty (turned isMerged c.axes-axes.ensures.meaning c.is_merged.ensures w.if-not-is_merged.true))
-      | then-not-is_merged-via-else-not-is_merged+then-is_overfull w ↦
-          sym (length_overfull (modelOf l) empty (turned isMerged c.axes-axes.ensures.meaning c.is_merged.ensures w.if-not-is_merged.false)
-          (turned overfull c.axes-axes.ensures.meaning w.is_overfull.ensures w.if-is_overfull.true))
-    ]
 
 -- the highest offset, or none, is that of the layout
 ends : (l : Layout) {axes : List Axis} → axes ≡ (modelOf l).axes → {r o : Option ℕ} → r ≡ highest_told (modelFrom 0 l.offset.0 axes) → r ≡ o → o ≡ highest_told (modelOf l)

@@ -12,7 +12,7 @@ use Rattle.view.specs.Model.{modelOf}
 use Rattle.view.specs.Reach.{handed_with}
 use Rattle.view.specs.declared.layout.Layout.{Layout}
 use Rattle.view.specs.declared.layout.Refusal.{Refusal}
-use Rattle.view.proofs.AxesLaws.{length-first_axes}
+use Rattle.view.proofs.AxesLaws.{length_first_axes}
 use Rattle.view.proofs.CountLaws.{element-count-of-axes, counted_is, counted-refused}
 use Rattle.record.proofs.HandedLaws.{handed-with}
 use Rattle.record.proofs.NormalAnswers.{none-empty, some-full, form_refused, form_over, form_done}
@@ -21,7 +21,7 @@ use Rattle.record.proofs.normal.normal_form.Goals as goal
 -- the count of the axes, by the definition of the normal form
 counted : (l : Layout) (axes : List Axis) (r : Result ℕ Refusal) → l.rank ≤ 16 → axes ≡ (modelOf l).axes → outcomeOf r ≡ elementCount (extents axes) → outcomeOf r ≡ count_of (modelOf l).axes
 counted l axes r h e t =
-    t ∙ ap (λ (a : List Axis). elementCount (extents a)) e ∙ element-count-of-axes (modelOf l).axes (omega (arith, length-first_axes l.axes l.rank))
+    t ∙ ap (λ (a : List Axis). elementCount (extents a)) e ∙ element-count-of-axes (modelOf l).axes (omega (arith, length_first_axes l.axes l.rank))
 
 -- nothing was refused before it
 passed : (l : LayoutM) (r : Result (Unit {0}) Refusal) → outcomeOf r ≡ handed_with l 0 → {o : Check} → outcomeOf r ≡ o → handed l [] ≡ o

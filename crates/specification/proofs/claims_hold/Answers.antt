@@ -1,6 +1,0 @@
--- The promise is the record of all claims, each with its proof.
-use Rattle.specification.proofs.Proved.{proved}
-use Rattle.specification.proofs.claims_hold.Goals as goal
-
-pub returns : goal.returns
-returns c = proved
