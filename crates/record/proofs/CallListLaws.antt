@@ -15,32 +15,29 @@ use Rattle.record.specs.CallList.{call_of, wellFormed, first_of, calls_within, c
 
 -- ---- the calls, one after another
 
--- a larger bound finds the same calls
+-- what is made of a list call by call is the same for each bound that is as long as the list
+module _ {R : Type 0} (made : ℕ → List ℕ → R) (end : R) (on : ℕ → ℕ → List ℕ → R → R) (none : (list : List ℕ) → made zero list ≡ end)
+    (empty : (n : ℕ) → made (suc n) [] ≡ end) (one : (n kind : ℕ) → made (suc n) (kind ∷ []) ≡ end)
+    (more : (n kind count : ℕ) (rest : List ℕ) → made (suc n) (kind ∷ count ∷ rest) ≡ on kind count rest (made n (drop count rest))) where
+  bound : (m n : ℕ) (list : List ℕ) → length list ≤ m → length list ≤ n → made m list ≡ made n list
+  bound zero zero list h k = refl
+  bound zero (suc n) [] h k = none [] ∙ sym (empty n)
+  bound zero (suc n) (a ∷ list) h k = absurd (omega arith)
+  bound (suc m) zero [] h k = empty m ∙ sym (none [])
+  bound (suc m) zero (a ∷ list) h k = absurd (omega arith)
+  bound (suc m) (suc n) [] h k = empty m ∙ sym (empty n)
+  bound (suc m) (suc n) (kind ∷ []) h k = one m kind ∙ sym (one n kind)
+  bound (suc m) (suc n) (kind ∷ count ∷ rest) h k =
+      let d = length-drop count rest in
+      more m kind count rest ∙ ap (on kind count rest) (bound m n (drop count rest) (omega arith) (omega arith)) ∙ sym (more n kind count rest)
+
 calls-bound : (m n : ℕ) (list : List ℕ) → length list ≤ m → length list ≤ n → calls_within m list ≡ calls_within n list
 unfolding calls_within
-calls-bound zero zero list h k = refl
-calls-bound zero (suc n) [] h k = refl
-calls-bound zero (suc n) (a ∷ list) h k = absurd (omega arith)
-calls-bound (suc m) zero [] h k = refl
-calls-bound (suc m) zero (a ∷ list) h k = absurd (omega arith)
-calls-bound (suc m) (suc n) [] h k = refl
-calls-bound (suc m) (suc n) (kind ∷ []) h k = refl
-calls-bound (suc m) (suc n) (kind ∷ count ∷ rest) h k =
-    let d = length-drop count rest in
-    ap (λ (l : List Call). if wellFormed kind count rest then call_of kind (take count rest) ∷ l else []) (calls-bound m n (drop count rest) (omega arith) (omega arith))
+calls-bound = bound calls_within [] (λ kind count rest calls. if wellFormed kind count rest then call_of kind (take count rest) ∷ calls else []) (λ list. refl) (λ n. refl) (λ n kind. refl) (λ n kind count rest. refl)
 
 taken-bound : (m n : ℕ) (list : List ℕ) → length list ≤ m → length list ≤ n → takenWithin m list ≡ takenWithin n list
 unfolding takenWithin
-taken-bound zero zero list h k = refl
-taken-bound zero (suc n) [] h k = refl
-taken-bound zero (suc n) (a ∷ list) h k = absurd (omega arith)
-taken-bound (suc m) zero [] h k = refl
-taken-bound (suc m) zero (a ∷ list) h k = absurd (omega arith)
-taken-bound (suc m) (suc n) [] h k = refl
-taken-bound (suc m) (suc n) (kind ∷ []) h k = refl
-taken-bound (suc m) (suc n) (kind ∷ count ∷ rest) h k =
-    let d = length-drop count rest in
-    ap (λ (x : ℕ). if wellFormed kind count rest then 2 + count + x else 0) (taken-bound m n (drop count rest) (omega arith) (omega arith))
+taken-bound = bound takenWithin 0 (λ kind count rest taken. if wellFormed kind count rest then 2 + count + taken else 0) (λ list. refl) (λ n. refl) (λ n kind. refl) (λ n kind count rest. refl)
 
 module _ (kind count : ℕ) (rest : List ℕ) where
   -- a call that is well-formed, and those after it

@@ -25,10 +25,10 @@ module _ (bytes scratch : List ℕ) where
     -- 9
     pub reading-unjudged : {number : ℕ} {values : List ℕ} {answer : Outcome LayoutM} {scratch-then : List ℕ} → judge f.layout.axes (length scratch) ≡ refused number values
         → ScratchAfter (freedBy (judge f.layout.axes (length scratch))) scratch scratch-then → answer ≡ layout_read (refused number values) → Reading bytes scratch answer scratch-then
-    unfolding ◌>>=◌
+    unfolding ◌>>=◌ freedBy
     reading-unjudged {number} {values} j s a =
         let q : read_of bytes (length scratch) ≡ refused number values = read-by-front bytes (length scratch) ∙ rw (e, j) in
-        record { answer-is = a ∙ sym (ap layout_read q); scratch-is = rw (frees-done bytes (length scratch) e) s }
+        record { answer-is = a ∙ sym (ap layout_read q); scratch-is = rw (frees-done bytes (length scratch) e, j) (rw j at s) }
 
     -- 11 for a false verdict: the words needed are free
     pub reading-false : {j : Judged} {answer : Outcome LayoutM} {scratch-then : List ℕ} → judge f.layout.axes (length scratch) ≡ done j → verdictByte j.answer ≢ f.verdict
