@@ -1,3 +1,4 @@
+pub mod Ended
 pub mod Names
 pub mod Obeyed
 pub mod Replies

@@ -1,4 +1,8 @@
 // Why the program ends before its input does.
+ghost use Rattle.std.specs.Prelude.{◌≡◌, ◌↔◌, IsTrue};
+ghost use Rattle.commands.specs.declared.failure.Failure.TheVariants.{Memory};
+ghost use Rattle.commands.specs.Ended.{IsClosedPipe};
+
 use std::alloc::AllocError;
 use std::io;
 use thiserror::Error;
@@ -15,12 +19,16 @@ pub enum Failure {
 
 impl Failure {
     /// Whether the reader of the answers has closed its end: it has read all that it wanted.
-    pub fn is_closed_pipe(&self) -> bool {
+    pub fn is_closed_pipe(&self) -> bool
+        ensures { IsTrue result ↔ IsClosedPipe self.now }
+    {
         matches!(self, Failure::Write(error) if error.kind() == io::ErrorKind::BrokenPipe)
     }
 }
 
 impl From<AllocError> for Failure {
+    ghost from_gives = { λ _ failure. failure ≡ Memory };
+
     fn from(_error: AllocError) -> Failure {
         Failure::Memory
     }

@@ -1,7 +1,9 @@
 // Standard input a line at a time, each answered in order on standard output.
-ghost use Rattle.std.specs.Prelude.{false, ◌≡◌, ◌≢◌, ◌↔◌, ◌⊎◌, ◌<◌, ◌++◌, ◌∷◌, [], Some, IfSome, Ok, OnOk, IsTrue, All, length, take, slice_get};
+ghost use Rattle.std.specs.Prelude.{false, ◌≡◌, ◌≢◌, ◌↔◌, ◌⊎◌, ◌<◌, ◌≤◌, ◌++◌, ◌∷◌, [], Some, IfSome, Ok, OnOk, IsTrue, All, length, take, slice_get};
 ghost use Rattle.std.specs.Io.BufRead.{ends_with_byte, first_piece, strip_last};
 ghost use Rattle.std.specs.Io.KnownBytes.{Appends};
+ghost use Rattle.std.specs.Process.{exit_status};
+ghost use Rattle.commands.specs.Ended.{IsSuccess};
 ghost use Rattle.commands.specs.Texts.{long_line};
 
 use crate::failure::Failure;
@@ -133,9 +135,12 @@ fn answer_input(rt: &HostRuntime) -> Result<(), Failure> {
     answer_all(alloc, input, out)
 }
 
-/// Reads standard input to its end. What fails is told on standard error behind the program's name, and is status 1.
-pub fn run(rt: HostRuntime, program: &str) -> ExitCode {
-    match answer_input(&rt) {
+// The status to end with. What failed is told on standard error behind the program's name, but for a closed pipe.
+fn status(rt: &HostRuntime, program: &str, ended: Result<(), Failure>) -> ExitCode
+    ensures success { (exit_status result ≡ 0) ↔ IsSuccess ended }
+    ensures few { exit_status result ≤ 1 }
+{
+    match ended {
         Ok(()) => ExitCode::SUCCESS,
         Err(failure) if failure.is_closed_pipe() => ExitCode::SUCCESS,
         Err(failure) => {
@@ -144,4 +149,12 @@ pub fn run(rt: HostRuntime, program: &str) -> ExitCode {
             ExitCode::FAILURE
         }
     }
+}
+
+/// Answers standard input to its end. Status 0 there, or where the reader of the answers has closed the pipe; 1 where something fails.
+pub fn run(rt: HostRuntime, program: &str) -> ExitCode
+    ensures { exit_status result ≤ 1 }
+{
+    let ended = answer_input(&rt);
+    status(&rt, program, ended)
 }
