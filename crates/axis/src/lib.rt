@@ -1,18 +1,23 @@
 //! An axis of a strided layout, and an active axis as the verdict looks at it.
 #![tactic(auto)]
 
-/// An extent, and a stride counted in readings.
+/// An axis of a layout. It crosses to C as it is.
 #[repr(C)]
 #[derive(Clone, Copy, Debug, PartialEq, Eq)]
 pub struct Axis {
+    /// How many indices there are, from 0 on. With 0 the layout has no position.
     pub extent: u64,
+    /// How many readings the next index lies further on; below 0 it lies before.
     pub stride: i64,
 }
 
-/// An axis whose extent is above 1: its number in the layout, its extent, and its stride without its sign.
+/// An axis whose extent is above 1, as the verdict looks at it.
 #[derive(Clone, Copy, Debug, PartialEq, Eq)]
 pub struct ActiveAxis {
+    /// Its number in the layout.
     pub axis: usize,
+    /// Its extent.
     pub extent: u64,
+    /// Its stride in readings, without its sign.
     pub stride: u64,
 }

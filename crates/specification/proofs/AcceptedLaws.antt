@@ -108,7 +108,7 @@ old-or-new P l n c a f = grind (arith, ints)
 permute-keeps : (l : LayoutM) (order : List ℕ) → Accepted l → Accepted (permute l order).layout
 unfolding permute
 permute-keeps l order a = old-or-new Accepted l _ _ a (λ e.
-    let p = passed-check (handed l order) e in
+    let p = passed-check (handed l (length order)) e in
     let q = passed (not (eqb (length order) (rank l))) 4 (length order ∷ rank l ∷ []) p.1 in
     let n : length order ≡ rank l = eqb-true (length order) (rank l) (not-false (eqb (length order) (rank l)) q.0) in
     let s : (g : Axis → ℕ) → sumAxes g (map (axisAt l.axes) order) ≡ sumAxes g l.axes = λ g. sum-order g l.axes order ∙ whole_sum (λ i. g (axisAt l.axes i)) order (rank l) n q.1 ∙ sum-axes g l.axes in
@@ -129,7 +129,7 @@ length-kept pairs n = omega (arith, length-those (λ a. not (some (λ b. ltb b a
 diagonal-keeps : (l : LayoutM) (pairs : List (ℕ × ℕ)) → Accepted l → Accepted (diagonalView l pairs).layout
 unfolding diagonalView diagonalAxes
 diagonal-keeps l pairs a = old-or-new Accepted l _ _ a (λ e.
-    let p = passed-check (handed l []) e in
+    let p = passed-check (handed l 0) e in
     let q = passed-check (pairFault (rank l) pairs) p.1 in
     let s = passed-check (sumFaults l pairs (kept pairs (rank l))) q.1 in
     tested-no (withAxes l (map (fused l pairs) (kept pairs (rank l)))) (omega (arith, length-map (kept pairs (rank l)) (fused l pairs), length-kept pairs (rank l), a.few)) (bounds-reach (withAxes l (map (fused l pairs) (kept pairs (rank l)))) s.1))
@@ -182,7 +182,7 @@ spreads i (a ∷ r) (t ∷ ts) n e =
 broadcast-keeps : (l : LayoutM) (targets : List ℕ) → Accepted l → Accepted (broadcast l targets).layout
 unfolding broadcast
 broadcast-keeps l targets a = old-or-new Accepted l _ _ a (λ e.
-    let p = passed-check (handed l targets) e in
+    let p = passed-check (handed l (length targets)) e in
     let q = passed (not (eqb (length targets) (rank l))) 4 (rank l ∷ length targets ∷ []) p.1 in
     let n : length targets ≡ rank l = eqb-true (length targets) (rank l) (not-false (eqb (length targets) (rank l)) q.0) in
     let s = spreads 0 l.axes targets n q.1 in

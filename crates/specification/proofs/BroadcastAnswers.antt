@@ -10,10 +10,10 @@ use lib.Dec.{eqb}
 use lib.ListN.{length, get_or}
 use Rattle.specification.specs.Axis.{Axis}
 use Rattle.specification.specs.Outcome.{Check, refuseIf, ◌>>◌}
-use Rattle.specification.specs.Layout.{LayoutM, rank, Accepted}
+use Rattle.specification.specs.Layout.{LayoutM, rank, Accepted, HandedRefused}
 use Rattle.specification.specs.Views.{withAxes, axisAt, targetFault, spread, broadcast}
 use Rattle.specification.specs.ViewRules.{GoodExtent, Broadcasts, BroadcastRefused}
-use Rattle.specification.proofs.ReachClaimed.{HandedRefused, handed-answers}
+use Rattle.specification.proofs.ReachClaimed.{handed-answers}
 use Rattle.specification.proofs.AnswerRules.{Answers, Only, only, InOrder, sooner, later, FirstFault, first, restated, equal-tested, test-answers, of-answer, then-answers, in_turn, in-turn-ext, turn-answers}
 use Rattle.std.proofs.lemmas.Int.{ints}
 
@@ -51,7 +51,7 @@ module _ (l : LayoutM) (targets : List ℕ) where
   FirstBad = FirstFault (rank l) (GoodExtent l targets) (λ i. Only 6 (i ∷ []) (GoodExtent l targets i))
 
   abbrev Refused : ℕ → List ℕ → Type 0
-  Refused = InOrder (Accepted l × (length targets ≤ 16)) (HandedRefused l targets) (InOrder AsMany (Only 4 (rank l ∷ length targets ∷ []) AsMany) FirstBad)
+  Refused = InOrder (Accepted l × (length targets ≤ 16)) (HandedRefused l (length targets)) (InOrder AsMany (Only 4 (rank l ∷ length targets ∷ []) AsMany) FirstBad)
 
   target-answers : AsMany → Answers (targetFault 0 l.axes targets) AllGood FirstBad
   unfolding extentCheck
@@ -62,21 +62,19 @@ module _ (l : LayoutM) (targets : List ℕ) where
       from_zero i = ap (λ (n : ℕ). extentCheck n (axisAt l.axes i).extent (get_or targets i 0)) (zero-add i)
 
   by-rule : {n : ℕ} {vs : List ℕ} → Refused n vs → BroadcastRefused l targets n vs
-  by-rule (sooner (HandedRefused.too_many s)) = BroadcastRefused.too_many s
-  by-rule (sooner (HandedRefused.not-accepted h k f)) = BroadcastRefused.not-accepted h k f
+  by-rule (sooner h) = BroadcastRefused.handed_in h
   by-rule (later w (sooner (only f))) = BroadcastRefused.wrong-length w.0 w.1 f
   by-rule (later w (later e (first i h g (only f)))) = BroadcastRefused.bad-extent w.0 e i h g f
 
   of-rule : {n : ℕ} {vs : List ℕ} → BroadcastRefused l targets n vs → Refused n vs
-  of-rule (BroadcastRefused.too_many s) = sooner (HandedRefused.too_many s)
-  of-rule (BroadcastRefused.not-accepted h k f) = sooner (HandedRefused.not-accepted h k f)
+  of-rule (BroadcastRefused.handed_in h) = sooner h
   of-rule (BroadcastRefused.wrong-length a h f) = later (a, h) (sooner (only f))
   of-rule (BroadcastRefused.bad-extent a e i h g f) = later (a, omega (arith, a.few)) (later e (first i h g (only f)))
 
   pub broadcast-answers : Answers (broadcast l targets).answer (Broadcasts l targets) (BroadcastRefused l targets)
   unfolding broadcast
   broadcast-answers = of-answer l (withAxes l (spread l.axes targets)) (restated
-      (then-answers _ _ (handed-answers l targets) (λ w. then-answers _ _ (test-answers _ 4 (rank l ∷ length targets ∷ []) (equal-tested (length targets) (rank l))) target-answers))
+      (then-answers _ _ (handed-answers l (length targets)) (λ w. then-answers _ _ (test-answers _ 4 (rank l ∷ length targets ∷ []) (equal-tested (length targets) (rank l))) target-answers))
       (λ w. record { accepted = w.0.0; as_many = w.1.0; good = w.1.1 })
       (λ p. ((p.accepted, omega (arith, p.accepted.few, p.as_many)), (p.as_many, p.good)))
       (λ n vs r. by-rule r) (λ n vs r. of-rule r))

@@ -16,16 +16,15 @@ use Rattle.integer.specs.Range.{fits, mostSigned}
 use Rattle.specification.specs.Tests.{some}
 use Rattle.specification.specs.Axis.{is_empty, span}
 use Rattle.specification.specs.Outcome.{Check, done, pass, refuseIf, ◌>>◌}
-use Rattle.specification.specs.Layout.{LayoutM, rank, lowest, highest, Accepted, tooLong, handed}
+use Rattle.specification.specs.Layout.{LayoutM, lowest, highest, Accepted, tooLong, handed, HandedRefused}
 use Rattle.specification.specs.CheckIn.{tooWide, bounds, checkIn}
 use Rattle.specification.specs.Normal.{overfull, normalOf, normalForm}
 use Rattle.specification.specs.TestClaims.{SomeAxis}
-use Rattle.specification.specs.CheckInClaims.{OutOfBounds, wide, span-out, too-high, too-low, past-buffer, layout_of, CheckInRefused, CheckedIn, CheckInClaims, NormalRefused, not-accepted, overfull-is, NormalCallClaims}
+use Rattle.specification.specs.CheckInClaims.{OutOfBounds, wide, span-out, too-high, too-low, past-buffer, layout_of, CheckInRefused, CheckedIn, CheckInClaims, NormalRefused, handed_in, overfull-is, NormalCallClaims}
 use Rattle.specification.specs.CheckInClaims as claims
 use Rattle.specification.proofs.TestLaws.{true-not-false}
 use Rattle.specification.proofs.TestsTold.{or-holds, not-holds, some-axis, too_wide, in-range}
-use Rattle.specification.proofs.ReachClaimed.{HandedRefused, handed-answers}
-use Rattle.specification.proofs.ReachClaimed as reach
+use Rattle.specification.proofs.ReachClaimed.{handed-answers}
 use Rattle.specification.proofs.OutcomeLaws.{clash}
 use Rattle.specification.proofs.AnswerRules.{Answers, Only, only, InOrder, sooner, later, restated, test-answers, then-answers, then-assoc, done-after, equal-tested}
 use Rattle.std.proofs.lemmas.Int.{ints}
@@ -174,39 +173,33 @@ module _ (l : LayoutM) where
   abbrev eighth : Check
   eighth = refuseIf (overfull l.axes) 8 []
 
-  normal-tells : Answers (handed l [] >> eighth) (Accepted l × (overfull l.axes ≡ false)) (NormalRefused l)
+  normal-tells : Answers (handed l 0 >> eighth) (Accepted l × (overfull l.axes ≡ false)) (NormalRefused l)
   normal-tells = restated
-      (then-answers (handed l []) eighth (handed-answers l []) (λ w. test-answers (overfull l.axes) 8 [] ((λ e. e, λ e. e))))
+      (then-answers (handed l 0) eighth (handed-answers l 0) (λ w. test-answers (overfull l.axes) 8 [] ((λ e. e, λ e. e))))
       (λ w. (w.0.0, w.1)) (λ w. ((w.0, omega arith), w.1)) (λ n vs o. to o) (λ n vs o. from o)
     where
       is-over : (t : Bool) → ¬ (t ≡ false) → t ≡ true
       is-over true f = refl
       is-over false f = absurd (f refl)
 
-      one_list : (16 < rank l) ⊎ (16 < 0) → 16 < rank l
-      one_list (inl h) = h
-      one_list (inr h) = absurd (omega arith)
-
-      to : {n : ℕ} {vs : List ℕ} → InOrder (Accepted l × (0 ≤ 16)) (HandedRefused l []) (Only 8 [] (overfull l.axes ≡ false)) n vs → NormalRefused l n vs
-      to (sooner (reach.too_many s)) = claims.too_many (one_list s)
-      to (sooner (reach.not-accepted h k f)) = claims.not-accepted h f
+      to : {n : ℕ} {vs : List ℕ} → InOrder (Accepted l × (0 ≤ 16)) (HandedRefused l 0) (Only 8 [] (overfull l.axes ≡ false)) n vs → NormalRefused l n vs
+      to (sooner h) = handed_in h
       to (later w (only f)) = overfull-is w.0 (is-over (overfull l.axes) f)
 
-      from : {n : ℕ} {vs : List ℕ} → NormalRefused l n vs → InOrder (Accepted l × (0 ≤ 16)) (HandedRefused l []) (Only 8 [] (overfull l.axes ≡ false)) n vs
-      from (claims.too_many h) = sooner (reach.too_many (inl h))
-      from (claims.not-accepted h f) = sooner (reach.not-accepted h (omega arith) f)
+      from : {n : ℕ} {vs : List ℕ} → NormalRefused l n vs → InOrder (Accepted l × (0 ≤ 16)) (HandedRefused l 0) (Only 8 [] (overfull l.axes ≡ false)) n vs
+      from (handed_in h) = sooner h
       from (overfull-is a e) = later (a, omega arith) (only (λ q. true-not-false e q))
 
-  normal-chained : normalForm l ≡ (handed l [] >> eighth) >> done (normalOf l)
+  normal-chained : normalForm l ≡ (handed l 0 >> eighth) >> done (normalOf l)
   unfolding normalForm
-  normal-chained = sym (then-assoc (handed l []) eighth (done (normalOf l)))
+  normal-chained = sym (then-assoc (handed l 0) eighth (done (normalOf l)))
 
 pub normal-call-claims : NormalCallClaims
 normal-call-claims = record {
   passes = λ l x.
-      let w = done-passes (handed l [] >> eighth l) (normalOf l) x in
+      let w = done-passes (handed l 0 >> eighth l) (normalOf l) x in
       (λ e. let v = w.0 (sym (normal-chained l) ∙ e) in ((normal-tells l).passes.0 v.0, v.1), λ v. normal-chained l ∙ w.1 ((normal-tells l).passes.1 v.0, v.1));
   refuses = λ l n vs.
-      let w = done-after (handed l [] >> eighth l) (normalOf l) n vs in
+      let w = done-after (handed l 0 >> eighth l) (normalOf l) n vs in
       (λ e. ((normal-tells l).refuses n vs).0 (w.0 (sym (normal-chained l) ∙ e)), λ r. normal-chained l ∙ w.1 (((normal-tells l).refuses n vs).1 r));
 }

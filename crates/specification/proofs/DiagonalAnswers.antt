@@ -1,7 +1,7 @@
 -- diagonal_view passes and is refused exactly as its rules say: the pairs in order, then the partial sums of strides, then check-in again.
 use mathlib.Core.Bool.{true, false, not}
 use mathlib.Core.List.{List, [], ◌∷◌}
-use mathlib.Core.Logic.{◌≢◌, inl, inr}
+use mathlib.Core.Logic.{◌≢◌}
 use mathlib.Core.Path.{◌≡◌, refl, sym, ap, ◌∙◌}
 use Prim.Native.Nat.{ℕ, zero, suc, max, ◌<◌, ◌≤◌}
 use native.Mathlib.Decide.{ℕ_discrete}
@@ -13,10 +13,10 @@ use borrow.Author.Tests.{leb-false, lt-leb, eqb-false, ne_eqb, not-false}
 use Rattle.integer.specs.Range.{fits}
 use Rattle.specification.specs.Axis.{Axis}
 use Rattle.specification.specs.Outcome.{Check, refuseIf, ◌>>◌}
-use Rattle.specification.specs.Layout.{LayoutM, rank, Accepted}
+use Rattle.specification.specs.Layout.{LayoutM, rank, Accepted, HandedRefused}
 use Rattle.specification.specs.Views.{withAxes, pairFault, kept, strideSum, strideFault, members, sumFaults, diagonalAxes, diagonalView}
 use Rattle.specification.specs.ViewRules.{pair_at, GoodPair, SumsFit, Fuses, DiagonalRefused}
-use Rattle.specification.proofs.ReachClaimed.{HandedRefused, handed-answers, BoundsRefused, out-of-bounds, bounds-answers}
+use Rattle.specification.proofs.ReachClaimed.{handed-answers, BoundsRefused, out-of-bounds, bounds-answers}
 use Rattle.specification.proofs.AnswerRules.{Answers, Only, only, InOrder, sooner, later, FirstFault, first, restated, only-restated, some-refusal, test-answers, of-answer, then-answers, then-only, then-assoc, in_turn, turn-answers}
 
 -- ---- the pairs
@@ -132,12 +132,10 @@ module _ (l : LayoutM) (pairs : List (ℕ × ℕ)) where
       three w = at w.2
 
   abbrev Refused : ℕ → List ℕ → Type 0
-  Refused = InOrder (Accepted l × (0 ≤ 16)) (HandedRefused l []) (InOrder GoodPairs FirstBad (InOrder AllSums FirstOut (BoundsRefused new)))
+  Refused = InOrder (Accepted l × (0 ≤ 16)) (HandedRefused l 0) (InOrder GoodPairs FirstBad (InOrder AllSums FirstOut (BoundsRefused new)))
 
   by-rule : {n : ℕ} {vs : List ℕ} → Refused n vs → DiagonalRefused l pairs n vs
-  by-rule (sooner (HandedRefused.too_many (inl h))) = DiagonalRefused.too_many h
-  by-rule (sooner (HandedRefused.too_many (inr h))) = absurd (omega arith)
-  by-rule (sooner (HandedRefused.not-accepted h k f)) = DiagonalRefused.not-accepted h f
+  by-rule (sooner h) = DiagonalRefused.handed_in h
   by-rule (later w (sooner (first i h g b))) = bad i _ b h g
     where
       bad : (i : ℕ) (vs : List ℕ) → {n : ℕ} → BadPair (rank l) (pair_at pairs i) n vs → i < length pairs → ((j : ℕ) → j < i → GoodPair (rank l) pairs j) → DiagonalRefused l pairs n vs
@@ -147,8 +145,7 @@ module _ (l : LayoutM) (pairs : List (ℕ × ℕ)) where
   by-rule (later w (later g (later s (out-of-bounds e)))) = DiagonalRefused.not-checked w.0 g s e
 
   of-rule : {n : ℕ} {vs : List ℕ} → DiagonalRefused l pairs n vs → Refused n vs
-  of-rule (DiagonalRefused.too_many h) = sooner (HandedRefused.too_many (inl h))
-  of-rule (DiagonalRefused.not-accepted h f) = sooner (HandedRefused.not-accepted h (omega arith) f)
+  of-rule (DiagonalRefused.handed_in h) = sooner h
   of-rule (DiagonalRefused.outside a i h g o) = later (a, omega arith) (sooner (first i h g (outside o)))
   of-rule (DiagonalRefused.same-axis a i h g o e) = later (a, omega arith) (sooner (first i h g (same-axis o e)))
   of-rule (DiagonalRefused.sum-out a g p h f) = later (a, omega arith) (later g (sooner (first_out p h f)))
@@ -157,7 +154,7 @@ module _ (l : LayoutM) (pairs : List (ℕ × ℕ)) where
   pub diagonal-answers : Answers (diagonalView l pairs).answer (Fuses l pairs) (DiagonalRefused l pairs)
   unfolding diagonalView
   diagonal-answers = of-answer l new (restated
-      (then-answers _ _ (handed-answers l []) (λ w. then-answers _ _ pairs-answers (λ g. then-answers _ _ sums-answers (λ s. bounds-answers new))))
+      (then-answers _ _ (handed-answers l 0) (λ w. then-answers _ _ pairs-answers (λ g. then-answers _ _ sums-answers (λ s. bounds-answers new))))
       (λ w. record { accepted = w.0.0; good = w.1.0; sums = w.1.1.0; checked = w.1.1.1 })
       (λ f. ((f.accepted, omega arith), (f.good, (f.sums, f.checked))))
       (λ n vs r. by-rule r) (λ n vs r. of-rule r))

@@ -202,7 +202,7 @@ module _ (l : LayoutM) (pairs : List (ℕ × ℕ)) (index : List ℕ) where
         → offsetSum (diagonalView l pairs).layout.axes (map (λ a. get_or index a 0) (kept pairs (rank l))) ≡ offsetSum l.axes index
     unfolding diagonalView diagonalAxes
     fused-offset e n =
-        let c : Check = handed l [] >> pairFault (rank l) pairs >> sumFaults l pairs (kept pairs (rank l)) >> bounds (withAxes l (map (fused l pairs) (kept pairs (rank l)))) in
+        let c : Check = handed l 0 >> pairFault (rank l) pairs >> sumFaults l pairs (kept pairs (rank l)) >> bounds (withAxes l (map (fused l pairs) (kept pairs (rank l)))) in
         let s = settled l (withAxes l (map (fused l pairs) (kept pairs (rank l)))) c e in
         ap (λ (m : LayoutM). offsetSum m.axes (map y (kept pairs (rank l)))) s.becomes
         ∙ parts-ext (omega (arith, diagonal-parts (kept pairs (rank l)), all-classes posPart n, all-classes negPart n, parts l.axes index))

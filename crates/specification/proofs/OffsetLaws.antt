@@ -20,13 +20,13 @@ use Rattle.integer.proofs.MultipleLaws.{posPart-·, negPart-·}
 use Rattle.integer.proofs.PartLaws.{parts_add, parts-minus, parts-fit}
 use Rattle.specification.specs.Axis.{Axis, offsetSum, is_empty, upward, downward}
 use Rattle.specification.specs.Outcome.{Outcome, Check, done, refused, pass, refuseIf, ◌>>◌}
-use Rattle.specification.specs.Layout.{LayoutM, rank, Accepted, handed}
+use Rattle.specification.specs.Layout.{LayoutM, rank, Accepted, handed, HandedRefused}
 use Rattle.specification.specs.Views.{axisAt}
 use Rattle.specification.specs.Beside.{sumIndexed, indexedOffset}
 use Rattle.specification.specs.BesideClaims.{sumBefore, InRange, GoodIndex, OffsetRefused, OffsetClaims}
 use Rattle.specification.proofs.AnswerRules.{Answers, Only, only, InOrder, sooner, later, FirstFault, first, restated, test-answers, equal-tested, then-answers, then-assoc, done-after, in_turn, in-turn-ext, turn-answers}
 use Rattle.specification.proofs.OutcomeLaws.{refuse-yes}
-use Rattle.specification.proofs.ReachClaimed.{HandedRefused, handed-answers}
+use Rattle.specification.proofs.ReachClaimed.{handed-answers}
 use Rattle.specification.proofs.ReachLaws.{accepted-within}
 use Rattle.std.proofs.lemmas.Int.{ints}
 
@@ -93,12 +93,12 @@ module _ (l : LayoutM) (index : List ℕ) where
   FirstBad = FirstFault (rank l) (GoodIndex l index) (Bad l index)
 
   abbrev checks : Check
-  checks = handed l index >> refuseIf (not (eqb (length index) (rank l))) 4 (length index ∷ rank l ∷ []) >> in_turn (indexCheck 0 l.offset l.axes index) (rank l)
+  checks = handed l (length index) >> refuseIf (not (eqb (length index) (rank l))) 4 (length index ∷ rank l ∷ []) >> in_turn (indexCheck 0 l.offset l.axes index) (rank l)
 
   -- the call is these checks, then the sum
   offset-checked : indexedOffset l index ≡ checks >> done (l.offset +ℤ offsetSum l.axes index)
   unfolding indexedOffset
-  offset-checked = ap (λ (o : Outcome ℤ). handed l index >> o) (go (eqb (length index) (rank l)) (eqb-true (length index) (rank l))) ∙ sym (then-assoc (handed l index) _ _)
+  offset-checked = ap (λ (o : Outcome ℤ). handed l (length index) >> o) (go (eqb (length index) (rank l)) (eqb-true (length index) (rank l))) ∙ sym (then-assoc (handed l (length index)) _ _)
     where
       go : (t : Bool) → (t ≡ true → AsMany) → refuseIf (not t) 4 (length index ∷ rank l ∷ []) >> sumIndexed 0 l.offset l.axes index
           ≡ (refuseIf (not t) 4 (length index ∷ rank l ∷ []) >> in_turn (indexCheck 0 l.offset l.axes index) (rank l)) >> done (l.offset +ℤ offsetSum l.axes index)
@@ -106,25 +106,23 @@ module _ (l : LayoutM) (index : List ℕ) where
       go false f = refuse-yes 4 (length index ∷ rank l ∷ []) _ refl ∙ sym (refuse-yes 4 (length index ∷ rank l ∷ []) _ refl) ∙ sym (then-assoc _ _ _)
 
   abbrev Refused : ℕ → List ℕ → Type 0
-  Refused = InOrder (Accepted l × (length index ≤ 16)) (HandedRefused l index) (InOrder AsMany (Only 4 (length index ∷ rank l ∷ []) AsMany) FirstBad)
+  Refused = InOrder (Accepted l × (length index ≤ 16)) (HandedRefused l (length index)) (InOrder AsMany (Only 4 (length index ∷ rank l ∷ []) AsMany) FirstBad)
 
   by-rule : {n : ℕ} {vs : List ℕ} → Refused n vs → OffsetRefused l index n vs
-  by-rule (sooner (HandedRefused.too_many s)) = OffsetRefused.too_many s
-  by-rule (sooner (HandedRefused.not-accepted h k f)) = OffsetRefused.not-accepted h k f
+  by-rule (sooner h) = OffsetRefused.handed_in h
   by-rule (later w (sooner (only f))) = OffsetRefused.wrong-length w.0 w.1 f
   by-rule (later w (later e (first i h g (sooner (only f))))) = OffsetRefused.not-below w.0 e i h g (omega arith)
   by-rule (later w (later e (first i h g (later b (only f))))) = OffsetRefused.out_of_range w.0 e i h g b f
 
   of-rule : {n : ℕ} {vs : List ℕ} → OffsetRefused l index n vs → Refused n vs
-  of-rule (OffsetRefused.too_many s) = sooner (HandedRefused.too_many s)
-  of-rule (OffsetRefused.not-accepted h k f) = sooner (HandedRefused.not-accepted h k f)
+  of-rule (OffsetRefused.handed_in h) = sooner h
   of-rule (OffsetRefused.wrong-length a h f) = later (a, h) (sooner (only f))
   of-rule (OffsetRefused.not-below a e i h g b) = later (a, omega (arith, a.few)) (later e (first i h g (sooner (only (λ k. omega arith)))))
   of-rule (OffsetRefused.out_of_range a e i h g b f) = later (a, omega (arith, a.few)) (later e (first i h g (later b (only f))))
 
   offset-answers : Answers checks ((Accepted l × (length index ≤ 16)) × (AsMany × AllGood)) (OffsetRefused l index)
   offset-answers = restated
-      (then-answers _ _ (handed-answers l index) (λ w. then-answers _ _ (test-answers _ 4 (length index ∷ rank l ∷ []) (equal-tested (length index) (rank l)))
+      (then-answers _ _ (handed-answers l (length index)) (λ w. then-answers _ _ (test-answers _ 4 (length index ∷ rank l ∷ []) (equal-tested (length index) (rank l)))
       (λ e. turn-answers (indexCheck 0 l.offset l.axes index) (rank l) (λ i h. check-answers l index i))))
       (λ w. w) (λ w. w) (λ n vs r. by-rule r) (λ n vs r. of-rule r)
 

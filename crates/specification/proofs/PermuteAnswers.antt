@@ -10,11 +10,11 @@ use lib.ListN.{length, get_or, take}
 use borrow.Author.Tests.{leb-false, lt-leb, eqb-false, ne_eqb}
 use Rattle.specification.specs.Tests.{some}
 use Rattle.specification.specs.Outcome.{Check, refuseIf, ◌>>◌}
-use Rattle.specification.specs.Layout.{LayoutM, rank, Accepted}
+use Rattle.specification.specs.Layout.{LayoutM, rank, Accepted, HandedRefused}
 use Rattle.specification.specs.Views.{withAxes, axisAt, orderFault, permute}
 use Rattle.specification.specs.ViewRules.{GoodEntry, Permutes, PermuteRefused}
 use Rattle.specification.proofs.ReachLaws.{or-false}
-use Rattle.specification.proofs.ReachClaimed.{HandedRefused, handed-answers}
+use Rattle.specification.proofs.ReachClaimed.{handed-answers}
 use Rattle.specification.proofs.AnswerRules.{Answers, Only, only, InOrder, sooner, later, FirstFault, first, restated, test-answers, then-answers, only-restated, equal-tested, then-only, then-assoc, in_turn, in-turn-ext, turn-answers, of-answer}
 
 -- an entry is not among the first i exactly if it differs from each
@@ -74,11 +74,10 @@ module _ (l : LayoutM) (order : List ℕ) where
   AsMany = length order ≡ rank l
 
   abbrev Refused : ℕ → List ℕ → Type 0
-  Refused = InOrder (Accepted l × (length order ≤ 16)) (HandedRefused l order) (InOrder AsMany (Only 4 (length order ∷ rank l ∷ []) AsMany) (FirstBad (rank l) order))
+  Refused = InOrder (Accepted l × (length order ≤ 16)) (HandedRefused l (length order)) (InOrder AsMany (Only 4 (length order ∷ rank l ∷ []) AsMany) (FirstBad (rank l) order))
 
   by-rule : {n : ℕ} {vs : List ℕ} → Refused n vs → PermuteRefused l order n vs
-  by-rule (sooner (HandedRefused.too_many s)) = PermuteRefused.too_many s
-  by-rule (sooner (HandedRefused.not-accepted h k f)) = PermuteRefused.not-accepted h k f
+  by-rule (sooner h) = PermuteRefused.handed_in h
   by-rule (later w (sooner (only f))) = PermuteRefused.wrong-length w.0 w.1 f
   by-rule (later w (later e (first i h g o))) = bad i _ o h g
     where
@@ -86,15 +85,14 @@ module _ (l : LayoutM) (order : List ℕ) where
       bad i vs (only f) h g = PermuteRefused.bad-entry w.0 e i h g f
 
   of-rule : {n : ℕ} {vs : List ℕ} → PermuteRefused l order n vs → Refused n vs
-  of-rule (PermuteRefused.too_many s) = sooner (HandedRefused.too_many s)
-  of-rule (PermuteRefused.not-accepted h k f) = sooner (HandedRefused.not-accepted h k f)
+  of-rule (PermuteRefused.handed_in h) = sooner h
   of-rule (PermuteRefused.wrong-length a h f) = later (a, h) (sooner (only f))
   of-rule (PermuteRefused.bad-entry a e i h g f) = later (a, omega (arith, a.few)) (later e (first i h g (only f)))
 
   pub permute-answers : Answers (permute l order).answer (Permutes l order) (PermuteRefused l order)
   unfolding permute
   permute-answers = of-answer l (withAxes l (map (axisAt l.axes) order)) (restated
-      (then-answers _ _ (handed-answers l order) (λ w. then-answers _ _ (test-answers _ 4 (length order ∷ rank l ∷ []) (equal-tested (length order) (rank l))) (λ e. order-answers (rank l) order)))
+      (then-answers _ _ (handed-answers l (length order)) (λ w. then-answers _ _ (test-answers _ 4 (length order ∷ rank l ∷ []) (equal-tested (length order) (rank l))) (λ e. order-answers (rank l) order)))
       (λ w. record { accepted = w.0.0; as_many = w.1.0; good = w.1.1 })
       (λ p. ((p.accepted, omega (arith, p.accepted.few, p.as_many)), (p.as_many, p.good)))
       (λ n vs r. by-rule r) (λ n vs r. of-rule r))

@@ -78,7 +78,7 @@ module _ (l : LayoutM) (pairs : List (ℕ × ℕ)) (r : Ranges l) where
   diagonal-ranges : Ranges (diagonalView l pairs).layout
   unfolding diagonalView diagonalAxes
   diagonal-ranges = old-or-new Ranges l _ _ r (λ e.
-      let p = passed-check (handed l []) e in
+      let p = passed-check (handed l 0) e in
       let q = passed-check (pairFault (rank l) pairs) p.1 in
       let s = passed-check (sumFaults l pairs (kept pairs (rank l))) q.1 in
       with-ranges l r (classes-ranges (kept pairs (rank l)) ((sums-answers l pairs).passes.0 s.0)))

@@ -1,5 +1,5 @@
 -- What is accepted, what a call goes on with past 1 and 3, and what check-in lets pass: the claims on reach.
-use Rattle.std.specs.Prelude.{if◌then◌else◌}
+use Rattle.std.specs.Prelude.{if◌then◌else◌, nat_lt}
 use mathlib.Core.Bool.{Bool, true, false, not, ◌||◌}
 use mathlib.Core.List.{List, [], ◌∷◌}
 use mathlib.Core.Logic.{◌⊎◌, inl, inr, ◌↔◌}
@@ -7,7 +7,6 @@ use mathlib.Core.Path.{◌≡◌, refl}
 use Prim.Native.Nat.{ℕ, ◌+◌, ◌<◌, ◌≤◌}
 use native.Mathlib.Omega.{arith}
 use lib.IntN.{pos}
-use lib.ListN.{length}
 use lib.Signed.{le_z, lt_z}
 use borrow.Author.Tests.{not-false}
 use Rattle.integer.specs.Range.{fits, mostSigned}
@@ -15,7 +14,7 @@ use Rattle.integer.proofs.PartLaws.{le-ltZ, lt-leZ}
 use Rattle.specification.specs.Tests.{some}
 use Rattle.specification.specs.Axis.{Axis, positions, is_empty, span, upward, downward}
 use Rattle.specification.specs.Outcome.{pass, refused, refuseIf}
-use Rattle.specification.specs.Layout.{LayoutM, rank, Accepted, lowest, highest, inReach, tooLong, handed}
+use Rattle.specification.specs.Layout.{LayoutM, rank, Accepted, lowest, highest, inReach, tooLong, handed, HandedRefused, too_many, not_accepted}
 use Rattle.specification.specs.CheckIn.{tooWide, bounds}
 use Rattle.specification.specs.ReachClaims.{ReachClaims}
 use Rattle.specification.proofs.NormalLaws.{full-pos, positions-pos, empty-none}
@@ -33,42 +32,37 @@ none-empty axes e = go (is_empty axes) refl
 
 -- ---- past refusals 1 and 3
 
--- how a call is refused before it looks at its arguments
-pub data HandedRefused (l : LayoutM) (list : List ℕ) : ℕ → List ℕ → Type 0 where
-  too_many : (16 < rank l) ⊎ (16 < length list) → HandedRefused l list 1 []
-  not-accepted : rank l ≤ 16 → length list ≤ 16 → ¬ (Accepted l) → HandedRefused l list 3 []
-
-module _ (l : LayoutM) (list : List ℕ) where
+module _ (l : LayoutM) (entries : ℕ) where
   abbrev Few : Type 0
-  Few = (rank l ≤ 16) × (length list ≤ 16)
+  Few = (rank l ≤ 16) × (entries ≤ 16)
 
   -- the tests of refusals 1 and 3
-  few-tested : ((tooLong l.axes || tooLong list) ≡ false) ↔ Few
+  few-tested : ((tooLong l.axes || nat_lt 16 entries) ≡ false) ↔ Few
   few-tested = grind (arith, ints)
 
   reach-tested : rank l ≤ 16 → (not (inReach l) ≡ false) ↔ Accepted l
   reach-tested n = (λ e. tested-no l n (not-false (inReach l) e), λ a. rw (tested-yes l a))
 
-  not-few : ¬ Few → (16 < rank l) ⊎ (16 < length list)
+  not-few : ¬ Few → (16 < rank l) ⊎ (16 < entries)
   not-few f = grind (arith, ints)
 
-  pub handed-answers : Answers (handed l list) (Accepted l × (length list ≤ 16)) (HandedRefused l list)
+  pub handed-answers : Answers (handed l entries) (Accepted l × (entries ≤ 16)) (HandedRefused l entries)
   unfolding handed
   handed-answers = restated
-      (then-answers (refuseIf (tooLong l.axes || tooLong list) 1 []) (refuseIf (not (inReach l)) 3 []) (test-answers (tooLong l.axes || tooLong list) 1 [] few-tested) (λ w. test-answers (not (inReach l)) 3 [] (reach-tested w.0)))
+      (then-answers (refuseIf (tooLong l.axes || nat_lt 16 entries) 1 []) (refuseIf (not (inReach l)) 3 []) (test-answers (tooLong l.axes || nat_lt 16 entries) 1 [] few-tested) (λ w. test-answers (not (inReach l)) 3 [] (reach-tested w.0)))
       (λ w. (w.1, w.0.1)) (λ w. ((w.0.few, w.1), w.0)) (λ n vs o. to o) (λ n vs o. from o)
     where
-      to : {n : ℕ} {vs : List ℕ} → InOrder Few (Only 1 [] Few) (Only 3 [] (Accepted l)) n vs → HandedRefused l list n vs
+      to : {n : ℕ} {vs : List ℕ} → InOrder Few (Only 1 [] Few) (Only 3 [] (Accepted l)) n vs → HandedRefused l entries n vs
       to (sooner (only f)) = too_many (not-few f)
-      to (later w (only f)) = not-accepted w.0 w.1 f
+      to (later w (only f)) = not_accepted w.0 w.1 f
 
-      exceeds : (16 < rank l) ⊎ (16 < length list) → ¬ Few
+      exceeds : (16 < rank l) ⊎ (16 < entries) → ¬ Few
       exceeds (inl h) w = omega arith
       exceeds (inr h) w = omega arith
 
-      from : {n : ℕ} {vs : List ℕ} → HandedRefused l list n vs → InOrder Few (Only 1 [] Few) (Only 3 [] (Accepted l)) n vs
+      from : {n : ℕ} {vs : List ℕ} → HandedRefused l entries n vs → InOrder Few (Only 1 [] Few) (Only 3 [] (Accepted l)) n vs
       from (too_many s) = sooner (only (exceeds s))
-      from (not-accepted h k f) = later (h, k) (only f)
+      from (not_accepted h k f) = later (h, k) (only f)
 
 -- ---- check-in
 
@@ -137,6 +131,7 @@ reach-claims = record {
   reach = reach_of;
   empty-is = λ l. (empty-none l.axes, none-empty l.axes);
   tested = λ l. (λ a. (a.few, tested-yes l a), λ w. tested-no l w.0 w.1);
-  handed-pass = λ l list. (handed-answers l list).passes;
+  handed_passes = λ l entries. (handed-answers l entries).passes;
+  handed_refuses = λ l entries. (handed-answers l entries).refuses;
   checked = λ l n. (λ q. (tested-no l n (bounds-reach l q), bounds-wide l q), λ w. bounds-pass l w.0 w.1);
 }

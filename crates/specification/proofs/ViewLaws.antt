@@ -63,9 +63,9 @@ pub permuted : (l : LayoutM) (order index : List ℕ) → (permute l order).answ
     → offsetSum (permute l order).layout.axes (map (λ a. get_or index a 0) order) ≡ offsetSum l.axes index
 unfolding permute
 permuted l order index e n =
-    let c : Check = handed l order >> refuseIf (not (eqb (length order) (rank l))) 4 (length order ∷ rank l ∷ []) >> orderFault (rank l) [] order in
+    let c : Check = handed l (length order) >> refuseIf (not (eqb (length order) (rank l))) 4 (length order ∷ rank l ∷ []) >> orderFault (rank l) [] order in
     let s = settled l (withAxes l (map (axisAt l.axes) order)) c e in
-    let p = passed-check (handed l order) s.passes in
+    let p = passed-check (handed l (length order)) s.passes in
     let q = passed (not (eqb (length order) (rank l))) 4 (length order ∷ rank l ∷ []) p.1 in
     let k : length order ≡ rank l = eqb-true (length order) (rank l) (not-false (eqb (length order) (rank l)) q.0) in
     ap (λ (m : LayoutM). offsetSum m.axes (map (λ a. get_or index a 0) order)) s.becomes
@@ -96,9 +96,9 @@ pub stretched : (l : LayoutM) (targets index : List ℕ) → (broadcast l target
     → offsetSum (broadcast l targets).layout.axes index ≡ offsetSum l.axes (heldBack l.axes targets index)
 unfolding broadcast
 stretched l targets index e n =
-    let c : Check = handed l targets >> refuseIf (not (eqb (length targets) (rank l))) 4 (rank l ∷ length targets ∷ []) >> targetFault 0 l.axes targets in
+    let c : Check = handed l (length targets) >> refuseIf (not (eqb (length targets) (rank l))) 4 (rank l ∷ length targets ∷ []) >> targetFault 0 l.axes targets in
     let s = settled l (withAxes l (spread l.axes targets)) c e in
-    let p = passed-check (handed l targets) s.passes in
+    let p = passed-check (handed l (length targets)) s.passes in
     let q = passed (not (eqb (length targets) (rank l))) 4 (rank l ∷ length targets ∷ []) p.1 in
     let k : length targets ≡ rank l = eqb-true (length targets) (rank l) (not-false (eqb (length targets) (rank l)) q.0) in
     ap (λ (m : LayoutM). offsetSum m.axes index) s.becomes ∙ spread-sum l.axes targets index k n

@@ -1,7 +1,6 @@
 -- What the writer answers: 1 and 3 as for any layout, and for an accepted one 8, then 10, then 9, else the record of the normal form with its verdict.
 use mathlib.Core.Path.{◌≡◌, refl, sym, ap, ◌∙◌}
 use mathlib.Core.Bool.{Bool, true, false}
-use mathlib.Core.Logic.{inl}
 use mathlib.Core.List.{List, [], ◌∷◌}
 use Prim.Native.Nat.{ℕ, ◌<◌, ◌≤◌}
 use native.Mathlib.Omega.{arith}
@@ -14,7 +13,7 @@ use Rattle.specification.specs.Verdict.{Judged, judge, wordsNeeded}
 use Rattle.specification.specs.Record.{recordLength, recordBytes, Made, written, writeFrees, writeAnswer}
 use Rattle.specification.specs.RecordClaims.{WriterClaims}
 use Rattle.specification.specs.Demand3.{AnsweredExactly}
-use Rattle.specification.proofs.ReachClaimed.{HandedRefused, handed-answers}
+use Rattle.specification.proofs.ReachClaimed.{handed-answers}
 use Rattle.specification.proofs.RecordFields.{length-recordBytes}
 use Rattle.specification.proofs.WriterLaws.{normal-accepted, form-done, form-eight, normal-few}
 use Rattle.specification.proofs.JudgeLaws.{Judging, is-judged, too_few, judging, freed-is-needed}
@@ -103,15 +102,14 @@ writes x room words m a e = go (overfull x.axes) refl
 
 -- ---- any layout
 
-written-handed : (x : LayoutM) (room words number : ℕ) (values : List ℕ) → handed x [] ≡ refused number values → written x room words ≡ refused number values
+written-handed : (x : LayoutM) (room words number : ℕ) (values : List ℕ) → handed x 0 ≡ refused number values → written x room words ≡ refused number values
 unfolding written normalForm ◌>>◌
 written-handed x room words number values e = bind-refused _ (rw e)
 
 pub writer-claims : WriterClaims
 unfolding writeFrees
 writer-claims = record {
-  too-many-axes = λ l room words h. written-handed l room words 1 [] (((handed-answers l []).refuses 1 []).1 (HandedRefused.too_many (inl h)));
-  not-accepted = λ l room words h n. written-handed l room words 3 [] (((handed-answers l []).refuses 3 []).1 (HandedRefused.not-accepted h (omega arith) n));
+  handed_in = λ l room words number values h. written-handed l room words number values (((handed-answers l 0).refuses number values).1 h);
   frees = λ l room words m a e. ap writeFrees e ∙ (writes l room words m a e).frees;
   frees-none = λ l room words number values e. ap writeFrees e;
 }

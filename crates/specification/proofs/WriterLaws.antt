@@ -75,8 +75,8 @@ normal-few x o = go (is_empty (normalOf x).axes) (is_empty x.axes) refl refl o
 
 -- ---- the call
 
-handed-pass : (l : LayoutM) → Accepted l → handed l [] ≡ pass
-handed-pass l a = (handed-answers l []).passes.1 (a, omega arith)
+handed-pass : (l : LayoutM) → Accepted l → handed l 0 ≡ pass
+handed-pass l a = (handed-answers l 0).passes.1 (a, omega arith)
 
 pub form-done : (l : LayoutM) → Accepted l → overfull l.axes ≡ false → normalForm l ≡ done (normalOf l)
 unfolding normalForm refuseIf ◌>>◌

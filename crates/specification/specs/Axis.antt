@@ -11,6 +11,11 @@ abbrev pub extents : List Axis → List ℕ
 extents [] = []
 extents (a ∷ rest) = a.extent ∷ extents rest
 
+-- the strides of axes, in their order
+abbrev pub strides : List Axis → List ℤ
+strides [] = []
+strides (a ∷ rest) = a.stride ∷ strides rest
+
 -- extents and strides, read as axes
 unfoldable pub axesOf : List ℕ → List ℤ → List Axis
 axesOf [] ss = []

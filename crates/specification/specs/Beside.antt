@@ -72,6 +72,6 @@ sumIndexed i sum (a ∷ rest) (x ∷ index) =
 -- refusals 1, 3, 4, then the sum, which starts at the layout's offset
 unfoldable pub indexedOffset : LayoutM → List ℕ → Outcome ℤ
 indexedOffset l index =
-    handed l index
+    handed l (length index)
     >> refuseIf (not (eqb (length index) (rank l))) 4 (length index ∷ rank l ∷ [])
     >> sumIndexed 0 l.offset l.axes index

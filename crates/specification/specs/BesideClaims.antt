@@ -6,7 +6,7 @@ use Rattle.integer.specs.Multiple.{◌·◌}
 use Rattle.integer.specs.Range.{mostSigned}
 use Rattle.specification.specs.Axis.{axesOf, product, offsetSum, sum_at, is_empty}
 use Rattle.specification.specs.Outcome.{done, refused, ◌>>=◌}
-use Rattle.specification.specs.Layout.{LayoutM, rank, Accepted}
+use Rattle.specification.specs.Layout.{LayoutM, rank, Accepted, HandedRefused}
 use Rattle.specification.specs.Views.{axisAt}
 use Rattle.specification.specs.Beside.{colMajor, rowMajor, orderAmong, indexOrder, orderAfter, indexedOffset}
 
@@ -81,10 +81,9 @@ pub record GoodIndex (l : LayoutM) (index : List ℕ) (i : ℕ) : Type 0 where
   pub below : get_or index i 0 < (axisAt l.axes i).extent
   pub in-range : InRange l index i
 
--- the refusals: 1, 3 and 4 before the indices are looked at, then 7 or 3 at the first index that is not good
+-- the refusals: those of any call on a layout and 4 before the indices are looked at, then 7 or 3 at the first index that is not good
 pub data OffsetRefused (l : LayoutM) (index : List ℕ) : ℕ → List ℕ → Type 0 where
-  too_many : (16 < rank l) ⊎ (16 < length index) → OffsetRefused l index 1 []
-  not-accepted : rank l ≤ 16 → length index ≤ 16 → ¬ (Accepted l) → OffsetRefused l index 3 []
+  handed_in : {number : ℕ} {values : List ℕ} → HandedRefused l (length index) number values → OffsetRefused l index number values
   wrong-length : Accepted l → length index ≤ 16 → length index ≢ rank l → OffsetRefused l index 4 (length index ∷ rank l ∷ [])
   not-below : Accepted l → length index ≡ rank l → (i : ℕ) → i < rank l → ((j : ℕ) → j < i → GoodIndex l index j) → (axisAt l.axes i).extent ≤ get_or index i 0
       → OffsetRefused l index 7 (i ∷ [])

@@ -5,7 +5,7 @@ use Rattle.std.proofs.Common.{SFits}
 use Rattle.integer.specs.Range.{mostSigned}
 use Rattle.specification.specs.Axis.{axesOf, is_empty, span}
 use Rattle.specification.specs.Outcome.{done, refused}
-use Rattle.specification.specs.Layout.{LayoutM, rank, lowest, highest, Accepted}
+use Rattle.specification.specs.Layout.{LayoutM, lowest, highest, Accepted, HandedRefused}
 use Rattle.specification.specs.CheckIn.{checkIn}
 use Rattle.specification.specs.Normal.{overfull, normalOf, normalForm}
 use Rattle.specification.specs.TestClaims.{SomeAxis}
@@ -49,8 +49,7 @@ pub record CheckInClaims : Type 0 where
 
 -- how the call of the normal form refuses
 pub data NormalRefused (l : LayoutM) : ℕ → List ℕ → Type 0 where
-  too_many : 16 < rank l → NormalRefused l 1 []
-  not-accepted : rank l ≤ 16 → ¬ (Accepted l) → NormalRefused l 3 []
+  handed_in : {number : ℕ} {values : List ℕ} → HandedRefused l 0 number values → NormalRefused l number values
   overfull-is : Accepted l → overfull l.axes ≡ true → NormalRefused l 8 []
 
 pub record NormalCallClaims : Type 0 where

@@ -3,7 +3,7 @@ use Rattle.std.specs.Prelude.{true, false, List, [], ◌∷◌, ◌++◌, ◌≢
 use Rattle.integer.specs.Range.{mostSigned}
 use Rattle.specification.specs.Axis.{positions}
 use Rattle.specification.specs.Outcome.{done, refused}
-use Rattle.specification.specs.Layout.{LayoutM, rank, offsetAt, Accepted}
+use Rattle.specification.specs.Layout.{LayoutM, offsetAt, Accepted, HandedRefused}
 use Rattle.specification.specs.Normal.{normalOf, overfull}
 use Rattle.specification.specs.Verdict.{Judged, judge, wordsNeeded}
 use Rattle.specification.specs.Record.{Made, verdictByte, written, writeFrees, fieldsRight, isNormal, layoutFrom, WasRead, read_of, readFrees, withBuffer, numberFrom, rest_of}
@@ -11,8 +11,7 @@ use Rattle.specification.specs.NormalClaims.{SameForm}
 
 -- the writer's refusals before those of demand 3, and what it leaves in the scratch
 pub record WriterClaims : Type 0 where
-  pub too-many-axes : (l : LayoutM) (room words : ℕ) → 16 < rank l → written l room words ≡ refused 1 []
-  pub not-accepted : (l : LayoutM) (room words : ℕ) → rank l ≤ 16 → ¬ (Accepted l) → written l room words ≡ refused 3 []
+  pub handed_in : (l : LayoutM) (room words number : ℕ) (values : List ℕ) → HandedRefused l 0 number values → written l room words ≡ refused number values
   -- the words needed for the normal form are free afterwards where a record gets made; a refusal frees none
   pub frees : (l : LayoutM) (room words : ℕ) (m : Made) → Accepted l → written l room words ≡ done m → writeFrees (written l room words) ≡ wordsNeeded (normalOf l).axes
   pub frees-none : (l : LayoutM) (room words number : ℕ) (values : List ℕ) → written l room words ≡ refused number values → writeFrees (written l room words) ≡ 0

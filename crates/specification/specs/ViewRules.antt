@@ -3,7 +3,7 @@
 use Rattle.std.specs.Prelude.{true, List, [], ◌∷◌, ◌≢◌, ◌⊎◌, ◌≡◌, ℕ, max, ◌<◌, ◌≤◌, pos, length, take, get_or}
 use Rattle.integer.specs.Range.{fits}
 use Rattle.specification.specs.Outcome.{pass, refused}
-use Rattle.specification.specs.Layout.{LayoutM, rank, Accepted}
+use Rattle.specification.specs.Layout.{LayoutM, rank, Accepted, HandedRefused}
 use Rattle.specification.specs.CheckIn.{bounds}
 use Rattle.specification.specs.Views.{withAxes, axisAt, kept, members, strideSum, diagonalAxes}
 use Rattle.specification.specs.Calls.{Call, permuting, diagonal, broadcasting}
@@ -23,8 +23,7 @@ pub record Permutes (l : LayoutM) (order : List ℕ) : Type 0 where
 
 -- permute is refused with a number and values
 pub data PermuteRefused (l : LayoutM) (order : List ℕ) : ℕ → List ℕ → Type 0 where
-  too_many : (16 < rank l) ⊎ (16 < length order) → PermuteRefused l order 1 []
-  not-accepted : rank l ≤ 16 → length order ≤ 16 → ¬ (Accepted l) → PermuteRefused l order 3 []
+  handed_in : {number : ℕ} {values : List ℕ} → HandedRefused l (length order) number values → PermuteRefused l order number values
   wrong-length : Accepted l → length order ≤ 16 → length order ≢ rank l → PermuteRefused l order 4 (length order ∷ rank l ∷ [])
   bad-entry : Accepted l → length order ≡ rank l → (i : ℕ) → i < length order → ((j : ℕ) → j < i → GoodEntry (rank l) order j) → ¬ (GoodEntry (rank l) order i)
       → PermuteRefused l order 5 (get_or order i 0 ∷ rank l ∷ [])
@@ -53,8 +52,7 @@ pub record Fuses (l : LayoutM) (pairs : List (ℕ × ℕ)) : Type 0 where
 
 -- diagonal_view is refused with a number and values
 pub data DiagonalRefused (l : LayoutM) (pairs : List (ℕ × ℕ)) : ℕ → List ℕ → Type 0 where
-  too_many : 16 < rank l → DiagonalRefused l pairs 1 []
-  not-accepted : rank l ≤ 16 → ¬ (Accepted l) → DiagonalRefused l pairs 3 []
+  handed_in : {number : ℕ} {values : List ℕ} → HandedRefused l 0 number values → DiagonalRefused l pairs number values
   outside : Accepted l → (i : ℕ) → i < length pairs → ((j : ℕ) → j < i → GoodPair (rank l) pairs j) → rank l ≤ max (pair_at pairs i).0 (pair_at pairs i).1
       → DiagonalRefused l pairs 5 (max (pair_at pairs i).0 (pair_at pairs i).1 ∷ rank l ∷ [])
   same-axis : Accepted l → (i : ℕ) → i < length pairs → ((j : ℕ) → j < i → GoodPair (rank l) pairs j) → (pair_at pairs i).0 < rank l → (pair_at pairs i).0 ≡ (pair_at pairs i).1
@@ -78,8 +76,7 @@ pub record Broadcasts (l : LayoutM) (targets : List ℕ) : Type 0 where
 
 -- broadcast is refused with a number and values
 pub data BroadcastRefused (l : LayoutM) (targets : List ℕ) : ℕ → List ℕ → Type 0 where
-  too_many : (16 < rank l) ⊎ (16 < length targets) → BroadcastRefused l targets 1 []
-  not-accepted : rank l ≤ 16 → length targets ≤ 16 → ¬ (Accepted l) → BroadcastRefused l targets 3 []
+  handed_in : {number : ℕ} {values : List ℕ} → HandedRefused l (length targets) number values → BroadcastRefused l targets number values
   wrong-length : Accepted l → length targets ≤ 16 → length targets ≢ rank l → BroadcastRefused l targets 4 (rank l ∷ length targets ∷ [])
   bad-extent : Accepted l → length targets ≡ rank l → (i : ℕ) → i < rank l → ((j : ℕ) → j < i → GoodExtent l targets j) → ¬ (GoodExtent l targets i)
       → BroadcastRefused l targets 6 (i ∷ [])

@@ -39,7 +39,7 @@ orderFault rank before (a ∷ rest) =
 -- refusals 1, 3, 4, 5; then the axes in the order of the list
 unfoldable pub permute : LayoutM → List ℕ → After
 permute l order = unlessRefused l
-    (handed l order
+    (handed l (length order)
     >> refuseIf (not (eqb (length order) (rank l))) 4 (length order ∷ rank l ∷ [])
     >> orderFault (rank l) [] order)
     (withAxes l (map (axisAt l.axes) order))
@@ -108,7 +108,7 @@ sumFaults l pairs (a ∷ rest) = strideFault (pos 0) (members l pairs a) >> sumF
 -- refusals 1, 3, then the pairs, then the sums of strides, then check-in again with the same buffer length
 unfoldable pub diagonalView : LayoutM → List (ℕ × ℕ) → After
 diagonalView l pairs = unlessRefused l
-    (handed l []
+    (handed l 0
     >> pairFault (rank l) pairs
     >> sumFaults l pairs (kept pairs (rank l))
     >> bounds (withAxes l (diagonalAxes l pairs)))
@@ -133,7 +133,7 @@ spread (a ∷ rest) (t ∷ targets) = (if eqb a.extent t then a else record { ex
 -- refusals 1, 3, 4, 6; nothing is checked again
 unfoldable pub broadcast : LayoutM → List ℕ → After
 broadcast l targets = unlessRefused l
-    (handed l targets
+    (handed l (length targets)
     >> refuseIf (not (eqb (length targets) (rank l))) 4 (rank l ∷ length targets ∷ [])
     >> targetFault 0 l.axes targets)
     (withAxes l (spread l.axes targets))
