@@ -1,8 +1,8 @@
 -- The claims on reach and count, from those of the layout's offsets.
 use Rattle.std.specs.Prelude.{if◌then◌else◌}
-use mathlib.Core.Bool.{Bool, true, false}
+use mathlib.Core.Bool.{true, false}
 use mathlib.Core.List.{[]}
-use mathlib.Core.Path.{◌≡◌, refl, sym, ◌∙◌}
+use mathlib.Core.Path.{◌≡◌, sym, ◌∙◌}
 use native.Mathlib.Omega.{arith}
 use lib.IntN.{ℤ}
 use Rattle.specification.specs.Axis.{is_empty}
@@ -13,8 +13,8 @@ use Rattle.view.specs.Claims.{Claims}
 use Rattle.specification.proofs.ReachClaimed.{reach-claims}
 use Rattle.view.specs.Reach.{none, ends, reachOf}
 use Rattle.view.specs.AnswerClaims.{ReachAnswerClaims, ElementCountClaims}
-use Rattle.view.proofs.BoundsLaws.{reach-empty, within-ends}
-use Rattle.view.proofs.CountLaws.{count-many, element-count-of-axes}
+use Rattle.view.proofs.BoundsLaws.{reach_empty, within-ends}
+use Rattle.view.proofs.CountLaws.{count-many, element-count-of-axes, empty_extents}
 use Rattle.std.proofs.lemmas.Int.{ints}
 
 -- ---- reach
@@ -23,16 +23,9 @@ in-reach-done : (l : LayoutM) → inReach l ≡ true → reachOf l ≡ done (if 
 unfolding reachOf refuseIf ◌>>◌
 in-reach-done l e = rw e
 
-outside-refused : (l : LayoutM) → inReach l ≡ false → reachOf l ≡ refused 3 []
-unfolding reachOf refuseIf ◌>>◌
-outside-refused l e = rw e
-
 refused-only : (l : LayoutM) → (inReach l ≡ true → ⊥) → reachOf l ≡ refused 3 []
-refused-only l not_so = by (inReach l) refl
-  where
-    by : (t : Bool) → inReach l ≡ t → reachOf l ≡ refused 3 []
-    by true e = absurd (not_so e)
-    by false e = outside-refused l e
+unfolding reachOf refuseIf ◌>>◌
+refused-only l not_so = grind (arith, ints)
 
 empty-of-none : (l : LayoutM) → (if is_empty l.axes then none else ends (lowest l) (highest l)) ≡ none → is_empty l.axes ≡ true
 empty-of-none l e = grind (arith, ints)
@@ -49,7 +42,7 @@ reach-answer-claims = record {
   );
   no-ends = λ l. (
     λ e. (reach-claims.empty-is l).0 (empty-of-none l (sym (within-ends l e).1)),
-    λ e. reach-empty l ((reach-claims.empty-is l).1 e),
+    λ e. reach_empty l (sym (empty_extents l.axes) ∙ (reach-claims.empty-is l).1 e),
   );
   two_ends = λ l low high e.
       let found = ends_of l low high (sym (within-ends l e).1) in

@@ -1,16 +1,14 @@
 -- Laws of the axes in an array: those of the first places, and one axis more.
 use mathlib.Core.Path.{◌≡◌, refl, sym, ap, ◌∙◌}
-use mathlib.Core.Bool.{Bool, true, false, not, ◌&&◌, ◌||◌}
+use mathlib.Core.Bool.{Bool, not}
 use mathlib.Core.List.{List, [], ◌∷◌, ◌++◌, append_assoc}
-use Prim.Native.Nat.{ℕ, zero, suc, ◌+◌, ◌-◌, ◌≤◌, ◌<◌}
+use Prim.Native.Nat.{ℕ, zero, suc, ◌+◌, ◌≤◌, ◌<◌}
 use native.Mathlib.Numerals.{add-one}
 use native.Mathlib.Omega.{arith}
-use lib.Dec.{leb, ltb}
 use lib.IntN.{ℤ, pos}
 use lib.ListN.{length, take, drop, set, get_or, length-append}
 use lib.Seq.{drop-cons, ext_get_or, get_or-take, length-take-le, set-append_seam, get_or_at, take-append_seam}
 use Rattle.std.specs.List.{list_any}
-use Rattle.integer.specs.Range.{mostSigned}
 use Rattle.view.proofs.TableLaws.{getD-table, length-table}
 use Rattle.specification.specs.Tests.{some}
 use Rattle.specification.specs.Axis.{Axis, axesOf, extents}
@@ -55,18 +53,11 @@ pub any-some : {A : Type 0} (test : A → Bool) (l : List A) → list_any test l
 unfolding some
 any-some test l = grind (arith, ints)
 
-wide-tested : (n : ℕ) → (ltb 1 n && ltb mostSigned (n - 1)) ≡ not (leb n 9223372036854775808)
-wide-tested n = grind (arith, ints)
-
 -- no extent is wide where no axis is
 pub none-wide : (axes : List Axis) → none_wide (extents axes) ≡ not (some tooWide axes)
 unfolding some
 none-wide [] = refl
-none-wide (a ∷ axes) = rw (none-wide axes, wide-tested a.extent) (turned (leb a.extent 9223372036854775808) (some tooWide axes))
-  where
-    turned : (s t : Bool) → (s && not t) ≡ not (not s || t)
-    turned true t = refl
-    turned false t = refl
+none-wide (a ∷ axes) = let rest = none-wide axes in grind (arith, ints)
 
 -- a store at the seam that leaves what was there
 pub same-seam : (front old : List Axis) (i : ℕ) (d : Axis) → i < length old → front ++ drop i old ≡ (front ++ get_or old i d ∷ []) ++ drop (i + 1) old

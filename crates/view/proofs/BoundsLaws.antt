@@ -1,10 +1,10 @@
 -- Check-in's bounds and the rule after the table, as one test each, and that test by the offset and the two sums of spans.
 use Rattle.std.specs.Prelude.{if◌then◌else◌, None, Option, Some}
 use mathlib.Core.Path.{◌≡◌, refl, sym, ◌∙◌, subst}
-use mathlib.Core.Bool.{Bool, true, false, not, ◌&&◌, ◌||◌}
+use mathlib.Core.Bool.{Bool, true, false, not}
 use mathlib.Core.List.{List, [], ◌∷◌}
 use mathlib.Core.Logic.{◌⊎◌, inl, inr}
-use Prim.Native.Nat.{ℕ, ◌+◌, ◌≤◌}
+use Prim.Native.Nat.{◌+◌, ◌≤◌}
 use native.Mathlib.Omega.{arith}
 use lib.Dec.{T}
 use lib.IntN.{ℤ, pos}
@@ -16,7 +16,7 @@ use Rattle.specification.specs.Tests.{some}
 use Rattle.specification.specs.Outcome.{done, refused, pass, refuseIf, ◌>>◌}
 use Rattle.specification.specs.Axis.{Axis, extents, is_empty, span, upward, downward}
 use Rattle.specification.specs.Layout.{LayoutM, lowest, highest, inReach}
-use Rattle.specification.specs.CheckIn.{bounds, tooWide}
+use Rattle.specification.specs.CheckIn.{bounds}
 use Rattle.specification.proofs.ReachLaws.{Within, tests, untests, bounds-within}
 use Rattle.specification.specs.Beside.{zeroAmong}
 use Rattle.specification.proofs.OutcomeLaws.{passed, done_inj}
@@ -44,22 +44,19 @@ spans_fit (a ∷ rest) u d = rw (fits-of-sfits (span a) (parts-fit (omega arith)
 module _ (l : LayoutM) where
   -- what is within is refused for a wide extent alone
   narrow-bounds : Within l → is_empty l.axes ≡ false → bounds l ≡ refuseIf (not (none_wide (extents l.axes))) 3 []
-  unfolding bounds
+  unfolding bounds refuseIf
   narrow-bounds w e =
       let u : upward l.axes ≤ mostSigned = omega (arith, w.w-low, w.w-most, low_parts l, high_parts l) in
       let d : downward l.axes ≤ mostSigned = omega (arith, w.w-low, w.w-most, low_parts l, high_parts l) in
-      rw (
-        e,
+      grind (
+        arith,
+        ints,
         spans_fit l.axes u d,
+        none-wide l.axes,
         le-ltZ (pos mostSigned) (highest l) (omega (arith, w.w-most)),
         le-ltZ (lowest l) (pos 0) (omega (arith, w.w-low)),
         lt-leZ (pos l.buffer) (highest l) (omega (arith, w.w-in)),
       )
-      (by (some tooWide l.axes) ∙ rw (none-wide l.axes))
-    where
-      by : (t : Bool) → refuseIf (t || false || false || false || false) 3 [] ≡ refuseIf (not (not t)) 3 []
-      by true = refl
-      by false = refl
 
   -- bounds let pass or refuse 3
   three : (bounds l ≡ pass) ⊎ (bounds l ≡ refused 3 [])
@@ -68,15 +65,10 @@ module _ (l : LayoutM) where
 
   -- what is not within is refused
   outside-bounds : (Within l → ⊥) → is_empty l.axes ≡ false → bounds l ≡ refused 3 []
-  outside-bounds never e = by three
-    where
-      no : (is_empty l.axes ≡ true) ⊎ ((some tooWide l.axes ≡ false) × Within l) → ⊥
-      no (inl q) = subst T (sym q ∙ e) tt
-      no (inr w) = never w.1
-
-      by : (bounds l ≡ pass) ⊎ (bounds l ≡ refused 3 []) → bounds l ≡ refused 3 []
-      by (inl p) = absurd (no (bounds-within l p))
-      by (inr r) = r
+  outside-bounds never e = elim three [
+    | inl p ↦ absurd (elim (bounds-within l p) [ inl q ↦ subst T (sym q ∙ e) tt | inr w ↦ never w.1 ])
+    | inr r ↦ r
+  ]
 
   empty-bounds : is_empty l.axes ≡ true → bounds l ≡ pass
   unfolding bounds
@@ -84,20 +76,7 @@ module _ (l : LayoutM) where
 
   pub bounds_tested : bounds l ≡ refuseIf (not (in_bounds l)) 3 []
   unfolding refuseIf
-  bounds_tested = rw (← empty_extents l.axes) (by (is_empty l.axes) refl (within l) refl)
-    where
-      or-true : (t : Bool) → (t || true) ≡ true
-      or-true true = refl
-      or-true false = refl
-
-      or-false : (t : Bool) → (t || false) ≡ t
-      or-false true = refl
-      or-false false = refl
-
-      by : (empty : Bool) → is_empty l.axes ≡ empty → (inside : Bool) → within l ≡ inside → bounds l ≡ refuseIf (not ((inside && none_wide (extents l.axes)) || empty)) 3 []
-      by true e inside w = rw (or-true (inside && none_wide (extents l.axes))) (empty-bounds e)
-      by false e true w = rw (or-false (none_wide (extents l.axes))) (narrow-bounds (tests l w) e)
-      by false e false w = outside-bounds (λ x. subst T (sym (untests l x) ∙ w) tt) e
+  bounds_tested = grind (arith, ints, empty_extents l.axes, empty-bounds, narrow-bounds, outside-bounds, tests l, untests l)
 
   pub bounds_passed : true ≡ in_bounds l → bounds l ≡ pass
   unfolding refuseIf
@@ -116,41 +95,22 @@ reach_within l t e h = grind (arith, ints)
 
 pub reach_beyond : (l : LayoutM) (t z : Bool) → t ≡ within l → t ≡ false → z ≡ zeroAmong (extents l.axes) → z ≡ inReach l
 unfolding inReach
-reach_beyond l t z e h k = rw (← e, h, k, ← empty_extents l.axes) (or-false (is_empty l.axes))
-  where
-    or-false : (s : Bool) → s ≡ (s || false)
-    or-false true = refl
-    or-false false = refl
-
-pub reach-empty : (l : LayoutM) → is_empty l.axes ≡ true → reachOf l ≡ done none
-unfolding reachOf inReach refuseIf ◌>>◌
-reach-empty l e = rw e
-
-reach-filled : (l : LayoutM) → is_empty l.axes ≡ false → reachOf l ≡ (refuseIf (not (within l)) 3 [] >> done (ends (lowest l) (highest l)))
-unfolding reachOf inReach
-reach-filled l e = rw e
+reach_beyond l t z e h k = grind (arith, ints, empty_extents l.axes)
 
 -- what the code's answers say of the reach
 module _ (l : LayoutM) where
   pub reach_empty : zeroAmong (extents l.axes) ≡ true → reachOf l ≡ done none
-  reach_empty z = reach-empty l (empty_extents l.axes ∙ z)
+  unfolding reachOf inReach refuseIf ◌>>◌
+  reach_empty z = grind (arith, ints, empty_extents l.axes)
 
   module _ {o : Option Ends} (told : o ≡ accepted_ends l) (z : zeroAmong (extents l.axes) ≡ false) where
     pub reach_outside : o ≡ None → reachOf l ≡ refused 3 []
-    unfolding refuseIf ◌>>◌
-    reach_outside n = reach-filled l (empty_extents l.axes ∙ z) ∙ by (within l) (sym n ∙ told)
-      where
-        by : (t : Bool) → None ≡ (if t then Some (ends (lowest l) (highest l)) else None) → (refuseIf (not t) 3 [] >> done (ends (lowest l) (highest l))) ≡ refused 3 []
-        by true q = let z : ◌≡◌ {A = ℕ} 0 1 = cc in absurd (omega arith)
-        by false q = refl
+    unfolding reachOf inReach refuseIf ◌>>◌
+    reach_outside n = grind (arith, ints, empty_extents l.axes)
 
     pub reach_between : {low high : ℤ} → o ≡ Some (ends low high) → reachOf l ≡ done (ends low high)
-    unfolding refuseIf ◌>>◌
-    reach_between {low} {high} n = reach-filled l (empty_extents l.axes ∙ z) ∙ by (within l) (sym n ∙ told)
-      where
-        by : (t : Bool) → Some (ends low high) ≡ (if t then Some (ends (lowest l) (highest l)) else None) → (refuseIf (not t) 3 [] >> done (ends (lowest l) (highest l))) ≡ done (ends low high)
-        by true q = let z : ends low high ≡ ends (lowest l) (highest l) = cc in rw z
-        by false q = let z : ◌≡◌ {A = ℕ} 0 1 = cc in absurd (omega arith)
+    unfolding reachOf inReach refuseIf ◌>>◌
+    reach_between n = grind (arith, ints, empty_extents l.axes)
 
 -- the ends, where the layout is in reach
 pub within-ends : (l : LayoutM) {e : Ends} → reachOf l ≡ done e → (inReach l ≡ true) × (e ≡ (if is_empty l.axes then none else ends (lowest l) (highest l)))

@@ -1,24 +1,23 @@
 -- A product of extents, factor by factor, and what it says of the number of positions.
-use Rattle.std.specs.Prelude.{if◌then◌else◌, Err, Ok, Result}
+use Rattle.std.specs.Prelude.{Err, Ok, Result}
 use mathlib.Core.Path.{◌≡◌, refl, sym, ap, subst, ◌∙◌}
-use mathlib.Core.Bool.{Bool, true, false, not, ◌&&◌, ◌||◌, and-false}
+use mathlib.Core.Bool.{Bool, true, false, not, and-false}
 use mathlib.Core.List.{List, [], ◌∷◌, map}
 use Prim.Native.Nat.{ℕ, zero, suc, ◌+◌, ◌*◌, ◌-◌, ◌≤◌, ◌<◌}
 use native.Mathlib.Nat.{zero-mul, mul-zero, mul-suc, mul-pos, mul_assoc}
 use native.Mathlib.Numerals.{add-one}
 use native.Mathlib.Omega.{arith}
-use lib.Dec.{T, eqb, ltb}
+use lib.Dec.{T}
 use lib.ListN.{length, drop, get_or, drop_of_length-le}
 use lib.Seq.{drop-cons}
 use Rattle.std.proofs.lemmas.List.{length-map, get_or-map}
-use borrow.Author.Tests.{eqb-true, eqb-false, lt-ltb, le-ltb}
+use borrow.Author.Tests.{lt-ltb, le-ltb}
 use Rattle.integer.specs.Range.{mostUnsigned}
 use Rattle.specification.specs.Tests.{some}
 use Rattle.specification.specs.Outcome.{Check, done, refused, refuseIf, ◌>>◌}
 use Rattle.specification.specs.Axis.{Axis, extents, product, positions, is_empty}
 use Rattle.specification.specs.Beside.{zeroAmong}
 use Rattle.specification.specs.Normal.{overfull}
-use Rattle.specification.proofs.OutcomeLaws.{passed, done_inj}
 use Rattle.specification.specs.Views.{axisAt}
 use Rattle.view.specs.Answers.{number_of, values_of, outcomeOf}
 use Rattle.view.specs.Count.{elementCount, count_of}
@@ -43,20 +42,12 @@ product-turn es i count h e = mul_assoc count (get_or es i 0) (product (drop (i 
 product-zero : (es : List ℕ) → zeroAmong es ≡ true → product es ≡ 0
 unfolding product some
 product-zero [] e = absurd (subst T (sym e) tt)
-product-zero (n ∷ es) e = by (eqb n 0) refl e (product-zero es)
-  where
-    by : (t : Bool) → eqb n 0 ≡ t → (t || zeroAmong es) ≡ true → (zeroAmong es ≡ true → product es ≡ 0) → n * product es ≡ 0
-    by true p q f = rw (eqb-true n 0 p) (zero-mul (product es))
-    by false p q f = rw (f q) (mul-zero n)
+product-zero (n ∷ es) e = let rest = product-zero es in grind (arith, ints, zero-mul, mul-zero)
 
 pub product-above : (es : List ℕ) → zeroAmong es ≡ false → 0 < product es
 unfolding product some
 product-above [] e = omega arith
-product-above (n ∷ es) e = by (eqb n 0) refl e (product-above es)
-  where
-    by : (t : Bool) → eqb n 0 ≡ t → (t || zeroAmong es) ≡ false → (zeroAmong es ≡ false → 0 < product es) → 0 < n * product es
-    by true p q f = absurd (subst T q tt)
-    by false p q f = let ne : n ≡ 0 → ⊥ = eqb-false n 0 p in mul-pos (omega arith) (f q)
+product-above (n ∷ es) e = let rest = product-above es in grind (arith, ints, mul-pos)
 
 -- a factor on the way is at most the whole product, where that is not 0
 pub factor-below : (factor rest whole most : ℕ) → factor * rest ≡ whole → 0 < whole → most < factor → most < whole
@@ -91,19 +82,14 @@ module _ (es : List ℕ) where
 
 -- ---- the count of axes
 
-length-extents : (axes : List Axis) → length (extents axes) ≡ length axes
+pub length-extents : (axes : List Axis) → length (extents axes) ≡ length axes
 length-extents [] = refl
 length-extents (a ∷ rest) = rw (length-extents rest)
 
 -- of at most 16 axes it is that of their extents, whatever the strides
 pub element-count-of-axes : (axes : List Axis) → length axes ≤ 16 → elementCount (extents axes) ≡ count_of axes
 unfolding elementCount count_of overfull refuseIf ◌>>◌
-element-count-of-axes axes few =
-    rw (le-ltb 16 (length (extents axes)) (omega (arith, length-extents axes)), empty_extents axes) (by (zeroAmong (extents axes)) (ltb mostUnsigned (positions axes)))
-  where
-    by : (s t : Bool) → refuseIf (not s && t) 8 [] >> done (positions axes) ≡ refuseIf (if s then false else t) 8 [] >> done (positions axes)
-    by true t = refl
-    by false t = refl
+element-count-of-axes axes few = grind (arith, ints, length-extents axes, empty_extents axes)
 
 -- what an answer says of the axes
 module _ (axes : List Axis) {r : Result ℕ Refusal} (told : outcomeOf r ≡ count_of axes) where
@@ -112,8 +98,8 @@ module _ (axes : List Axis) {r : Result ℕ Refusal} (told : outcomeOf r ≡ cou
   counted-refused q = grind (arith, ints)
 
   pub counted_is : {n : ℕ} → r ≡ Ok n → (overfull axes ≡ false) × (positions axes ≡ n)
-  unfolding count_of
-  counted_is q = let p = passed (overfull axes) 8 [] (sym told ∙ ap outcomeOf q) in (p.0, done_inj p.1)
+  unfolding count_of refuseIf ◌>>◌
+  counted_is q = grind (arith, ints)
 
 -- a test of what a list is mapped to
 pub some-map : {A B : Type 0} (test : B → Bool) (f : A → B) (list : List A) → some (λ a. test (f a)) list ≡ some test (map f list)

@@ -1,6 +1,6 @@
 -- diagonal_view by its pairs is the view by the roots that they leave; and which rule refuses.
-use mathlib.Core.Path.{◌≡◌, refl, sym, ap, ◌∙◌}
-use mathlib.Core.List.{List, [], map}
+use mathlib.Core.Path.{◌≡◌, sym, ap, ◌∙◌}
+use mathlib.Core.List.{List, map}
 use Prim.Native.Nat.{ℕ, ◌≤◌}
 use native.Mathlib.Omega.{arith}
 use lib.IntN.{pos}
@@ -11,7 +11,6 @@ use Rattle.specification.specs.Outcome.{Check, refused, pass, ◌>>◌}
 use Rattle.specification.specs.CheckIn.{bounds}
 use Rattle.specification.specs.Views.{unlessRefused, withAxes, axisAt, pairFault, kept, leastExtent, strideSum, members, fused, diagonalAxes, sumFaults, diagonalView}
 use Rattle.view.specs.Model.{modelOf}
-use Rattle.view.specs.Reach.{handed_with}
 use Rattle.view.specs.declared.layout.Layout.{Layout}
 use Rattle.view.specs.Ties.{rootAt, isRoot, own_roots, joined_all, rooted_at, roots_below, fused_at, fused_axes, fused_fault, fused_view}
 use Rattle.view.proofs.RangeLaws.{map-passing}
@@ -41,16 +40,11 @@ module _ (l : LayoutM) (pairs : List (ℕ × ℕ)) (few : rank l ≤ 16) (none :
       ap (λ (m : List Axis). record { extent = leastExtent m; stride = strideSum (pos 0) m }) (members-are r (eqb-true (rootAt roots r) r e))))
 
   -- where neither the layout nor a pair is refused
-  pub by-roots : handed l [] ≡ pass → fused_view l roots ≡ diagonalView l pairs
+  pub by-roots : handed l 0 ≡ pass → fused_view l roots ≡ diagonalView l pairs
   unfolding fused_view diagonalView ◌>>◌
   by-roots first = rw (first, none, sums-are, axes-are)
 
 -- ---- the answer of a layout, by the rule that refuses
-
--- a call that takes no list
-handed_none : (l : LayoutM) → handed l [] ≡ handed_with l 0
-unfolding handed
-handed_none l = refl
 
 module _ (s : Layout) (pairs : List (ℕ × ℕ)) where
   abbrev l : LayoutM
@@ -59,17 +53,17 @@ module _ (s : Layout) (pairs : List (ℕ × ℕ)) where
   faults : {c : Check} → c ≡ pairFault s.rank pairs → pairFault (rank l) pairs ≡ c
   faults e = ap (λ (n : ℕ). pairFault n pairs) (rank_model_of s) ∙ sym e
 
-  pub diagonal_handed : (number : ℕ) (values : List ℕ) → refused number values ≡ handed_with l 0 → record { answer = refused number values; layout = l } ≡ diagonalView l pairs
+  pub diagonal_handed : (number : ℕ) (values : List ℕ) → refused number values ≡ handed l 0 → record { answer = refused number values; layout = l } ≡ diagonalView l pairs
   unfolding diagonalView unlessRefused ◌>>◌
-  diagonal_handed number values e = rw (handed_none l, ← e)
+  diagonal_handed number values e = rw (← e)
 
-  module _ (first : pass ≡ handed_with l 0) where
+  module _ (first : pass ≡ handed l 0) where
     pub diagonal_paired : (number : ℕ) (values : List ℕ) → refused number values ≡ pairFault s.rank pairs → record { answer = refused number values; layout = l } ≡ diagonalView l pairs
     unfolding diagonalView unlessRefused ◌>>◌
-    diagonal_paired number values e = rw (handed_none l, ← first, faults e)
+    diagonal_paired number values e = rw (← first, faults e)
 
     pub diagonal_fused : s.rank ≤ 16 → pass ≡ pairFault s.rank pairs → fused_view l (joined_all own_roots pairs) ≡ diagonalView l pairs
-    diagonal_fused few e = by-roots l pairs (omega (arith, rank_model_of s)) (faults e) (handed_none l ∙ sym first)
+    diagonal_fused few e = by-roots l pairs (omega (arith, rank_model_of s)) (faults e) (sym first)
 
 -- ---- the view by roots
 

@@ -4,12 +4,13 @@ use mathlib.Core.Bool.{Bool, true, false}
 use mathlib.Core.List.{List, [], ◌∷◌, ◌++◌, map, map-append}
 use Prim.Native.Nat.{ℕ, zero, suc, ◌+◌, ◌-◌, ◌≤◌, ◌<◌, min}
 use native.Mathlib.Omega.{arith}
-use lib.Dec.{eqb, ltb}
+use lib.Dec.{eqb}
 use lib.IntN.{ℤ, pos, ◌+ℤ◌, +ℤ_idl}
 use lib.ListN.{length, set, length-map}
 use lib.Seq.{get_or-set_same, get_or-set_other}
-use borrow.Author.Tests.{eq-eqb, ne_eqb, eqb-true, eqb-false, ltb-true, ltb-false}
+use borrow.Author.Tests.{eq-eqb, ne_eqb, eqb-true, eqb-false}
 use Rattle.integer.specs.Range.{fits}
+use Rattle.std.proofs.lemmas.Int.{ints}
 use Rattle.specification.specs.Axis.{Axis}
 use Rattle.specification.specs.Outcome.{Check, refused, pass, refuseIf, ◌>>◌}
 use Rattle.specification.specs.Views.{axisAt, leastExtent, strideSum, strideFault}
@@ -68,13 +69,7 @@ module _ (axes : List Axis) (roots : List ℕ) where
 
   -- two roots have two places
   places-apart : (q r : ℕ) → rootAt roots q ≡ q → rootAt roots r ≡ r → (q ≡ r → ⊥) → placeOfRoot q ≡ placeOfRoot r → ⊥
-  places-apart q r e f n same = by (ltb q r) refl
-    where
-      by : (t : Bool) → ltb q r ≡ t → ⊥
-      by true l = omega (arith, count-lt (isRoot roots) q r (ltb-true q r l) (eq-eqb (rootAt roots q) q e))
-      by false l =
-          let h : r ≤ q = ltb-false q r l in
-          omega (arith, count-lt (isRoot roots) r q (omega arith) (eq-eqb (rootAt roots r) r f))
+  places-apart q r e f n same = grind (arith, ints, count-lt (isRoot roots) q r, count-lt (isRoot roots) r q)
 
   -- the axis of a class changes and the others stay
   stored_at : (n : ℕ) {fused : List Axis} → Stored n fused → (r : ℕ) → rootAt roots n ≡ r → rootAt roots r ≡ r → placeOfRoot r < length fused
@@ -145,11 +140,10 @@ module _ (axes : List Axis) (roots : List ℕ) where
   -- a sum that left 64 bits has left them with more axes
   pub over-later : (n d r : ℕ) → faultBelow n r ≡ refused 3 [] → faultBelow (n + d) r ≡ refused 3 []
   over-later n zero r f = let e : n + 0 ≡ n = omega arith in rw e f
-  over-later n (suc d) r f = let e : n + suc d ≡ (n + d) + 1 = omega arith in rw e (by (eqb (rootAt roots (n + d)) r) refl (over-later n d r f))
-    where
-      by : (t : Bool) → eqb (rootAt roots (n + d)) r ≡ t → faultBelow (n + d) r ≡ refused 3 [] → faultBelow (n + d + 1) r ≡ refused 3 []
-      by true w ih = rw (members-more (n + d) r (eqb-true (rootAt roots (n + d)) r w)) (over-stays (pos 0) (membersBelow (n + d) r) (axisAt axes (n + d)) ih)
-      by false w ih = rw (members-same (n + d) r (eqb-false (rootAt roots (n + d)) r w)) ih
+  over-later n (suc d) r f =
+      let e : n + suc d ≡ (n + d) + 1 = omega arith in
+      let ih = over-later n d r f in
+      rw e (grind (arith, ints, members-more (n + d) r, members-same (n + d) r, over-stays (pos 0) (membersBelow (n + d) r) (axisAt axes (n + d))))
 
 -- ---- at the end
 

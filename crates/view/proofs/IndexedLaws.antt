@@ -2,40 +2,40 @@
 use mathlib.Core.Path.{◌≡◌, sym}
 use mathlib.Core.Bool.{Bool, true, false, not, ◌||◌}
 use mathlib.Core.List.{List, [], ◌∷◌}
-use Prim.Native.Nat.{ℕ, suc, ◌+◌, ◌≤◌, ◌<◌}
+use Prim.Native.Nat.{ℕ, ◌+◌, ◌≤◌, ◌<◌}
 use native.Mathlib.Numerals.{add-one}
 use native.Mathlib.Omega.{arith}
 use lib.Dec.{ltb}
 use lib.IntN.{ℤ, pos, ◌+ℤ◌}
 use lib.ListN.{length, drop, get_or, drop_of_length-le}
 use lib.Seq.{drop-cons}
-use borrow.Author.Tests.{lt-ltb, le-ltb, le-leb, lt-leb}
+use borrow.Author.Tests.{lt-leb}
+use Rattle.std.proofs.lemmas.Int.{ints}
 use Rattle.integer.specs.Multiple.{◌·◌}
 use Rattle.integer.specs.Range.{fits, mostSigned}
 use Rattle.specification.specs.Outcome.{Outcome, done, refused, refuseIf, ◌>>◌}
 use Rattle.specification.specs.Axis.{Axis}
 use Rattle.specification.specs.Beside.{sumIndexed}
 use Rattle.specification.specs.Views.{axisAt}
-use Rattle.specification.proofs.OutcomeLaws.{clash, passed, done_inj, refused-inj}
+use Rattle.specification.proofs.OutcomeLaws.{passed, done_inj}
 use Rattle.view.specs.Indexed.{addedOf}
 
 module _ (sum : ℤ) (index : ℕ) (stride : ℤ) where
   pub added-wide : mostSigned < index → addedOf sum index stride ≡ refused 3 []
   unfolding addedOf refuseIf ◌>>◌
-  added-wide h = rw (lt-ltb mostSigned index h)
+  added-wide h = grind (arith, ints)
 
-  module _ (h : index ≤ mostSigned) where
-    pub added-far : fits (index · stride) ≡ false → addedOf sum index stride ≡ refused 3 []
-    unfolding addedOf refuseIf ◌>>◌
-    added-far e = rw (le-ltb mostSigned index h, e)
+  pub added-far : index ≤ mostSigned → fits (index · stride) ≡ false → addedOf sum index stride ≡ refused 3 []
+  unfolding addedOf refuseIf ◌>>◌
+  added-far h e = grind (arith, ints)
 
-    pub added-over : fits (index · stride) ≡ true → fits (sum +ℤ index · stride) ≡ false → addedOf sum index stride ≡ refused 3 []
-    unfolding addedOf refuseIf ◌>>◌
-    added-over e f = rw (le-ltb mostSigned index h, e, f)
+  pub added-over : index ≤ mostSigned → fits (index · stride) ≡ true → fits (sum +ℤ index · stride) ≡ false → addedOf sum index stride ≡ refused 3 []
+  unfolding addedOf refuseIf ◌>>◌
+  added-over h e f = grind (arith, ints)
 
-    pub added-fits : fits (index · stride) ≡ true → fits (sum +ℤ index · stride) ≡ true → addedOf sum index stride ≡ done (sum +ℤ index · stride)
-    unfolding addedOf refuseIf ◌>>◌
-    added-fits e f = rw (le-ltb mostSigned index h, e, f)
+  pub added-fits : index ≤ mostSigned → fits (index · stride) ≡ true → fits (sum +ℤ index · stride) ≡ true → addedOf sum index stride ≡ done (sum +ℤ index · stride)
+  unfolding addedOf refuseIf ◌>>◌
+  added-fits h e f = grind (arith, ints)
 
 -- ---- the axes and the index vector from i on
 
@@ -61,16 +61,11 @@ module _ (axes : List Axis) (index : List ℕ) (i : ℕ) (sum : ℤ) (h : i < le
 
   pub indexed-bad : here.extent ≤ at_here → left ≡ refused 7 (i ∷ [])
   unfolding sumIndexed refuseIf ◌>>◌
-  indexed-bad k = rw (axis-here, index-here, le-leb here.extent at_here k)
+  indexed-bad k = rw (axis-here, index-here) (grind (arith, ints))
 
   pub indexed-over : {number : ℕ} {values : List ℕ} → at_here < here.extent → refused number values ≡ addedOf sum at_here here.stride → left ≡ refused number values
   unfolding addedOf sumIndexed refuseIf ◌>>◌
-  indexed-over {number} {values} k e = rw (axis-here, index-here, lt-leb here.extent at_here k) (by outOfRange e)
-    where
-      by : (t : Bool) → refused number values ≡ (refuseIf t 3 [] >> done (sum +ℤ at_here · here.stride))
-          → (refuseIf t 3 [] >> sumIndexed (suc i) (sum +ℤ at_here · here.stride) (drop (i + 1) axes) (drop (i + 1) index)) ≡ refused number values
-      by true e = let w = refused-inj e in rw (w.0, w.1)
-      by false e = absurd (clash (sym e))
+  indexed-over {number} {values} k e = rw (axis-here, index-here) (grind (arith, ints))
 
   pub indexed-on : (next : ℤ) → at_here < here.extent → done next ≡ addedOf sum at_here here.stride → left ≡ sumIndexed (i + 1) next (drop (i + 1) axes) (drop (i + 1) index)
   unfolding addedOf sumIndexed refuseIf ◌>>◌

@@ -4,6 +4,7 @@ pub mod HandedLaws
 pub mod BoundedLaws
 pub mod TableLaws
 pub mod AxesLaws
+pub mod ListsLaws
 pub mod BoundsLaws
 pub mod SpansLaws
 pub mod ListedLaws

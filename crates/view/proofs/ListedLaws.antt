@@ -10,7 +10,6 @@ use Rattle.specification.specs.Outcome.{Outcome, refused, pass, refuseIf, ◌>>�
 use Rattle.specification.specs.Layout.{rank, handed}
 use Rattle.view.specs.declared.layout.Layout.{Layout}
 use Rattle.view.specs.Model.{modelOf}
-use Rattle.view.specs.Reach.{handed_with}
 use Rattle.view.proofs.AxesLaws.{length_first_axes}
 
 -- the rank of the model is the layout's
@@ -20,16 +19,16 @@ rank_model_of l = length_first_axes l.axes l.rank
 module _ {A : Type 0} (l : Layout) (list values : List ℕ) (next : Outcome A) where
   -- the chain of rules
   abbrev listed : Outcome A
-  listed = handed (modelOf l) list >> (refuseIf (not (eqb (length list) (rank (modelOf l)))) 4 values >> next)
+  listed = handed (modelOf l) (length list) >> (refuseIf (not (eqb (length list) (rank (modelOf l)))) 4 values >> next)
 
-  pub listed_refused : {number : ℕ} {given : List ℕ} → refused number given ≡ handed_with (modelOf l) (length list) → listed ≡ refused number given
-  unfolding handed ◌>>◌
+  pub listed_refused : {number : ℕ} {given : List ℕ} → refused number given ≡ handed (modelOf l) (length list) → listed ≡ refused number given
+  unfolding ◌>>◌
   listed_refused e = rw (← e)
 
-  pub listed_wrong : pass ≡ handed_with (modelOf l) (length list) → (length list ≡ l.rank → ⊥) → listed ≡ refused 4 values
-  unfolding handed refuseIf ◌>>◌
+  pub listed_wrong : pass ≡ handed (modelOf l) (length list) → (length list ≡ l.rank → ⊥) → listed ≡ refused 4 values
+  unfolding refuseIf ◌>>◌
   listed_wrong e n = rw (← e, rank_model_of l, ne_eqb (length list) l.rank n)
 
-  pub listed_next : pass ≡ handed_with (modelOf l) (length list) → length list ≡ l.rank → listed ≡ next
-  unfolding handed refuseIf ◌>>◌
+  pub listed_next : pass ≡ handed (modelOf l) (length list) → length list ≡ l.rank → listed ≡ next
+  unfolding refuseIf ◌>>◌
   listed_next e n = rw (← e, rank_model_of l, eq-eqb (length list) l.rank n)

@@ -1,14 +1,13 @@
 -- The numbers below n that pass a test: one number more, tests that agree, how many there are, a table of them, and a second test.
 use Rattle.std.specs.Prelude.{if◌then◌else◌}
 use mathlib.Core.Path.{◌≡◌, refl, sym, ap, ◌∙◌}
-use mathlib.Core.Bool.{Bool, true, false, ◌||◌}
+use mathlib.Core.Bool.{Bool, true, false}
 use mathlib.Core.List.{List, [], ◌∷◌, ◌++◌, map, append-nil, map-append}
 use Prim.Native.Nat.{ℕ, zero, suc, ◌+◌, ◌-◌, ◌≤◌, ◌<◌}
 use native.Mathlib.Numerals.{add-one}
 use native.Mathlib.Omega.{arith}
-use lib.Dec.{eqb}
 use lib.ListN.{length, length-append}
-use borrow.Author.Tests.{eqb-true, eqb-false}
+use Rattle.std.proofs.lemmas.Int.{ints}
 use Rattle.view.specs.Table.{table}
 use Rattle.view.proofs.TableLaws.{table-zero, table-suc}
 use Rattle.specification.specs.Tests.{some, those, up_from}
@@ -28,11 +27,7 @@ upFrom-last k (suc n) =
 those-append : {A : Type 0} (test : A → Bool) (l m : List A) → those test (l ++ m) ≡ those test l ++ those test m
 unfolding those
 those-append test [] m = refl
-those-append test (a ∷ l) m = rw (those-append test l m) (by (test a))
-  where
-    by : (t : Bool) → (if t then a ∷ (those test l ++ those test m) else (those test l ++ those test m)) ≡ (if t then a ∷ those test l else those test l) ++ those test m
-    by true = refl
-    by false = refl
+those-append test (a ∷ l) m = let rest = those-append test l m in grind (arith, ints)
 
 -- ---- one number more
 
@@ -74,11 +69,7 @@ module _ (test : ℕ → Bool) where
   count_no n e = ap length (passing-no test n e)
 
   count-step : (n : ℕ) → (count test n ≤ count test (n + 1)) × (count test (n + 1) ≤ count test n + 1)
-  count-step n = by (test n) refl
-    where
-      by : (t : Bool) → test n ≡ t → (count test n ≤ count test (n + 1)) × (count test (n + 1) ≤ count test n + 1)
-      by true e = omega (arith, count_yes n e)
-      by false e = omega (arith, count_no n e)
+  count-step n = grind (arith, ints, count_yes n, count_no n)
 
   -- more numbers, no fewer that pass
   count-le : (m d : ℕ) → count test m ≤ count test (m + d)
@@ -100,48 +91,32 @@ module _ (test : ℕ → Bool) where
 pub table-passing : {A : Type 0} (test : ℕ → Bool) (f g : ℕ → A) (n : ℕ) → ((k : ℕ) → k < n → test k ≡ true → f (count test k) ≡ g k)
     → table (count test n) f ≡ map g (passing test n)
 table-passing test f g zero h = rw (passing-zero test) (table-zero f)
-table-passing test f g (suc n) h = let e : suc n ≡ n + 1 = omega arith in rw e (by (test n) refl (table-passing test f g n (λ k l. h k (omega arith))))
-  where
-    by : (t : Bool) → test n ≡ t → table (count test n) f ≡ map g (passing test n) → table (count test (n + 1)) f ≡ map g (passing test (n + 1))
-    by true e ih = rw (count_yes test n e, passing-yes test n e, map-append g (passing test n) (n ∷ []), table-suc f (count test n), ih, h n (omega arith) e)
-    by false e ih = rw (count_no test n e, passing-no test n e) ih
+table-passing test f g (suc n) h =
+    let e : suc n ≡ n + 1 = omega arith in
+    let ih = table-passing test f g n (λ k l. h k (omega arith)) in
+    rw e (grind (arith, ints, count_yes test n, count_no test n, passing-yes test n, passing-no test n, map-append g (passing test n) (n ∷ []), table-suc f (count test n), h n))
 
 -- functions that agree where the test passes
 pub map-passing : {A : Type 0} (test : ℕ → Bool) (f g : ℕ → A) (n : ℕ) → ((k : ℕ) → k < n → test k ≡ true → f k ≡ g k) → map f (passing test n) ≡ map g (passing test n)
 map-passing test f g zero h = rw (passing-zero test)
-map-passing test f g (suc n) h = let e : suc n ≡ n + 1 = omega arith in rw e (by (test n) refl (map-passing test f g n (λ k l. h k (omega arith))))
-  where
-    by : (t : Bool) → test n ≡ t → map f (passing test n) ≡ map g (passing test n) → map f (passing test (n + 1)) ≡ map g (passing test (n + 1))
-    by true e ih = rw (passing-yes test n e, map-append f (passing test n) (n ∷ []), map-append g (passing test n) (n ∷ []), ih, h n (omega arith) e)
-    by false e ih = rw (passing-no test n e) ih
+map-passing test f g (suc n) h =
+    let e : suc n ≡ n + 1 = omega arith in
+    let ih = map-passing test f g n (λ k l. h k (omega arith)) in
+    rw e (grind (arith, ints, passing-yes test n, passing-no test n, map-append f (passing test n) (n ∷ []), map-append g (passing test n) (n ∷ []), h n))
 
 -- ---- some number below n that passes one test passes another
 
 pub some-none : (f g : ℕ → Bool) (n : ℕ) → ((k : ℕ) → k < n → g k ≡ true → f k ≡ false) → some f (passing g n) ≡ false
 unfolding some
 some-none f g zero h = rw (passing-zero g)
-some-none f g (suc n) h = let e : suc n ≡ n + 1 = omega arith in rw e (by (g n) refl (some-none f g n (λ k l. h k (omega arith))))
-  where
-    by : (t : Bool) → g n ≡ t → some f (passing g n) ≡ false → some f (passing g (n + 1)) ≡ false
-    by true e ih = rw (passing-yes g n e, some-snoc f (passing g n) n, ih, h n (omega arith) e)
-    by false e ih = rw (passing-no g n e) ih
+some-none f g (suc n) h =
+    let e : suc n ≡ n + 1 = omega arith in
+    let ih = some-none f g n (λ k l. h k (omega arith)) in
+    rw e (grind (arith, ints, passing-yes g n, passing-no g n, some-snoc f (passing g n) n, h n))
 
 pub some_one : (f g : ℕ → Bool) (n k : ℕ) → k < n → g k ≡ true → f k ≡ true → some f (passing g n) ≡ true
 some_one f g zero k l p q = absurd (omega arith)
-some_one f g (suc n) k l p q = let e : suc n ≡ n + 1 = omega arith in rw e (by (eqb k n) refl (λ r. some_one f g n k r p q))
-  where
-    or-true : (t : Bool) → (t || true) ≡ true
-    or-true true = refl
-    or-true false = refl
-
-    further : (t : Bool) → g n ≡ t → some f (passing g n) ≡ true → some f (passing g (n + 1)) ≡ true
-    further true e ih = rw (passing-yes g n e, some-snoc f (passing g n) n, ih)
-    further false e ih = rw (passing-no g n e) ih
-
-    by : (t : Bool) → eqb k n ≡ t → (k < n → some f (passing g n) ≡ true) → some f (passing g (n + 1)) ≡ true
-    by true e ih =
-        let r : n ≡ k = sym (eqb-true k n e) in
-        rw (passing-yes g n (ap g r ∙ p), some-snoc f (passing g n) n, ap f r ∙ q) (or-true (some f (passing g n)))
-    by false e ih =
-        let r : k ≡ n → ⊥ = eqb-false k n e in
-        further (g n) refl (ih (omega arith))
+some_one f g (suc n) k l p q =
+    let e : suc n ≡ n + 1 = omega arith in
+    let ih : k < n → some f (passing g n) ≡ true = λ r. some_one f g n k r p q in
+    rw e (grind (arith, ints, passing-yes g n, passing-no g n, some-snoc f (passing g n) n))

@@ -1,7 +1,6 @@
 -- Laws of roots: relabelled one axis after another, and as a mask whose ones below a bit are counted.
 use Rattle.std.specs.Prelude.{if◌then◌else◌}
 use mathlib.Core.Path.{◌≡◌, refl, sym, ap, ◌∙◌}
-use mathlib.Core.Bool.{Bool, true, false}
 use mathlib.Core.List.{List, ◌++◌, map}
 use Prim.Native.Nat.{ℕ, zero, suc, ◌+◌, ◌-◌, ◌*◌, ◌%◌, ◌^◌, ◌≤◌, ◌<◌}
 use native.Mathlib.Nat.{pow-suc, zero-add, suc-add, mod-eq_of_lt, add-mul-mod_self_right, one-mul}
@@ -12,6 +11,7 @@ use lib.Count.{ones, ones_in, ones_cat}
 use lib.ListN.{take, drop}
 use lib.Pow.{pow-add}
 use borrow.Author.Tests.{eq-eqb, ne_eqb}
+use Rattle.std.proofs.lemmas.Int.{ints}
 use Rattle.view.specs.Ties.{rootAt, renamed, isRoot, mask_of}
 use Rattle.view.proofs.MaskLaws.{shifted_one}
 use Rattle.view.proofs.RangeLaws.{passing-zero, count, count_yes, count_no}
@@ -36,11 +36,7 @@ module _ (roots : List ℕ) where
   mask_fits : (n : ℕ) → mask_of roots n < 2 ^ n
   unfolding mask_of
   mask_fits zero = omega arith
-  mask_fits (suc n) = by (isRoot roots n) (mask_fits n)
-    where
-      by : (t : Bool) → mask_of roots n < 2 ^ n → (if t then 1 else 0) * 2 ^ n + mask_of roots n < 2 ^ suc n
-      by true ih = omega (arith, pow-suc 2 n)
-      by false ih = omega (arith, pow-suc 2 n)
+  mask_fits (suc n) = let below = mask_fits n in grind (arith, ints, pow-suc 2 n)
 
   -- a root's bit is set, another's is not
   pub mask_set : (n mask : ℕ) → n < 16 → rootAt roots n ≡ n → mask ≡ mask_of roots n → bit_or mask ((1 * 2 ^ n) % 65536) ≡ mask_of roots (n + 1)
@@ -57,17 +53,11 @@ module _ (roots : List ℕ) where
   pub mask-ones : (n : ℕ) → ones (mask_of roots n) ≡ count (isRoot roots) n
   unfolding mask_of ones ones_in
   mask-ones zero = rw (passing-zero (isRoot roots))
-  mask-ones (suc n) = ones_cat n (if isRoot roots n then 1 else 0) (mask_of roots n) (mask_fits n) ∙ by (isRoot roots n) refl (mask-ones n) ∙ ap (count (isRoot roots)) (add-one n)
-    where
-      one : ones 1 ≡ 1
-      one = refl
-
-      none : ones 0 ≡ 0
-      none = refl
-
-      by : (t : Bool) → isRoot roots n ≡ t → ones (mask_of roots n) ≡ count (isRoot roots) n → ones (if t then 1 else 0) + ones (mask_of roots n) ≡ count (isRoot roots) (n + 1)
-      by true e ih = omega (arith, one, count_yes (isRoot roots) n e)
-      by false e ih = omega (arith, none, count_no (isRoot roots) n e)
+  mask-ones (suc n) =
+      let below = mask-ones n in
+      let one : ones 1 ≡ 1 = refl in
+      let none : ones 0 ≡ 0 = refl in
+      ones_cat n (if isRoot roots n then 1 else 0) (mask_of roots n) (mask_fits n) ∙ grind (arith, ints, count_yes (isRoot roots) n, count_no (isRoot roots) n)
 
   -- its low bits are the mask of the low axes
   mask_low : (k d : ℕ) → mask_of roots (d + k) % 2 ^ k ≡ mask_of roots k

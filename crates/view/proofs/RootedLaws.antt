@@ -8,7 +8,6 @@ use native.Mathlib.Omega.{arith}
 use lib.Dec.{eqb}
 use lib.ListN.{length}
 use Rattle.std.proofs.lemmas.List.{get_or-map}
-use borrow.Author.Tests.{eqb-true}
 use Rattle.view.specs.Ties.{rootAt, renamed, joined, Rooted}
 use Rattle.std.proofs.lemmas.Int.{ints}
 
@@ -36,14 +35,10 @@ module _ (n : ℕ) (roots : List ℕ) (long : length roots ≡ 16) (few : n ≤ 
 
   pub joined_rooted : Rooted n (joined roots (a, b))
   joined_rooted = record {
-    low = λ x h. rw (new-at x h) (is-low x h (eqb (old x) higher) (eqb-true (old x) higher));
+    low = λ x h. let was = of.low x h in rw (new-at x h) (grind (arith, ints));
     own = λ x h. rw (new-at x h) (owns x h (eqb (old x) higher) refl);
   }
     where
-      is-low : (x : ℕ) → x < n → (s : Bool) → (s ≡ true → old x ≡ higher) → (if s then lower else old x) ≤ x
-      is-low x h true e = omega (arith, e refl, of.low x h)
-      is-low x h false e = of.low x h
-
       owns : (x : ℕ) → x < n → (s : Bool) → eqb (old x) higher ≡ s → new (if s then lower else old x) ≡ (if s then lower else old x)
       owns x h true e = new-at lower (omega arith) ∙ ap (renamed higher lower) lower-own ∙ renamed-lower
       owns x h false e = new-at (old x) (omega (arith, of.low x h)) ∙ ap (renamed higher lower) (of.own x h) ∙ rw e refl

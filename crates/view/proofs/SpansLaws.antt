@@ -1,9 +1,8 @@
 -- The two sums of spans, one axis after another, and each with its limit.
-use Rattle.std.specs.Prelude.{if◌then◌else◌, None, Option}
-use Rattle.view.specs.declared.bounds.Spans.{Spans}
-use mathlib.Core.Path.{◌≡◌, refl, sym, ap, ◌∙◌}
-use mathlib.Core.Bool.{Bool, true, false, ◌&&◌, ◌||◌, and-false}
-use mathlib.Core.List.{List, [], ◌∷◌}
+use Rattle.std.specs.Prelude.{None}
+use mathlib.Core.Path.{◌≡◌, sym, ap, ◌∙◌}
+use mathlib.Core.Bool.{Bool, true, false, ◌&&◌, ◌||◌}
+use mathlib.Core.List.{List, ◌∷◌}
 use Prim.Native.Nat.{ℕ, ◌+◌, ◌-◌, ◌*◌, ◌≤◌, ◌<◌}
 use native.Mathlib.Numerals.{add-one}
 use native.Mathlib.Omega.{arith}
@@ -21,7 +20,7 @@ use Rattle.integer.proofs.MachineInteger.{readBack, negative-tested, nonnegative
 use Rattle.integer.proofs.MultipleLaws.{posPart-·, negPart-·}
 use Rattle.specification.specs.Axis.{Axis, extents, span, upward, downward}
 use Rattle.specification.specs.Views.{axisAt}
-use Rattle.view.specs.Reach.{none_wide, spansUpTo, sums, widths_pass}
+use Rattle.view.specs.Reach.{none_wide, spansUpTo, spans_within, sums, widths_pass}
 use Rattle.std.proofs.lemmas.Int.{ints}
 
 -- each sum so far and the spans still left, from axis i on, make the whole sum
@@ -77,21 +76,13 @@ module _ (wide : Bool) (axes : List Axis) (i : ℕ) (h : i < length axes) where
 
   -- an axis that is not too wide leaves the test to those behind it
   pub widths-turn : widths_pass wide axes ≡ widths_pass wide (drop i axes) → (wide ≡ false → (axisAt axes i).extent ≤ 9223372036854775808) → widths_pass wide axes ≡ widths_pass wide (drop (i + 1) axes)
-  widths-turn left narrow = left ∙ widths-here ∙ by wide narrow
-    where
-      by : (w : Bool) → (w ≡ false → (axisAt axes i).extent ≤ 9223372036854775808) → (w || (leb (axisAt axes i).extent 9223372036854775808 && none_wide (extents (drop (i + 1) axes)))) ≡ widths_pass w (drop (i + 1) axes)
-      by true n = refl
-      by false n = rw (le-leb (axisAt axes i).extent 9223372036854775808 (n refl))
+  widths-turn left narrow = left ∙ widths-here ∙ grind (arith, ints)
 
   pub widths-stop : widths_pass wide axes ≡ widths_pass wide (drop i axes) → wide ≡ false → 9223372036854775808 < (axisAt axes i).extent → widths_pass wide axes ≡ false
   widths-stop left e above = left ∙ widths-here ∙ rw (e, lt-leb (axisAt axes i).extent 9223372036854775808 above)
 
 pub widths-end : (wide : Bool) (axes : List Axis) (i : ℕ) → widths_pass wide axes ≡ widths_pass wide (drop i axes) → length axes ≤ i → widths_pass wide axes ≡ true
-widths-end wide axes i left h = left ∙ rw (drop_of_length-le axes h) (by wide)
-  where
-    by : (w : Bool) → widths_pass w [] ≡ true
-    by true = refl
-    by false = refl
+widths-end wide axes i left h = left ∙ rw (drop_of_length-le axes h) (grind (arith, ints))
 
 -- ---- both sums, each with its limit
 
@@ -99,15 +90,11 @@ pub spans-are : (above below : ℕ) (axes : List Axis) → upward axes ≤ above
     → spansUpTo above below axes ≡ sums (upward axes) (downward axes)
 spans-are above below axes h k = rw (le-leb (upward axes) above h, le-leb (downward axes) below k)
 
--- what is not there, there is not for narrow extents alone
-none-either : (t : Bool) {o : Option Spans} → o ≡ None → (if t then o else None) ≡ None
-none-either t e = grind (arith, ints)
-
-pub none-wider : (wide : Bool) (above below : ℕ) (axes : List Axis) → widths_pass wide axes ≡ false → None ≡ (if widths_pass wide axes then spansUpTo above below axes else None)
+pub none-wider : (wide : Bool) (above below : ℕ) (axes : List Axis) → widths_pass wide axes ≡ false → None ≡ spans_within wide above below axes
 none-wider wide above below axes e = rw e
 
-pub spans-above : (wide : Bool) (above below : ℕ) (axes : List Axis) → above < upward axes → (if widths_pass wide axes then spansUpTo above below axes else None) ≡ None
-spans-above wide above below axes h = none-either (widths_pass wide axes) (rw (lt-leb (upward axes) above h))
+pub spans-above : (wide : Bool) (above below : ℕ) (axes : List Axis) → above < upward axes → spans_within wide above below axes ≡ None
+spans-above wide above below axes h = grind (arith, ints)
 
-pub spans-below : (wide : Bool) (above below : ℕ) (axes : List Axis) → below < downward axes → (if widths_pass wide axes then spansUpTo above below axes else None) ≡ None
-spans-below wide above below axes h = none-either (widths_pass wide axes) (rw (lt-leb (downward axes) below h, and-false))
+pub spans-below : (wide : Bool) (above below : ℕ) (axes : List Axis) → below < downward axes → spans_within wide above below axes ≡ None
+spans-below wide above below axes h = grind (arith, ints)

@@ -2,13 +2,11 @@
 use mathlib.Core.Path.{◌≡◌, refl, sym, ap, ◌∙◌}
 use mathlib.Core.Bool.{Bool, true, false, not}
 use mathlib.Core.List.{List, [], ◌∷◌, ◌++◌}
-use mathlib.Core.Logic.{◌⊎◌, inl, inr}
+use mathlib.Core.Logic.{◌⊎◌, inl}
 use Prim.Native.Nat.{ℕ, zero, suc, ◌+◌, ◌<◌, min}
 use native.Mathlib.Omega.{arith}
-use lib.Dec.{eqb}
 use lib.IntN.{ℤ, pos, ◌+ℤ◌}
 use lib.ListN.{length}
-use borrow.Author.Tests.{eqb-true, eqb-false}
 use Rattle.integer.specs.Range.{fits}
 use Rattle.specification.specs.Axis.{Axis}
 use Rattle.specification.specs.Layout.{LayoutM}
@@ -92,32 +90,18 @@ module _ (axes : List Axis) (roots : List ℕ) where
   pub sums-pass : (test : ℕ → Bool) (n : ℕ) → ((k : ℕ) → k < n → test k ≡ true → classFault k ≡ pass) → fused_fault axes roots (passing test n) ≡ pass
   unfolding fused_fault ◌>>◌
   sums-pass test zero each = rw (passing-zero test)
-  sums-pass test (suc n) each = let e : suc n ≡ n + 1 = omega arith in rw e (by (test n) refl (sums-pass test n (λ k h. each k (omega arith))))
-    where
-      by : (s : Bool) → test n ≡ s → fused_fault axes roots (passing test n) ≡ pass → fused_fault axes roots (passing test (n + 1)) ≡ pass
-      by true e ih = rw (passing-yes test n e, sums-last (passing test n) n, ih) (each n (omega arith) e)
-      by false e ih = rw (passing-no test n e) ih
+  sums-pass test (suc n) each =
+      let e : suc n ≡ n + 1 = omega arith in
+      let ih = sums-pass test n (λ k h. each k (omega arith)) in
+      rw e (grind (arith, ints, passing-yes test n, passing-no test n, sums-last (passing test n) n, each n))
 
   pub sums-refused : (test : ℕ → Bool) (n k : ℕ) → k < n → test k ≡ true → classFault k ≡ refused 3 [] → fused_fault axes roots (passing test n) ≡ refused 3 []
   unfolding ◌>>◌
   sums-refused test zero k h e f = absurd (omega arith)
-  sums-refused test (suc n) k h e f = let q : suc n ≡ n + 1 = omega arith in rw q (by (eqb k n) refl (λ r. sums-refused test n k r e f))
-    where
-      either : Three (fused_fault axes roots (passing test n)) → ◌≡◌ {A = Check} (fused_fault axes roots (passing test n) >> refused 3 []) (refused 3 [])
-      either (inl p) = rw p
-      either (inr p) = rw p
-
-      further : (s : Bool) → test n ≡ s → fused_fault axes roots (passing test n) ≡ refused 3 [] → fused_fault axes roots (passing test (n + 1)) ≡ refused 3 []
-      further true p ih = rw (passing-yes test n p, sums-last (passing test n) n, ih)
-      further false p ih = rw (passing-no test n p) ih
-
-      by : (s : Bool) → eqb k n ≡ s → (k < n → fused_fault axes roots (passing test n) ≡ refused 3 []) → fused_fault axes roots (passing test (n + 1)) ≡ refused 3 []
-      by true p ih =
-          let r : n ≡ k = sym (eqb-true k n p) in
-          rw (passing-yes test n (ap test r ∙ e), sums-last (passing test n) n, ap classFault r ∙ f) (either (three-sums (passing test n)))
-      by false p ih =
-          let r : k ≡ n → ⊥ = eqb-false k n p in
-          further (test n) refl (ih (omega arith))
+  sums-refused test (suc n) k h e f =
+      let q : suc n ≡ n + 1 = omega arith in
+      let ih : k < n → fused_fault axes roots (passing test n) ≡ refused 3 [] = λ r. sums-refused test n k r e f in
+      rw q (grind (arith, ints, passing-yes test n, passing-no test n, sums-last (passing test n) n, three-sums (passing test n)))
 
 -- ---- the refusals by pairs are those by roots, where the classes are
 
@@ -133,9 +117,7 @@ module _ (l : LayoutM) (pairs : List (ℕ × ℕ)) (roots : List ℕ) where
       → sumFaults l pairs (passing test n) ≡ fused_fault l.axes roots (passing test n)
   unfolding sumFaults fused_fault
   faults-same test zero same = rw (passing-zero test)
-  faults-same test (suc n) same = let e : suc n ≡ n + 1 = omega arith in rw e (by (test n) refl (faults-same test n (λ k h. same k (omega arith))))
-    where
-      by : (s : Bool) → test n ≡ s → sumFaults l pairs (passing test n) ≡ fused_fault l.axes roots (passing test n)
-          → sumFaults l pairs (passing test (n + 1)) ≡ fused_fault l.axes roots (passing test (n + 1))
-      by true e ih = rw (passing-yes test n e, faults-last (passing test n) n, sums-last l.axes roots (passing test n) n, ih, same n (omega arith) e)
-      by false e ih = rw (passing-no test n e) ih
+  faults-same test (suc n) same =
+      let e : suc n ≡ n + 1 = omega arith in
+      let ih = faults-same test n (λ k h. same k (omega arith)) in
+      rw e (grind (arith, ints, passing-yes test n, passing-no test n, faults-last (passing test n) n, sums-last l.axes roots (passing test n) n, same n))

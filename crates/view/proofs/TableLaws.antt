@@ -1,15 +1,13 @@
 -- Laws of `table`: functions that agree, one entry more, its length, and an entry.
 use mathlib.Core.Path.{◌≡◌, refl, ◌∙◌}
-use mathlib.Core.Bool.{Bool, true, false}
 use mathlib.Core.List.{[], ◌∷◌, ◌++◌}
 use Prim.Native.Nat.{ℕ, zero, suc, ◌+◌, ◌<◌}
 use native.Mathlib.Nat.{not-suc-le-zero, le_refl}
 use native.Mathlib.Numerals.{add-one}
 use native.Mathlib.Omega.{arith}
-use lib.Dec.{eqb}
 use lib.ListN.{length, get_or, length-append, get_or-append}
 use lib.Seq.{get_or_at}
-use borrow.Author.Tests.{eqb-true, eqb-false}
+use Rattle.std.proofs.lemmas.Int.{ints}
 use Rattle.view.specs.Table.{table}
 
 module _ {A : Type 0} where
@@ -36,11 +34,6 @@ module _ {A : Type 0} where
   pub getD-table : (f : ℕ → A) (n i : ℕ) (d : A) → i < n → get_or (table n f) i d ≡ f i
   unfolding table
   getD-table f zero i d h = absurd (not-suc-le-zero h)
-  getD-table f (suc n) i d h = by-test (eqb i n) refl (λ l. getD-table f n i d l)
-    where
-      by-test : (t : Bool) → eqb i n ≡ t → (i < n → get_or (table n f) i d ≡ f i) → get_or (table n f ++ (f n ∷ [])) i d ≡ f i
-      by-test true e go = rw (eqb-true i n e) (get_or_at (table n f) (f n) [] d n (length-table f n))
-      by-test false e go =
-          let ne : i ≡ n → ⊥ = eqb-false i n e in
-          let l : i < n = omega arith in
-          get_or-append (table n f) (f n ∷ []) d i (omega (arith, length-table f n)) ∙ go l
+  getD-table f (suc n) i d h =
+      let below : i < n → get_or (table n f) i d ≡ f i = λ l. getD-table f n i d l in
+      grind (arith, ints, length-table f n, get_or_at (table n f) (f n) [] d n, get_or-append (table n f) (f n ∷ []) d i)

@@ -63,11 +63,7 @@ among_cases : (q : ℕ × ℕ) (ps : List (ℕ × ℕ)) (p : ℕ × ℕ) → Amo
 among_cases q [] p (inl e) = inr e
 among_cases q [] p (inr m) = absurd m
 among_cases q (r ∷ ps) p (inl e) = inl (inl e)
-among_cases q (r ∷ ps) p (inr m) = further (among_cases q ps p m)
-  where
-    further : Among q ps ⊎ (q ≡ p) → Among q (r ∷ ps) ⊎ (q ≡ p)
-    further (inl n) = inl (inr n)
-    further (inr e) = inr e
+among_cases q (r ∷ ps) p (inr m) = elim (among_cases q ps p m) [ inl n ↦ inl (inr n) | inr e ↦ inr e ]
 
 tied-wider : {ps : List (ℕ × ℕ)} {a b : ℕ} (qs : List (ℕ × ℕ)) → Tied ps a b → Tied (ps ++ qs) a b
 tied-wider qs itself = itself
@@ -141,11 +137,7 @@ module _ {ps : List (ℕ × ℕ)} {roots : List ℕ} (of : RootsOf ps roots) (a 
   joined_at x h = get_or-map (renamed higher lower) roots x 0 0 (omega (arith, of.long))
 
   joined-low : (x : ℕ) → x < 16 → rootAt new x ≤ x
-  joined-low x h = rw (joined_at x h) (by (eqb (old x) higher) (eqb-true (old x) higher))
-    where
-      by : (s : Bool) → (s ≡ true → old x ≡ higher) → (if s then lower else old x) ≤ x
-      by true e = omega (arith, e refl, of.low x h)
-      by false e = of.low x h
+  joined-low x h = let was = of.low x h in rw (joined_at x h) (grind (arith, ints))
 
   both_tied : Tied (more ps a b) (old a) (old b)
   both_tied = chain (turned (tied-wider ((a, b) ∷ []) (of.tied a (omega arith))))

@@ -1,5 +1,6 @@
 pub mod Answers
 pub mod Table
+pub mod Lists
 pub mod Model
 pub mod Bounded
 pub mod Reach

@@ -1,16 +1,22 @@
 -- How far the offsets of a layout reach, as the code answers it.
-use Rattle.std.specs.Prelude.{Bool, not, ◌&&◌, ◌||◌, List, [], ℕ, ◌^◌, leb, ltb, ℤ, pos, if◌then◌else◌, None, Option, Some}
+use Rattle.std.specs.Prelude.{Bool, not, ◌&&◌, ◌||◌, List, [], ℕ, ◌^◌, leb, ℤ, pos, if◌then◌else◌, None, Option, Some}
 use Rattle.std.specs.List.{list_all}
 use Rattle.std.specs.Int.Signed.{le_z, lt_z}
 use Rattle.integer.specs.Range.{mostSigned}
 use Rattle.specification.specs.Axis.{Axis, extents, upward, downward, is_empty}
 use Rattle.specification.specs.Beside.{zeroAmong}
-use Rattle.specification.specs.Layout.{LayoutM, lowest, highest, inReach, tooLong}
-use Rattle.specification.specs.Outcome.{Outcome, Check, done, refused, refuseIf, ◌>>◌}
+use Rattle.specification.specs.Layout.{LayoutM, lowest, highest, inReach}
+use Rattle.specification.specs.Outcome.{Outcome, done, refused, refuseIf, ◌>>◌}
+use Rattle.view.specs.Model.{modelFrom}
+use Rattle.view.specs.declared.bounds.Candidate.{Candidate}
 use Rattle.view.specs.declared.bounds.Reach.{Reach}
 use Rattle.view.specs.declared.bounds.Reach.TheVariants.{Empty, Between, Outside}
 use Rattle.view.specs.declared.layout.ReadingOffset.{ReadingOffset}
 use Rattle.view.specs.declared.bounds.Spans.{Spans}
+
+-- a candidate as a layout, by the axes that it has
+abbrev pub candidate_model : {A : Type 0} → (A → List Axis) → Candidate A → LayoutM
+candidate_model axes_of c = modelFrom c.len c.offset.0 (axes_of c.axes)
 
 -- the lowest and the highest offset, or none where there is no position
 pub data Ends : Type 0 where
@@ -59,12 +65,14 @@ none_wide = list_all (λ n. leb n (2 ^ 63))
 abbrev pub widths_pass : Bool → List Axis → Bool
 widths_pass wide axes = wide || none_wide (extents axes)
 
+-- both sums, where the widths pass
+abbrev pub spans_within : Bool → ℕ → ℕ → List Axis → Option Spans
+spans_within wide above below axes = if widths_pass wide axes then spansUpTo above below axes else None
+
+-- both ends, where the widths pass
+abbrev pub ends_within : Bool → LayoutM → Option Ends
+ends_within wide l = if widths_pass wide l.axes then accepted_ends l else None
+
 -- what check-in's bounds let pass (`bounds` as one test)
 abbrev pub in_bounds : LayoutM → Bool
 in_bounds l = (within l && none_wide (extents l.axes)) || zeroAmong (extents l.axes)
-
--- refusals 1 and 3 of a layout, with a list of so many entries
-abbrev pub handed_with : LayoutM → ℕ → Check
-handed_with l entries =
-    refuseIf (tooLong l.axes || ltb 16 entries) 1 []
-    >> refuseIf (not (inReach l)) 3 []

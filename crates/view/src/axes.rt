@@ -1,9 +1,11 @@
 //! Axes as they are handed in: side by side, or as a list of extents and a list of strides.
-ghost use Rattle.std.specs.Prelude.{◌≡◌, ◌<◌, List, length, pos, slice_index_or};
+ghost use Rattle.std.specs.Prelude.{◌≡◌, ◌≤◌, ◌<◌, List, ◌++◌, drop, length, pos, slice_index_or, IfOk};
 ghost use Rattle.specification.specs.Axis.{Axis as AxisM, axesOf, extents};
 ghost use Rattle.specification.specs.Views.{axisAt};
+ghost use Rattle.view.specs.Answers.{outcome_by};
 
 use crate::count::Extent;
+use crate::layout::{MOST_AXES, Refusal};
 use axis::Axis;
 
 /// Axes that can be read one by one.
@@ -13,9 +15,11 @@ pub trait Axes: Copy {
 
     ghost axes_of: { Self → List AxisM };
 
+    /// One entry an axis, in order.
     fn entries(&self) -> &[Self::Entry]
         ensures { Self.Entry.extents_of result.now ≡ extents (axes_of self.now) };
 
+    /// The stride of the axis at a place, in readings.
     fn stride(&self, place: usize) -> i64
         requires { place < length (axes_of self.now) }
         ensures { result ≡ (axisAt (axes_of self.now) place).stride };
@@ -35,12 +39,45 @@ impl Axes for &[Axis] {
     }
 }
 
-/// Two lists that are as long as each other.
+/// Axes in two lists of one length, which is at most 16.
 #[derive(Clone, Copy)]
 pub struct Lists<'a> {
+    /// One an axis.
     pub extents: &'a [u64],
+    /// One an axis, in readings.
     pub strides: &'a [i64],
+    ghost few: { length extents.now ≤ 16 },
     ghost alike: { length strides.now ≡ length extents.now },
+}
+
+impl<'a> Lists<'a> {
+    ghost use Rattle.view.specs.Lists.{axes_in, paired};
+
+    /// Refusal 1 for more than 16 entries in either, then 2 for lengths that differ; or the two lists.
+    #[tactic(auto, using(crate::proofs::ListsLaws::many_extents, crate::proofs::ListsLaws::many_strides, crate::proofs::ListsLaws::lengths_differ, crate::proofs::ListsLaws::paired_lists))]
+    pub fn new(extents: &'a [u64], strides: &'a [i64]) -> Result<Self, Refusal>
+        ensures answer { outcome_by axes_in result ≡ paired extents.now strides.now }
+        ensures extents { IfOk result (λ lists. lists.extents.now ≡ extents.now) }
+        ensures strides { IfOk result (λ lists. lists.strides.now ≡ strides.now) }
+    {
+        if MOST_AXES < extents.len() || MOST_AXES < strides.len() {
+            return Err(Refusal::TooManyAxes);
+        }
+        if extents.len() != strides.len() {
+            return Err(Refusal::LengthsDiffer);
+        }
+        Ok(Lists { extents, strides })
+    }
+
+    /// Their axes into the first places of an array; the places past them stay.
+    pub fn store(&self, axes: &mut [Axis; 16])
+        ensures { axes.new ≡ axes_in self.now ++ drop (length self.now.extents.now) axes.old }
+    {
+        for (i, &extent) in self.extents.iter().enumerate() {
+            let stride = stride_at(self.strides, i);
+            axes[i] = Axis { extent, stride };
+        }
+    }
 }
 
 /// A list by itself: of a list inside a struct the check knows no size.
@@ -52,9 +89,11 @@ fn stride_at(strides: &[i64], place: usize) -> i64
 }
 
 impl Axes for Lists<'_> {
+    ghost use Rattle.view.specs.Lists.{axes_in};
+
     type Entry = u64;
 
-    ghost axes_of = { λ lists. axesOf lists.extents.now lists.strides.now };
+    ghost axes_of = { axes_in };
 
     #[tactic(auto, using(crate::proofs::AxesLaws::extents_axesOf))]
     fn entries(&self) -> &[u64] {
@@ -64,19 +103,5 @@ impl Axes for Lists<'_> {
     #[tactic(auto, using(crate::proofs::AxesLaws::length_lists, crate::proofs::AxesLaws::stride_axesOf))]
     fn stride(&self, place: usize) -> i64 {
         stride_at(self.strides, place)
-    }
-}
-
-/// Two lists stored as axes.
-pub fn pair_into(axes: &mut [Axis], extents: &[u64], strides: &[i64])
-    requires room { length axes.old ≡ length extents.now }
-    requires alike { length strides.now ≡ length extents.now }
-    ensures { axes.new ≡ axesOf extents.now strides.now }
-{
-    for (i, &extent) in extents.iter().enumerate() {
-        axes[i] = Axis {
-            extent,
-            stride: strides[i],
-        };
     }
 }

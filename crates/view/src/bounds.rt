@@ -1,10 +1,10 @@
 //! How far the offsets of a layout reach, check-in's refusal 3, and the refusals 1 and 3 of a layout that is handed in.
-ghost use Rattle.std.specs.Prelude.{◌≡◌, ◌≤◌, length, OnOk, None, if◌then◌else◌};
+ghost use Rattle.std.specs.Prelude.{◌≡◌, ◌≤◌, length, OnOk};
 ghost use Rattle.specification.specs.CheckIn.{bounds, checkIn};
-ghost use Rattle.specification.specs.Layout.{inReach};
+ghost use Rattle.specification.specs.Layout.{inReach, handed};
 ghost use Rattle.view.specs.Answers.{outcomeOf, answer_of};
-ghost use Rattle.view.specs.Model.{modelOf, modelFrom};
-ghost use Rattle.view.specs.Reach.{spansUpTo, ends_told, accepted_ends, within, widths_pass, in_bounds, handed_with, reachTold, reachOf};
+ghost use Rattle.view.specs.Model.{modelOf};
+ghost use Rattle.view.specs.Reach.{candidate_model, spansUpTo, spans_within, ends_told, ends_within, within, in_bounds, reachTold, reachOf};
 
 use crate::axes::{Axes, Lists};
 use crate::bounded::bounded_product;
@@ -12,18 +12,23 @@ use crate::count::{Extent, has_no_position};
 use crate::layout::{Layout, MOST_AXES, ReadingOffset, Refusal};
 use axis::Axis;
 
-/// The lowest and the highest offset of a layout that is not empty, where all its offsets are accepted.
+/// How far the offsets of a layout reach.
 #[derive(Clone, Copy, Debug, PartialEq, Eq)]
 pub enum Reach {
+    /// There is no position.
     Empty,
+    /// The lowest and the highest.
     Between(ReadingOffset, ReadingOffset),
+    /// One is below 0, above 2^63 - 1 or not below the length.
     Outside,
 }
 
-/// Two sums: of the positive spans, and of the negative ones without their sign.
+/// Two sums, in readings: of the positive spans, and of the negative ones without their sign.
 #[derive(Clone, Copy, Debug, PartialEq, Eq)]
 pub struct Spans {
+    /// Of the spans above 0, in readings.
     pub up: u64,
+    /// Of the spans below 0, in readings.
     pub down: u64,
 }
 
@@ -36,7 +41,7 @@ pub fn sum_spans<A: Axes>(axes: A, above: u64, below: u64) -> Option<Spans>
 
 /// As `sum_spans`; where wide extents do not pass, no extent minus 1 is above 2^63 - 1 either.
 fn spans_within<A: Axes>(axes: A, above: u64, below: u64, wide_passes: bool) -> Option<Spans>
-    ensures { result ≡ (if widths_pass wide_passes (A.axes_of axes) then spansUpTo above below (A.axes_of axes) else None) }
+    ensures { result ≡ spans_within wide_passes above below (A.axes_of axes) }
 {
     // what the spans so far leave of the limits
     let mut up = above;
@@ -59,66 +64,80 @@ fn spans_within<A: Axes>(axes: A, above: u64, below: u64, wide_passes: bool) -> 
     })
 }
 
-/// The lowest and the highest offset, where a zero extent counts as 1, if both are accepted; and no extent is wide, unless wide ones pass.
-fn accepted_ends<A: Axes>(
-    len: u64,
-    offset: ReadingOffset,
-    axes: A,
-    wide_passes: bool,
-) -> Option<(ReadingOffset, ReadingOffset)>
-    ensures { ends_told result ≡ (if widths_pass wide_passes (A.axes_of axes) then accepted_ends (modelFrom len offset.0 (A.axes_of axes)) else None) }
-{
-    if offset.0 < 0 {
-        return None;
+/// A layout that is tested before anything is stored: its axes may still stand in two lists.
+#[derive(Clone, Copy)]
+pub struct Candidate<A> {
+    /// How many readings the buffer holds.
+    pub len: u64,
+    /// Where the reading stands whose indices are all 0.
+    pub offset: ReadingOffset,
+    /// Its axes, in their order.
+    pub axes: A,
+}
+
+impl<A: Axes> Candidate<A> {
+    /// The lowest and the highest offset, where a zero extent counts as 1, if both are accepted; and no extent is wide, unless
+    /// wide ones pass.
+    fn accepted_ends(&self, wide_passes: bool) -> Option<(ReadingOffset, ReadingOffset)>
+        ensures { ends_told result
+            ≡ ends_within wide_passes (candidate_model A.axes_of self.now) }
+    {
+        if self.offset.0 < 0 {
+            return None;
+        }
+        let base = self.offset.0.unsigned_abs();
+        let spans = spans_within(self.axes, i64::MAX as u64 - base, base, wide_passes)?;
+        let high = base + spans.up;
+        if self.len <= high {
+            return None;
+        }
+        Some((
+            ReadingOffset((base - spans.down) as i64),
+            ReadingOffset(high as i64),
+        ))
     }
-    let base = offset.0.unsigned_abs();
-    let spans = spans_within(axes, i64::MAX as u64 - base, base, wide_passes)?;
-    let high = base + spans.up;
-    if len <= high {
-        return None;
+
+    /// Whether both ends are accepted.
+    fn is_within(&self) -> bool
+        ensures { result ≡ within (candidate_model A.axes_of self.now) }
+    {
+        self.accepted_ends(true).is_some()
     }
-    Some((
-        ReadingOffset((base - spans.down) as i64),
-        ReadingOffset(high as i64),
-    ))
-}
 
-/// Whether both ends are accepted.
-fn is_within<A: Axes>(len: u64, offset: ReadingOffset, axes: A) -> bool
-    ensures { result ≡ within (modelFrom len offset.0 (A.axes_of axes)) }
-{
-    accepted_ends(len, offset, axes, true).is_some()
-}
+    /// Whether the rule after the table lets pass.
+    #[tactic(auto, using(crate::proofs::BoundsLaws::reach_within, crate::proofs::BoundsLaws::reach_beyond))]
+    fn is_in_reach(&self) -> bool
+        ensures { result ≡ inReach (candidate_model A.axes_of self.now) }
+    {
+        self.is_within() || has_no_position(self.axes.entries())
+    }
 
-/// Whether check-in lets pass: where the offsets are within, each span fits, so only a wide extent is left to test.
-fn is_in_bounds<A: Axes>(len: u64, offset: ReadingOffset, axes: A) -> bool
-    ensures { result ≡ in_bounds (modelFrom len offset.0 (A.axes_of axes)) }
-{
-    accepted_ends(len, offset, axes, false).is_some() || has_no_position(axes.entries())
-}
+    // Both are inlined: a candidate then never stands in memory, and check-in takes a quarter less.
 
-/// Whether the rule after the table lets pass.
-#[tactic(auto, using(crate::proofs::BoundsLaws::reach_within, crate::proofs::BoundsLaws::reach_beyond))]
-fn is_in_reach(len: u64, offset: ReadingOffset, axes: &[Axis]) -> bool
-    ensures { result ≡ inReach (modelFrom len offset.0 axes.now) }
-{
-    is_within(len, offset, axes) || has_no_position(axes)
-}
+    /// Whether check-in lets pass: where the offsets are within, each span fits, so only a wide extent is left to test.
+    #[inline(always)]
+    fn is_in_bounds(&self) -> bool
+        ensures { result ≡ in_bounds (candidate_model A.axes_of self.now) }
+    {
+        self.accepted_ends(false).is_some() || has_no_position(self.axes.entries())
+    }
 
-/// Check-in's refusal 3.
-#[tactic(auto, using(crate::proofs::BoundsLaws::bounds_passed, crate::proofs::BoundsLaws::bounds_refused))]
-pub fn bounds_refusal<A: Axes>(len: u64, offset: ReadingOffset, axes: A) -> Result<(), Refusal>
-    ensures { outcomeOf result ≡ bounds (modelFrom len offset.0 (A.axes_of axes)) }
-{
-    if is_in_bounds(len, offset, axes) {
-        Ok(())
-    } else {
-        Err(Refusal::OutOfRange)
+    /// Check-in's refusal 3: an offset outside 0 to 2^63 - 1 or not below the length, or a wide extent, where no extent is 0.
+    #[inline(always)]
+    #[tactic(auto, using(crate::proofs::BoundsLaws::bounds_passed, crate::proofs::BoundsLaws::bounds_refused))]
+    pub fn bounds_refusal(&self) -> Result<(), Refusal>
+        ensures { outcomeOf result ≡ bounds (candidate_model A.axes_of self.now) }
+    {
+        if self.is_in_bounds() {
+            Ok(())
+        } else {
+            Err(Refusal::OutOfRange)
+        }
     }
 }
 
-/// Check-in without the layout: refusals 1 and 2, then the bounds.
-#[tactic(auto, using(crate::proofs::CheckInLaws::many_extents, crate::proofs::CheckInLaws::many_strides, crate::proofs::CheckInLaws::lengths_differ, crate::proofs::CheckInLaws::bounds_answered))]
+/// Check-in without the layout: refusals 1 and 2, then 3.
+#[tactic(auto, using(crate::proofs::CheckInLaws::lists_refused, crate::proofs::CheckInLaws::bounds_answered))]
 pub fn validate_bounds(
     len: u64,
     offset: ReadingOffset,
@@ -129,43 +148,51 @@ pub fn validate_bounds(
     ensures few { OnOk result (length extents.now ≤ 16) }
     ensures alike { OnOk result (length strides.now ≡ length extents.now) }
 {
-    if MOST_AXES < extents.len() || MOST_AXES < strides.len() {
-        return Err(Refusal::TooManyAxes);
-    }
-    if extents.len() != strides.len() {
-        return Err(Refusal::LengthsDiffer);
-    }
-    bounds_refusal(len, offset, Lists { extents, strides })
+    let axes = Lists::new(extents, strides)?;
+    Candidate { len, offset, axes }.bounds_refusal()
 }
 
 impl Layout {
+    /// Itself, to be tested.
+    fn candidate(&self) -> Candidate<&[Axis]>
+        requires { self.now.rank ≤ 16 }
+        ensures { candidate_model (λ axes. axes.now) result ≡ modelOf self.now }
+    {
+        Candidate {
+            len: self.len,
+            offset: self.offset,
+            axes: self.axes(),
+        }
+    }
+
     /// The reach of a layout.
     #[tactic(auto, using(crate::proofs::BoundsLaws::reach_empty, crate::proofs::BoundsLaws::reach_outside, crate::proofs::BoundsLaws::reach_between))]
     pub fn reach(&self) -> Reach
         requires { self.now.rank ≤ 16 }
         ensures { reachTold result ≡ reachOf (modelOf self.now) }
     {
-        let axes = self.axes();
-        if has_no_position(axes) {
+        let candidate = self.candidate();
+        if has_no_position(candidate.axes) {
             return Reach::Empty;
         }
-        match accepted_ends(self.len, self.offset, axes, true) {
+        match candidate.accepted_ends(true) {
             None => Reach::Outside,
             Some((low, high)) => Reach::Between(low, high),
         }
     }
 
-    /// Refusals 1 and 3 of a layout, for a call whose list has so many entries (0 for a call that takes none).
+    /// Refusal 1 for more than 16 axes or entries of the call's list (0 for a call that takes none), 3 for an offset that is not
+    /// accepted.
     #[tactic(auto, unfolding(specification::specs::Outcome::refuseIf), using(crate::proofs::HandedLaws::many_axes, crate::proofs::HandedLaws::many_entries, crate::proofs::HandedLaws::handed_few))]
     pub fn handed_refusal(&self, entries: usize) -> Result<(), Refusal>
-        ensures answer { outcomeOf result ≡ handed_with (modelOf self.now) entries }
+        ensures answer { outcomeOf result ≡ handed (modelOf self.now) entries }
         ensures few_axes { OnOk result (self.now.rank ≤ 16) }
         ensures few_entries { OnOk result (entries ≤ 16) }
     {
         if MOST_AXES < self.rank || MOST_AXES < entries {
             return Err(Refusal::TooManyAxes);
         }
-        if is_in_reach(self.len, self.offset, self.axes()) {
+        if self.candidate().is_in_reach() {
             Ok(())
         } else {
             Err(Refusal::OutOfRange)

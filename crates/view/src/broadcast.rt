@@ -38,7 +38,8 @@ fn stretch<E: Extent>(axes: &mut [Axis], targets: &[E])
 impl Layout {
     /// Every refusal of broadcast, in order.
     fn broadcast_refusal<E: Extent>(&self, targets: &[E]) -> Result<(), Refusal>
-        ensures answer { outcomeOf result ≡ broadcast_refusal (modelOf self.now) (E.extents_of targets.now) }
+        ensures answer { outcomeOf result
+            ≡ broadcast_refusal (modelOf self.now) (E.extents_of targets.now) }
         ensures few { OnOk result (self.now.rank ≤ 16) }
         ensures listed { OnOk result (length targets.now ≡ self.now.rank) }
     {
@@ -49,9 +50,11 @@ impl Layout {
         target_fault(self.axes(), targets)
     }
 
-    /// Stretched to the target extents; or the refusal, and the layout as it was.
+    /// Stretched to the target extents; or refusal 1, 3, 4 for another number of targets than axes, 6 with the first axis whose
+    /// extent is neither its target nor 1, and the layout as it was.
     pub fn broadcast_in_place<E: Extent>(&mut self, targets: &[E]) -> Result<(), Refusal>
-        ensures told { told result self.new ≡ broadcast (modelOf self.old) (E.extents_of targets.now) }
+        ensures told { told result self.new
+            ≡ broadcast (modelOf self.old) (E.extents_of targets.now) }
         ensures kept { OnErr result (self.new ≡ self.old) }
         ensures past { drop self.new.rank self.new.axes ≡ drop self.new.rank self.old.axes }
     {

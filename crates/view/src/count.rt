@@ -15,6 +15,7 @@ pub trait Extent: Copy {
 
     ghost extent_of: { Self → ℕ };
 
+    /// How many indices the axis has.
     fn extent(self) -> u64
         ensures { result ≡ extent_of self };
 
@@ -89,7 +90,7 @@ pub fn element_count<E: Extent>(list: &[E]) -> Result<u64, Refusal>
     Ok(count)
 }
 
-/// The positions of axes with these extents.
+/// `element_count` of a list of extents.
 pub fn checked_element_count(extents: &[u64]) -> Result<u64, Refusal>
     ensures { outcomeOf result ≡ elementCount extents.now }
 {

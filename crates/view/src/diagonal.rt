@@ -6,13 +6,13 @@ ghost use Rattle.view.specs.Answers.{outcomeOf};
 ghost use Rattle.view.specs.Model.{modelOf, viewedOf, told, first_axes};
 ghost use Rattle.view.specs.Ties.{pairsIn, own_roots, joined, joined_all, renamed, mask_of, Rooted, roots_below, fused_axes, fused_fault, fused_view};
 
-use crate::bounds::bounds_refusal;
+use crate::bounds::Candidate;
 use crate::layout::{Layout, NO_AXIS, Refusal, Viewed};
 use crate::numbers::Pair;
 use axis::Axis;
 use integer::signed::checked_add;
 
-/// Two axes that are to be one.
+/// Two axes that are to be one, by their numbers from 0.
 #[derive(Clone, Copy, Debug, PartialEq, Eq)]
 pub struct AxisPair(pub usize, pub usize);
 
@@ -73,7 +73,8 @@ impl Ties {
     /// The pairs in order, up to the first that is refused.
     fn tie_all<P: Pair>(&mut self, pairs: &[P]) -> Result<(), Refusal>
         ensures answer { outcomeOf result ≡ pairFault self.old.rank (map P.numbers_of pairs.now) }
-        ensures roots { OnOk result (self.new.roots ≡ joined_all self.old.roots (map P.numbers_of pairs.now)) }
+        ensures roots { OnOk result (self.new.roots
+            ≡ joined_all self.old.roots (map P.numbers_of pairs.now)) }
         ensures rank { self.new.rank ≡ self.old.rank }
     {
         for pair in pairs {
@@ -118,7 +119,8 @@ fn fuse(
     requires few { length axes.now ≤ 16 }
     requires rooted { Rooted (length axes.now) roots.now }
     requires masked { mask ≡ mask_of roots.now (length axes.now) }
-    ensures answer { outcomeOf result ≡ fused_fault axes.now roots.now (roots_below roots.now (length axes.now)) }
+    ensures answer { outcomeOf result
+        ≡ fused_fault axes.now roots.now (roots_below roots.now (length axes.now)) }
     ensures fused { OnOk result (first_axes fused.new (ones mask) ≡ fused_axes axes.now roots.now) }
 {
     for (axis, &Axis { extent, stride }) in axes.iter().enumerate() {
@@ -146,7 +148,12 @@ impl Layout {
         let mut fused = [NO_AXIS; 16];
         fuse(&self.axes[..self.rank], &ties.roots, mask, &mut fused)?;
         let rank = mask.count_ones() as usize;
-        bounds_refusal(self.len, self.offset, &fused[..rank])?;
+        Candidate {
+            len: self.len,
+            offset: self.offset,
+            axes: &fused[..rank],
+        }
+        .bounds_refusal()?;
         self.rank = rank;
         self.axes[..rank].copy_from_slice(&fused[..rank]);
         Ok(())
@@ -155,7 +162,8 @@ impl Layout {
     /// Tied axes as one axis, for pairs in order; or the refusal, and the layout as it was.
     #[tactic(auto, using(crate::proofs::DiagonalLaws::diagonal_handed, crate::proofs::DiagonalLaws::diagonal_paired, crate::proofs::DiagonalLaws::diagonal_fused))]
     pub(crate) fn diagonal_by<P: Pair>(&mut self, pairs: &[P]) -> Result<(), Refusal>
-        ensures told { told result self.new ≡ diagonalView (modelOf self.old) (map P.numbers_of pairs.now) }
+        ensures told { told result self.new
+            ≡ diagonalView (modelOf self.old) (map P.numbers_of pairs.now) }
         ensures kept { OnErr result (self.new ≡ self.old) }
         ensures past { drop self.new.rank self.new.axes ≡ drop self.new.rank self.old.axes }
     {
@@ -165,7 +173,8 @@ impl Layout {
         self.fuse_in_place(&ties)
     }
 
-    /// Tied axes as one axis, for pairs in order; or the refusal, and the layout as it was.
+    /// Tied axes as one axis, for pairs in order; or refusal 1, 3, 5 with an axis of the first pair that names one outside the
+    /// rank or one twice, 3 of a sum of strides or of the bounds, and the layout as it was.
     pub fn diagonal_in_place(&mut self, pairs: &[AxisPair]) -> Result<(), Refusal>
         ensures told { told result self.new ≡ diagonalView (modelOf self.old) (pairsIn pairs.now) }
         ensures kept { OnErr result (self.new ≡ self.old) }

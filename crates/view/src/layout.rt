@@ -4,8 +4,8 @@ ghost use Rattle.specification.specs.CheckIn.{checkIn};
 ghost use Rattle.view.specs.Answers.{number_of, values_of, listed};
 ghost use Rattle.view.specs.Model.{modelOf, told, accepted_of, layout_outcome, checked_into};
 
-use crate::axes::pair_into;
-use crate::bounds::validate_bounds;
+use crate::axes::Lists;
+use crate::bounds::Candidate;
 use crate::values::Values;
 use axis::Axis;
 use thiserror::Error;
@@ -18,46 +18,64 @@ pub const MOST_AXES: usize = 16;
 #[derive(Clone, Copy, Debug, PartialEq, Eq, PartialOrd, Ord)]
 pub struct ReadingOffset(pub i64);
 
-/// Array places past the rank are no part of a layout and may hold anything. Whoever makes one may set any rank.
+/// Where readings stand in a buffer. Array places past the rank are no part of a layout and may hold anything. Whoever makes one
+/// may set any rank.
 #[repr(C)]
 #[derive(Clone, Copy, Debug)]
 pub struct Layout {
+    /// How many readings the buffer holds.
     pub len: u64,
+    /// Where the reading stands whose indices are all 0.
     pub offset: ReadingOffset,
+    /// How many axes there are; each call refuses more than 16.
     pub rank: usize,
+    /// The axes in the first places.
     pub axes: [Axis; 16],
 }
 
 /// The layout after a view, or as it was beside the refusal.
 #[derive(Clone, Copy, Debug)]
 pub struct Viewed {
+    /// The layout after the view, or the one before it.
     pub layout: Layout,
+    /// Whether the view was made, or why not.
     pub answer: Result<(), Refusal>,
 }
 
-/// One row of the table of refusals each, with the values that are returned.
+/// Why a call is refused: one row of the table of refusals each, with the values that are returned.
 #[derive(Clone, Copy, Debug, PartialEq, Eq, Error)]
 pub enum Refusal {
+    /// 1: a list of axes has more than 16 entries, or a layout more than 16 axes.
     #[error("more than 16 axes or entries")]
     TooManyAxes,
+    /// 2: extents and strides, or an output, differ in length.
     #[error("the lists differ in length")]
     LengthsDiffer,
+    /// 3: an offset is not accepted, or a stride, a span or a sum leaves its range.
     #[error("a reach, a stride or a span does not fit")]
     OutOfRange,
-    #[error("a list has {0} entries where {1} are wanted")]
+    /// 4: a list has not one entry an axis; both lengths, in the order that the call says.
+    #[error("a list and the axes of the layout differ in number: {0} and {1}")]
     WrongLength(usize, usize),
+    /// 5: the axis, and the rank.
     #[error("axis {0} is outside the rank {1}, or named twice")]
     BadAxis(usize, usize),
+    /// 6: the first such axis.
     #[error("the extent of axis {0} is neither its target nor 1")]
     BadExtent(usize),
+    /// 7: the first such axis.
     #[error("the index of axis {0} is not below its extent")]
     BadIndex(usize),
+    /// 8: no extent is 0, and 64 bits do not hold the number of positions.
     #[error("more than 2^64 - 1 positions")]
     TooManyPositions,
+    /// 9: how many words of 64 bits are needed.
     #[error("{0} words of scratch are needed")]
     ShortScratch(usize),
+    /// 10: how many bytes are needed.
     #[error("{0} bytes of output are needed")]
     ShortOutput(usize),
+    /// 11: no whole record stands at the front, or its verdict is false.
     #[error("the bytes are not a record")]
     NotARecord,
 }
@@ -72,44 +90,38 @@ impl Viewed {
 }
 
 impl Refusal {
-    /// The number of the refusal's row.
-    pub fn number(self) -> u8
-        ensures { result ≡ number_of self }
+    /// Its row of the table: the number, and the values returned with it. A new refusal has its line here and one above.
+    fn row(self) -> (u8, Values)
+        ensures number { result.0 ≡ number_of self }
+        ensures values { listed result.1 ≡ values_of self }
     {
         match self {
-            Refusal::TooManyAxes => 1,
-            Refusal::LengthsDiffer => 2,
-            Refusal::OutOfRange => 3,
-            Refusal::WrongLength(_, _) => 4,
-            Refusal::BadAxis(_, _) => 5,
-            Refusal::BadExtent(_) => 6,
-            Refusal::BadIndex(_) => 7,
-            Refusal::TooManyPositions => 8,
-            Refusal::ShortScratch(_) => 9,
-            Refusal::ShortOutput(_) => 10,
-            Refusal::NotARecord => 11,
+            Refusal::TooManyAxes => (1, Values::none()),
+            Refusal::LengthsDiffer => (2, Values::none()),
+            Refusal::OutOfRange => (3, Values::none()),
+            Refusal::WrongLength(first, second) => (4, Values::two(first, second)),
+            Refusal::BadAxis(axis, rank) => (5, Values::two(axis, rank)),
+            Refusal::BadExtent(axis) => (6, Values::one(axis)),
+            Refusal::BadIndex(axis) => (7, Values::one(axis)),
+            Refusal::TooManyPositions => (8, Values::none()),
+            Refusal::ShortScratch(words) => (9, Values::one(words)),
+            Refusal::ShortOutput(bytes) => (10, Values::one(bytes)),
+            Refusal::NotARecord => (11, Values::none()),
         }
     }
 
-    /// The values returned with it.
+    /// The number of its row.
+    pub fn number(self) -> u8
+        ensures { result ≡ number_of self }
+    {
+        self.row().0
+    }
+
+    /// The values returned with it: lengths, axes, words or bytes, as its variant says.
     pub fn values(self) -> Values
         ensures { listed result ≡ values_of self }
     {
-        let (count, values) = match self {
-            Refusal::WrongLength(first, second) | Refusal::BadAxis(first, second) => {
-                (2, [first, second])
-            }
-            Refusal::BadExtent(value)
-            | Refusal::BadIndex(value)
-            | Refusal::ShortScratch(value)
-            | Refusal::ShortOutput(value) => (1, [value, 0]),
-            Refusal::TooManyAxes
-            | Refusal::LengthsDiffer
-            | Refusal::OutOfRange
-            | Refusal::TooManyPositions
-            | Refusal::NotARecord => (0, [0, 0]),
-        };
-        Values { count, values }
+        self.row().1
     }
 }
 
@@ -130,7 +142,7 @@ impl Layout {
         &self.axes[..self.rank]
     }
 
-    /// Check-in: refusals 1, 2, 3, or the layout.
+    /// Check-in: refusal 1 for more than 16 entries in a list, 2 for lists that differ in length, 3 for bounds; or the layout.
     pub fn new(
         len: u64,
         offset: ReadingOffset,
@@ -149,7 +161,9 @@ impl Layout {
         Ok(layout)
     }
 
-    /// Check-in into a layout that is there: refusals 1, 2, 3 and the layout as it was, or the one checked in; places past its rank stay.
+    /// Check-in into a layout that is there: refusals 1, 2, 3 and the layout as it was, or the one checked in; places past its rank
+    /// stay.
+    #[tactic(auto, using(crate::proofs::CheckInLaws::told_unpaired, crate::proofs::CheckInLaws::told_outside))]
     pub fn check_in(
         &mut self,
         len: u64,
@@ -157,16 +171,17 @@ impl Layout {
         extents: &[u64],
         strides: &[i64],
     ) -> Result<(), Refusal>
-        ensures told { told result self.new ≡ checked_into (modelOf self.old) (checkIn len offset.0 extents.now strides.now) }
+        ensures told { told result self.new
+            ≡ checked_into (modelOf self.old) (checkIn len offset.0 extents.now strides.now) }
         ensures kept { OnErr result (self.new ≡ self.old) }
         ensures past { drop self.new.rank self.new.axes ≡ drop self.new.rank self.old.axes }
     {
-        validate_bounds(len, offset, extents, strides)?;
-        let rank = extents.len();
-        pair_into(&mut self.axes[..rank], extents, strides);
+        let axes = Lists::new(extents, strides)?;
+        Candidate { len, offset, axes }.bounds_refusal()?;
+        axes.store(&mut self.axes);
         self.len = len;
         self.offset = offset;
-        self.rank = rank;
+        self.rank = extents.len();
         Ok(())
     }
 }

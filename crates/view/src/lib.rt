@@ -15,7 +15,8 @@ pub mod offset;
 pub mod permute;
 pub mod values;
 
-/// Does nothing, and promises what the reach and the number of positions say of a layout: the check refuses it unless each claim has its proof.
+/// Does nothing, and promises what the reach and the number of positions say of a layout: the check refuses it unless each claim
+/// has its proof.
 #[tactic(auto, using(crate::proofs::AnswersClaimed::claims))]
 pub fn claims_hold()
     ensures { Claims }

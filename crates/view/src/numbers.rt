@@ -10,6 +10,7 @@ use crate::layout::{Layout, Refusal};
 pub(crate) trait Pair: Copy {
     ghost numbers_of: { Self → ℕ × ℕ };
 
+    /// The numbers of the two axes, from 0.
     fn numbers(self) -> (usize, usize)
         ensures { result ≡ numbers_of self };
 }

@@ -1,11 +1,10 @@
 //! The offset of an index vector.
-ghost use Rattle.std.specs.Prelude.{◌≡◌, length};
+ghost use Rattle.std.specs.Prelude.{◌≡◌, ◌≤◌, length};
 ghost use Rattle.specification.specs.Beside.{sumIndexed, indexedOffset};
 ghost use Rattle.view.specs.Indexed.{addedOf, indexedOf};
 ghost use Rattle.view.specs.Model.{modelOf};
 
 use crate::layout::{Layout, ReadingOffset, Refusal};
-use axis::Axis;
 use integer::signed::{checked_add, checked_mul};
 
 /// The offset one index further: the index is below 2^63, and neither the product nor the sum leaves 64 bits signed.
@@ -20,28 +19,28 @@ fn add_indexed(sum: ReadingOffset, index: u64, stride: i64) -> Result<ReadingOff
     Ok(ReadingOffset(offset))
 }
 
-/// The sum over the axes of an index vector, from an offset on.
-fn sum_indexed(
-    offset: ReadingOffset,
-    axes: &[Axis],
-    index: &[u64],
-) -> Result<ReadingOffset, Refusal>
-    requires { length index.now ≡ length axes.now }
-    ensures { indexedOf result ≡ sumIndexed 0 offset.0 axes.now index.now }
-{
-    let mut sum = offset;
-    for (i, &x) in index.iter().enumerate() {
-        let axis = axes[i];
-        if axis.extent <= x {
-            return Err(Refusal::BadIndex(i));
-        }
-        sum = add_indexed(sum, x, axis.stride)?;
-    }
-    Ok(sum)
-}
-
 impl Layout {
-    /// Refusals 1, 3, 4, then axis by axis 7 or 3; or the offset of the index vector.
+    /// The sum over the axes of an index vector, from the offset on: 7 where an index is not below its extent, else 3.
+    fn sum_indexed(&self, index: &[u64]) -> Result<ReadingOffset, Refusal>
+        requires few { self.now.rank ≤ 16 }
+        requires one_length { length index.now ≡ self.now.rank }
+        ensures { indexedOf result
+            ≡ sumIndexed 0 self.now.offset.0 (modelOf self.now).axes index.now }
+    {
+        let axes = self.axes();
+        let mut sum = self.offset;
+        for (i, &x) in index.iter().enumerate() {
+            let axis = axes[i];
+            if axis.extent <= x {
+                return Err(Refusal::BadIndex(i));
+            }
+            sum = add_indexed(sum, x, axis.stride)?;
+        }
+        Ok(sum)
+    }
+
+    /// Refusals 1, 3, 4 for another number of indices than axes, then axis by axis 7 for an index that is not below its extent or 3
+    /// for a sum out of range; or the offset of the index vector.
     #[tactic(auto, unfolding(specification::specs::Beside::indexedOffset), using(crate::proofs::ListedLaws::rank_model_of, crate::proofs::ListedLaws::listed_refused, crate::proofs::ListedLaws::listed_wrong, crate::proofs::ListedLaws::listed_next))]
     pub fn indexed_offset(&self, index: &[u64]) -> Result<ReadingOffset, Refusal>
         ensures { indexedOf result ≡ indexedOffset (modelOf self.now) index.now }
@@ -50,6 +49,6 @@ impl Layout {
         if index.len() != self.rank {
             return Err(Refusal::WrongLength(index.len(), self.rank));
         }
-        sum_indexed(self.offset, self.axes(), index)
+        self.sum_indexed(index)
     }
 }

@@ -52,7 +52,8 @@ impl Layout {
         order_fault(order, self.rank)
     }
 
-    /// The axes in the order of the list; or the refusal, and the layout as it was.
+    /// The axes in the order of the list; or refusal 1, 3, 4 for another number of entries than axes, 5 with the first entry that is
+    /// outside the rank or named twice, and the layout as it was.
     #[tactic(auto, using(crate::proofs::ViewLaws::permute_refused, crate::proofs::ViewLaws::permute_done, crate::proofs::ViewLaws::first_axes_order))]
     pub fn permute_in_place(&mut self, order: &[usize]) -> Result<(), Refusal>
         ensures told { told result self.new ≡ permute (modelOf self.old) order.now }

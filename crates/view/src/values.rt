@@ -1,10 +1,12 @@
 //! The values that are returned with a refusal.
-ghost use Rattle.std.specs.Prelude.{◌≡◌, ◌≤◌};
+ghost use Rattle.std.specs.Prelude.{[], ◌∷◌, ◌≡◌, ◌≤◌};
 
-/// The first `count` of two values.
+/// The values that a refusal is returned with: the first `count` of two.
 #[derive(Clone, Copy, Debug)]
 pub struct Values {
+    /// How many of them count.
     pub count: usize,
+    /// The values, then 0.
     pub values: [usize; 2],
     ghost few: { count ≤ 2 },
 }
@@ -12,6 +14,37 @@ pub struct Values {
 impl Values {
     ghost use Rattle.view.specs.Answers.{listed};
 
+    /// No value.
+    pub(crate) fn none() -> Values
+        ensures { listed result ≡ [] }
+    {
+        Values {
+            count: 0,
+            values: [0, 0],
+        }
+    }
+
+    /// One value.
+    pub(crate) fn one(value: usize) -> Values
+        ensures { listed result ≡ value ∷ [] }
+    {
+        Values {
+            count: 1,
+            values: [value, 0],
+        }
+    }
+
+    /// Two values.
+    pub(crate) fn two(first: usize, second: usize) -> Values
+        ensures { listed result ≡ first ∷ second ∷ [] }
+    {
+        Values {
+            count: 2,
+            values: [first, second],
+        }
+    }
+
+    /// The values, in the order of the table.
     pub fn as_slice(&self) -> &[usize]
         ensures { result.now ≡ listed self.now }
     {

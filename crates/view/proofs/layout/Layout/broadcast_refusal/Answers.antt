@@ -4,7 +4,7 @@ use Rattle.std.proofs.Common.{◌∙◌, sym, ap, List}
 use Rattle.specification.specs.Axis.{Axis}
 use Rattle.specification.specs.Views.{targetFault}
 use Rattle.view.specs.Model.{modelOf}
-use Rattle.view.specs.Reach.{handed_with}
+use Rattle.specification.specs.Layout.{handed}
 use Rattle.view.proofs.CountLaws.{length-each}
 use Rattle.view.proofs.ListedLaws.{rank_model_of, listed_refused, listed_wrong, listed_next}
 use Rattle.view.proofs.layout.Layout.broadcast_refusal.Goals as goal
@@ -15,14 +15,14 @@ returns-in_err-handed_refusal-clause-answer g c =
     let es = g.E.Extent.extents_of c.args.targets.now in
     let n = length-each g.E.Extent.extent_of c.args.targets.now es (g.met.E.Extent.each c.args.targets.now) in
     let p = err_from_is_err_and c.from_residual.result c.from_residual.ensures.1 in
-    rw (p.1, p.2) (sym (listed_refused s es _ _ (c.in_err-handed_refusal.ensures.answer ∙ ap (handed_with (modelOf s)) (sym n))))
+    rw (p.1, p.2) (sym (listed_refused s es _ _ (c.in_err-handed_refusal.ensures.answer ∙ ap (handed (modelOf s)) (sym n))))
 
 pub returns-then-targets-self-clause-answer : goal.returns-then-targets-self-clause-answer
 returns-then-targets-self-clause-answer g c =
     let s = c.args.self.now in
     let es = g.E.Extent.extents_of c.args.targets.now in
     let n = length-each g.E.Extent.extent_of c.args.targets.now es (g.met.E.Extent.each c.args.targets.now) in
-    sym (listed_wrong s es _ _ (c.in_ok-handed_refusal.ensures.answer ∙ ap (handed_with (modelOf s)) (sym n)) (λ e. c.if-targets-self.true (sym n ∙ e)) ∙ rw (rank_model_of s, n))
+    sym (listed_wrong s es _ _ (c.in_ok-handed_refusal.ensures.answer ∙ ap (handed (modelOf s)) (sym n)) (λ e. c.if-targets-self.true (sym n ∙ e)) ∙ rw (rank_model_of s, n))
 
 pub returns-clause-answer : goal.returns-clause-answer
 returns-clause-answer g c =
@@ -30,4 +30,4 @@ returns-clause-answer g c =
     let es = g.E.Extent.extents_of c.args.targets.now in
     let n = length-each g.E.Extent.extent_of c.args.targets.now es (g.met.E.Extent.each c.args.targets.now) in
     c.target_fault.ensures ∙ ap (λ (m : List Axis). targetFault 0 m es) c.axes.ensures.meaning
-    ∙ sym (listed_next s es _ _ (c.in_ok-handed_refusal.ensures.answer ∙ ap (handed_with (modelOf s)) (sym n)) (n ∙ c.if-targets-self.false))
+    ∙ sym (listed_next s es _ _ (c.in_ok-handed_refusal.ensures.answer ∙ ap (handed (modelOf s)) (sym n)) (n ∙ c.if-targets-self.false))

@@ -1,15 +1,23 @@
--- The refusal and the layout as it was; or the layout of the paired lists.
-use Rattle.std.proofs.Common.{◌≡◌, ◌∙◌, sym, ap, length, drop}
-use Rattle.view.specs.Answers.{outcomeOf}
-use Rattle.view.specs.Model.{modelOf}
-use Rattle.view.proofs.AxesLaws.{first_axes-front, length-axesOf}
-use Rattle.view.proofs.CheckInLaws.{checked_done}
+-- The layout of the two lists, whose axes stand in the first places.
+use Rattle.std.proofs.Common.{◌≡◌, ◌∙◌, sym, ap, List, length}
+use Rattle.specification.specs.Axis.{Axis}
+use Rattle.specification.specs.Outcome.{pass}
+use Rattle.view.specs.Lists.{axes_in}
+use Rattle.view.specs.Model.{modelFrom, modelOf, first_axes}
+use Rattle.view.proofs.ListsLaws.{stored_front, stored_past}
+use Rattle.view.proofs.CheckInLaws.{told_inside}
 use Rattle.view.proofs.layout.Layout.check_in.Goals as goal
 
 pub returns-clause-told : goal.returns-clause-told
 returns-clause-told c =
     let a = c.args in
-    let es = a.extents.now in
-    let n : length c.pair_into.new.axes ≡ length es = ap length c.pair_into.ensures ∙ length-axesOf es a.strides.now (sym c.in_ok-validate_bounds.ensures.alike) in
-    rw (first_axes-front c.pair_into.new.axes (drop (length es) a.self.now.axes) (length es) n, c.pair_into.ensures)
-    (sym (checked_done a.len a.offset.0 es a.strides.now (modelOf a.self.now) (sym c.validate_bounds.ensures.answer ∙ ap outcomeOf c.in_ok-validate_bounds.was)))
+    let lists = c.in_ok-axes.axes in
+    let front : first_axes c.store.new.axes (length a.extents.now) ≡ axes_in lists =
+    rw (← c.in_ok-axes.ensures.extents) (stored_front lists.extents.now lists.strides.now lists.alike a.self.now.axes c.store.ensures) in
+    ap (λ (axes : List Axis). record { answer = pass; layout = modelFrom a.len a.offset.0 axes }) front
+    ∙ sym (told_inside a.len a.offset.0 a.extents.now a.strides.now (modelOf a.self.now) c.in_ok-axes.ensures.answer c.in_ok-bounds_refusal.ensures)
+
+pub returns-clause-past : goal.returns-clause-past
+returns-clause-past c =
+    let lists = c.in_ok-axes.axes in
+    rw (← c.in_ok-axes.ensures.extents) (stored_past lists.extents.now lists.strides.now lists.alike c.args.self.now.axes c.store.ensures)

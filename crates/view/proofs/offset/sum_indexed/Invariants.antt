@@ -1,7 +1,0 @@
--- The sum over all axes is the sum so far with the axes and indices still left.
-use Rattle.std.proofs.Common.{◌≡◌, drop}
-use Rattle.specification.specs.Beside.{sumIndexed}
-use Rattle.view.proofs.offset.sum_indexed.Given as goal
-
-abbrev pub invariant-loop-i : goal.invariant-loop-i
-invariant-loop-i l = sumIndexed 0 l.fn.offset.0 l.axes l.index ≡ sumIndexed l.i l.sum.0 (drop l.i l.axes) (drop l.i l.index)
