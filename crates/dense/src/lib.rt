@@ -11,7 +11,7 @@ use view::bounded::bounded_product;
 use view::count::has_no_position;
 use view::layout::{MOST_AXES, Refusal};
 
-/// As many strides as there are extents.
+/// As many strides as there are extents, in readings.
 #[derive(Debug, Drop)]
 pub struct DenseStrides {
     strides: [i64; 16],
@@ -28,6 +28,7 @@ impl Model for DenseStrides {
 }
 
 impl DenseStrides {
+    /// The strides, in the order of the extents.
     pub fn as_slice(&self) -> &[i64]
         ensures { result.now ≡ self.now }
     {
@@ -102,7 +103,8 @@ fn axis_after(major: Major, rank: usize, passed: usize) -> usize
     }
 }
 
-/// By column: the first axis is the densest.
+/// The strides of a dense layout by column, where the first axis is the densest; refusal 1 for more than 16 extents, 3 where
+/// a running product or an extent is above 2^63 - 1 and no extent is 0.
 pub fn checked_col_major_strides(extents: &[u64]) -> Result<DenseStrides, Refusal>
     ensures answer { outcomeOf result ≡ colMajor extents.now }
     ensures as_many { IfOk result (λ strides. length strides ≡ length extents.now) }
@@ -110,7 +112,7 @@ pub fn checked_col_major_strides(extents: &[u64]) -> Result<DenseStrides, Refusa
     running_products(extents, Major::Column)
 }
 
-/// By row: the last axis is the densest.
+/// The strides of a dense layout by row, where the last axis is the densest; refusals as by column.
 pub fn checked_row_major_strides(extents: &[u64]) -> Result<DenseStrides, Refusal>
     ensures answer { outcomeOf result ≡ rowMajor extents.now }
     ensures as_many { IfOk result (λ strides. length strides ≡ length extents.now) }
