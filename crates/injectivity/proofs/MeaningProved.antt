@@ -21,10 +21,10 @@ use Rattle.std.proofs.lemmas.Int.{ints}
 
 -- ---- what is told, and the outcome behind it
 
-told-done : {t : Outcome Told} {v : Verdict} {count : ℕ} (o : Outcome Judged) → t ≡ toldOf o → t ≡ done (record { answer = v; count = count }) → (j : Judged) × (o ≡ done j) × (j.answer ≡ v)
+pub told-done : {t : Outcome Told} {v : Verdict} {count : ℕ} (o : Outcome Judged) → t ≡ toldOf o → t ≡ done (record { answer = v; count = count }) → (j : Judged) × (o ≡ done j) × (j.answer ≡ v)
 told-done o e d = grind (arith, ints)
 
-told-refused : {t : Outcome Told} {n : ℕ} {vs : List ℕ} (o : Outcome Judged) → t ≡ toldOf o → t ≡ refused n vs → o ≡ refused n vs
+pub told-refused : {t : Outcome Told} {n : ℕ} {vs : List ℕ} (o : Outcome Judged) → t ≡ toldOf o → t ≡ refused n vs → o ≡ refused n vs
 told-refused o e d = grind (arith, ints)
 
 -- ---- what an answer says, and which there is

@@ -1,17 +1,19 @@
 -- What axes are judged as at each end of what is answered or refused before the block, and where the block is judged.
-use Rattle.std.specs.Prelude.{Err, Ok, Result}
+use Rattle.std.specs.Prelude.{Err, Ok, Result, ◌==◌}
 use mathlib.Core.Path.{◌≡◌, refl, sym, ap, subst, ◌∙◌}
-use mathlib.Core.Bool.{Bool, true, false}
-use mathlib.Core.Logic.{◌≢◌, ◌⊎◌}
-use mathlib.Core.List.{List, []}
+use mathlib.Core.Bool.{Bool, true, false, not, ◌||◌}
+use mathlib.Core.Logic.{inl}
+use mathlib.Core.List.{List, [], ◌∷◌}
 use Prim.Native.Nat.{ℕ, ◌≤◌, ◌<◌}
 use native.Mathlib.Omega.{arith}
 use lib.IntN.{ℤ}
 use lib.ListN.{length}
 use borrow.Author.Tests.{eq-eqb, ne_eqb}
 use Rattle.specification.specs.Tests.{some}
-use Rattle.specification.specs.Axis.{Axis, axesOf, extents, positions, is_empty}
-use Rattle.specification.specs.Outcome.{Outcome, done, refused, refuseIf, ◌>>◌}
+use Rattle.specification.specs.Axis.{Axis, axesOf, extents, strides, positions, is_empty}
+use Rattle.specification.specs.Outcome.{Outcome, done, refused, refuseIf, ◌>>◌, ◌>>=◌}
+use Rattle.specification.specs.Layout.{tooLong}
+use Rattle.view.specs.Lists.{paired}
 use Rattle.specification.specs.Normal.{overfull}
 use Rattle.specification.specs.BlockClaims.{inOrder}
 use Rattle.specification.specs.Verdict.{upToLast, Verdict, Distinct, Repeated, answered, block_of, byBlock, still, outOfRange, plan_of, carryOut, judge, verdict}
@@ -23,7 +25,7 @@ use Rattle.specification.proofs.VerdictRefusals.{plan-eight, plan-three}
 use Rattle.view.specs.Answers.{outcomeOf}
 use Rattle.view.specs.Count.{elementCount, count_of}
 use Rattle.view.specs.declared.layout.Refusal.{Refusal}
-use Rattle.view.proofs.CountLaws.{element-count-of-axes, counted-refused, counted_is}
+use Rattle.view.proofs.CountLaws.{length-extents, element-count-of-axes, counted-refused, counted_is}
 use Rattle.injectivity.specs.Judgement.{Told, judgedOf, toldOf}
 use Rattle.injectivity.specs.Inputs.{LeftToBlock}
 
@@ -105,14 +107,47 @@ by_block axes words l = bind_done (carryOut words) (plan-block axes l)
 
 -- ---- two lists
 
-pub too_many : (es : List ℕ) (ss : List ℤ) (words : ℕ) → (16 < length es) ⊎ (16 < length ss) → verdict es ss words ≡ refused 1 []
-too_many = verdict-call-claims.one
+-- two lists that are paired, or refused as they are, decide a verdict's first two refusals
+by_pairs : (es : List ℕ) (ss : List ℤ) (words : ℕ) → verdict es ss words ≡ (paired es ss >>= λ axes. judge axes words)
+unfolding verdict paired refuseIf ◌>>◌ ◌>>=◌
+by_pairs es ss words = by (tooLong es || tooLong ss) (length es == length ss)
+  where
+    by : (long alike : Bool) → (refuseIf long 1 [] >> refuseIf (not alike) 2 [] >> judge (axesOf es ss) words)
+        ≡ ((refuseIf long 1 [] >> refuseIf (not alike) 2 [] >> done (axesOf es ss)) >>= λ axes. judge axes words)
+    by true alike = refl
+    by false true = refl
+    by false false = refl
 
-pub unequal : (es : List ℕ) (ss : List ℤ) (words : ℕ) → length es ≤ 16 → length ss ≤ 16 → length es ≢ length ss → verdict es ss words ≡ refused 2 []
-unequal = verdict-call-claims.two
+pub unpaired : (es : List ℕ) (ss : List ℤ) (words : ℕ) {n : ℕ} {vs : List ℕ} → refused n vs ≡ paired es ss → verdict es ss words ≡ refused n vs
+unfolding ◌>>=◌
+unpaired es ss words e = by_pairs es ss words ∙ rw (← e) refl
 
-pub by_axes : (es : List ℕ) (ss : List ℤ) (words : ℕ) → length es ≤ 16 → length es ≡ length ss → verdict es ss words ≡ judge (axesOf es ss) words
-by_axes = verdict-call-claims.then-judged
+pub judged_pairs : (es : List ℕ) (ss : List ℤ) (words : ℕ) {axes : List Axis} → done axes ≡ paired es ss → verdict es ss words ≡ judge axes words
+unfolding ◌>>=◌
+judged_pairs es ss words e = by_pairs es ss words ∙ rw (← e) refl
 
 -- the verdict of two lists
-pub ruleset lists = (too_many, unequal, by_axes)
+pub ruleset lists = (unpaired, judged_pairs)
+
+-- ---- axes that are lent
+
+length-strides : (axes : List Axis) → length (strides axes) ≡ length axes
+length-strides [] = refl
+length-strides (a ∷ axes) = rw (length-strides axes)
+
+-- axes are those of their extents and strides
+pub parts_of_axes : (axes : List Axis) → axesOf (extents axes) (strides axes) ≡ axes
+unfolding axesOf
+parts_of_axes [] = refl
+parts_of_axes (a ∷ axes) = ap (λ (rest : List Axis). a ∷ rest) (parts_of_axes axes)
+
+pub crowd : (axes : List Axis) (words : ℕ) → 16 < length axes → verdict (extents axes) (strides axes) words ≡ refused 1 []
+crowd axes words h = verdict-call-claims.one (extents axes) (strides axes) words (inl (omega (arith, length-extents axes)))
+
+pub few_axes : (axes : List Axis) (words : ℕ) → length axes ≤ 16 → verdict (extents axes) (strides axes) words ≡ judge axes words
+few_axes axes words h =
+    verdict-call-claims.then-judged (extents axes) (strides axes) words (omega (arith, length-extents axes)) (length-extents axes ∙ sym (length-strides axes))
+    ∙ ap (λ (l : List Axis). judge l words) (parts_of_axes axes)
+
+-- the verdict of axes that are lent
+pub ruleset lent = (crowd, few_axes)

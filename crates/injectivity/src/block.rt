@@ -1,4 +1,5 @@
-//! The block of axes whose spans reach into each other, and its verdict: crowded, of two axes, searched, enumerated.
+//! The block of axes whose spans reach into each other, and its verdict: crowded, of two axes,
+//! searched, enumerated.
 ghost use Rattle.std.specs.Prelude.{[], ◌≡◌, ◌↔◌, ◌-◌, ◌^◌, ◌<◌, ◌≤◌, length, IsTrue, IfSome, IfNone};
 ghost use Rattle.specification.specs.Tests.{sortBy};
 ghost use Rattle.specification.specs.Search.{total as total_of, spanSum};
@@ -16,7 +17,8 @@ use view::layout::Refusal;
 /// The largest total that is enumerated. It bounds the words needed, by 16,777,217.
 const EXACT_BLOCK_BUDGET: u64 = 16777216;
 
-/// The axes of a block, the product of their extents, and the sum of their absolute spans. A contract sees the axes.
+/// The axes of a block, the product of their extents, and the sum of their absolute spans.
+/// A contract sees the axes.
 #[derive(Drop)]
 pub struct InterleavedBlock<'a> {
     axes: &'a [ActiveAxis],
@@ -38,7 +40,8 @@ impl<'a> Model for InterleavedBlock<'a> {
 }
 
 impl InterleavedBlock<'_> {
-    /// Whether there is a sum for each position: sums go from 0 to the span, and of more positions some two share one.
+    /// Whether there is a sum for each position: sums go from 0 to the span, and of more positions
+    /// some two share one.
     fn may_be_injective(&self) -> bool
         ensures { IsTrue result ↔ (total_of self.now - 1 ≤ spanSum self.now) }
     {
@@ -47,7 +50,8 @@ impl InterleavedBlock<'_> {
 
     /// The enumeration, within its budget.
     fn offsets_unique(&self, scratch: &mut [u64]) -> Result<Judgement, Refusal>
-        ensures { JudgedAs (carryOut (length scratch.old) (enumerated self.now)) scratch.old scratch.new result }
+        ensures { JudgedAs (carryOut (length scratch.old) (enumerated self.now))
+            scratch.old scratch.new result }
     {
         match enumerate(self.axes, self.total, self.span, scratch) {
             Ok(true) => Ok(Judgement::Distinct(0)),
@@ -59,7 +63,8 @@ impl InterleavedBlock<'_> {
     /// Past the budget of the search.
     #[tactic(auto, unfolding(specification::specs::Verdict::pastSearch, specification::specs::Verdict::carryOut))]
     fn judge_past_search(&self, scratch: &mut [u64]) -> Result<Judgement, Refusal>
-        ensures { JudgedAs (carryOut (length scratch.old) (pastSearch self.now)) scratch.old scratch.new result }
+        ensures { JudgedAs (carryOut (length scratch.old) (pastSearch self.now))
+            scratch.old scratch.new result }
     {
         if self.total <= EXACT_BLOCK_BUDGET {
             self.offsets_unique(scratch)
@@ -71,7 +76,9 @@ impl InterleavedBlock<'_> {
     /// The search, and what is past it.
     #[tactic(auto, unfolding(specification::specs::Verdict::carryOut))]
     fn judge_many(&self, scratch: &mut [u64]) -> Result<Judgement, Refusal>
-        ensures { JudgedAs (carryOut (length scratch.old) (byMany self.now (sortBy longer self.now))) scratch.old scratch.new result }
+        ensures { JudgedAs
+            (carryOut (length scratch.old) (byMany self.now (sortBy longer self.now)))
+            scratch.old scratch.new result }
     {
         match search_block(self.axes) {
             Some(searched) => Ok(searched.into()),
@@ -79,10 +86,12 @@ impl InterleavedBlock<'_> {
         }
     }
 
-    /// The block judged.
+    /// The block judged. The error is that the enumeration needs more words of scratch, with their
+    /// number; then every word stays.
     #[tactic(auto, using(crate::proofs::JudgeLaws::plans), unfolding(specification::specs::Verdict::carryOut))]
     pub fn judge(&self, scratch: &mut [u64]) -> Result<Judgement, Refusal>
-        ensures { JudgedAs (carryOut (length scratch.old) (byBlock self.now)) scratch.old scratch.new result }
+        ensures { JudgedAs (carryOut (length scratch.old) (byBlock self.now))
+            scratch.old scratch.new result }
     {
         if !self.may_be_injective() {
             return Ok(Judgement::Repeated(0));
@@ -98,7 +107,8 @@ impl InterleavedBlock<'_> {
     }
 }
 
-/// The first of sorted axes: how many, the product of their extents, and the sum of their absolute spans.
+/// The first of sorted axes: how many, the product of their extents, and the sum of their absolute
+/// spans.
 #[derive(Clone, Copy)]
 struct Front {
     len: usize,
@@ -106,8 +116,8 @@ struct Front {
     span: u64,
 }
 
-/// Of sorted axes, those up to the last whose absolute stride is at most the sum of absolute spans before it; none, where
-/// every axis is separated.
+/// Of sorted axes, those up to the last whose absolute stride is at most the sum of absolute spans
+/// before it; none, where every axis is separated.
 pub fn interleaved_block(sorted: &[ActiveAxis]) -> Option<InterleavedBlock<'_>>
     requires searchable { Searchable sorted.now }
     requires total_fits { total_of sorted.now < 2 ^ 64 }

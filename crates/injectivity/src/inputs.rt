@@ -10,7 +10,8 @@ use view::bounds::sum_spans;
 use view::count::element_count;
 use view::layout::Refusal;
 
-/// How far the positive spans may reach, and the negative ones: the largest and the least number that an i64 holds.
+/// How far the positive spans may reach, and the negative ones: the largest and the least number
+/// that an i64 holds.
 const MOST_UP: u64 = i64::MAX as u64;
 
 const MOST_DOWN: u64 = MOST_UP + 1;
@@ -45,7 +46,8 @@ fn some_unfit(axes: &[Axis]) -> bool
     axes.iter().any(is_unfit)
 }
 
-/// Refusal 3. No span is out of range where the sums of the positive and of the negative spans are in range.
+/// Refusal 3. No span is out of range where the sums of the positive and of the negative spans are
+/// in range.
 #[tactic(auto, using(crate::proofs::InputsLaws::out_is))]
 fn out_of_range(axes: &[Axis]) -> bool
     ensures { result ≡ outOfRange axes.now }
@@ -53,7 +55,8 @@ fn out_of_range(axes: &[Axis]) -> bool
     some_unfit(axes) || sum_spans(axes, MOST_UP, MOST_DOWN).is_none()
 }
 
-/// What is answered or refused before the block is looked for; nothing, where the block decides.
+/// What is answered before the block is looked for; nothing, where the block decides. The errors
+/// are 8, more than 2^64 - 1 positions, and 3.
 pub fn validate_injective_layout_inputs(axes: &[Axis]) -> Result<Option<Judgement>, Refusal>
     requires { length axes.now ≤ 16 }
     ensures { Validated axes.now result }

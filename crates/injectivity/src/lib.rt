@@ -6,6 +6,7 @@ mod block;
 mod inputs;
 
 ghost use Rattle.std.specs.Prelude.{◌≤◌, length};
+ghost use Rattle.specification.specs.Axis.{extents, strides};
 ghost use Rattle.specification.specs.Verdict.{judge as judged, verdict};
 ghost use Rattle.injectivity.specs.Claims.{Claims};
 ghost use Rattle.injectivity.specs.Inputs.{LeftToBlock};
@@ -17,14 +18,17 @@ use block::interleaved_block;
 use inputs::validate_injective_layout_inputs;
 use search::Searched;
 use sorting::sort_by_stride;
-use view::axes::pair_into;
+use view::axes::Lists;
 use view::layout::{MOST_AXES, NO_AXIS, Refusal};
 
 /// The verdict, with the number of difference vectors looked at.
 #[derive(Clone, Copy, Debug, PartialEq, Eq)]
 pub enum Judgement {
+    /// No two positions share an offset.
     Distinct(u64),
+    /// Some two positions share one.
     Repeated(u64),
+    /// The search and the enumeration are both past their budgets.
     Undecided,
 }
 
@@ -32,7 +36,7 @@ impl Judgement {
     ghost use Rattle.std.specs.Prelude.{◌≡◌};
     ghost use Rattle.injectivity.specs.Judgement.{number_told, count_told};
 
-    /// Its number in a record and at the border to C.
+    /// Its number in a record and at the border to C: 1 to 3, in the order above.
     pub fn number(self) -> u8
         ensures { result ≡ number_told self }
     {
@@ -85,9 +89,8 @@ fn judge_active_axes(axes: &[Axis], scratch: &mut [u64]) -> Result<Judgement, Re
     block.judge(scratch)
 }
 
-/// The verdict of axes. Only the enumeration works in the scratch: it refuses fewer words than it needs, and leaves those past
-/// them as they were.
-pub fn judge_axes(axes: &[Axis], scratch: &mut [u64]) -> Result<Judgement, Refusal>
+/// The verdict of at most 16 axes.
+fn judge_axes(axes: &[Axis], scratch: &mut [u64]) -> Result<Judgement, Refusal>
     requires { length axes.now ≤ 16 }
     ensures { JudgedAs (judged axes.now (length scratch.old)) scratch.old scratch.new result }
 {
@@ -97,28 +100,41 @@ pub fn judge_axes(axes: &[Axis], scratch: &mut [u64]) -> Result<Judgement, Refus
     }
 }
 
-/// The verdict of two lists: refusals 1 and 2, then that of the axes that they are.
+/// The verdict of axes that are lent: what `is_injective_layout` answers of their extents and
+/// strides. Refusal 1 is more than 16 axes, 8 more than 2^64 - 1 positions, 3 an extent, a stride,
+/// a span or a sum of spans out of range, 9 a scratch of fewer words than the enumeration needs.
+/// Only the enumeration works in the scratch; the words past those that it needs stay, and a
+/// refusal leaves them all.
+#[tactic(auto, using(crate::proofs::PlanLaws::lent))]
+pub fn is_injective_axes(axes: &[Axis], scratch: &mut [u64]) -> Result<Judgement, Refusal>
+    ensures { JudgedAs (verdict (extents axes.now) (strides axes.now) (length scratch.old))
+        scratch.old scratch.new result }
+{
+    if MOST_AXES < axes.len() {
+        return Err(Refusal::TooManyAxes);
+    }
+    judge_axes(axes, scratch)
+}
+
+/// The verdict of two lists: refusal 1 for more than 16 entries, 2 for lengths that differ, then
+/// the verdict of the axes that they are.
 #[tactic(auto, using(crate::proofs::PlanLaws::lists))]
 pub fn is_injective_layout(
     extents: &[u64],
     strides: &[i64],
     scratch: &mut [u64],
 ) -> Result<Judgement, Refusal>
-    ensures { JudgedAs (verdict extents.now strides.now (length scratch.old)) scratch.old scratch.new result }
+    ensures { JudgedAs (verdict extents.now strides.now (length scratch.old))
+        scratch.old scratch.new result }
 {
-    if MOST_AXES < extents.len() || MOST_AXES < strides.len() {
-        return Err(Refusal::TooManyAxes);
-    }
-    if extents.len() != strides.len() {
-        return Err(Refusal::LengthsDiffer);
-    }
+    let lists = Lists::new(extents, strides)?;
     let mut room = [NO_AXIS; 16];
-    let axes = &mut room[..extents.len()];
-    pair_into(axes, extents, strides);
-    judge_axes(axes, scratch)
+    lists.store(&mut room);
+    judge_axes(&room[..extents.len()], scratch)
 }
 
-/// Does nothing, and promises what the answers of a verdict say of the layout: the check refuses it unless each claim has its proof.
+/// Does nothing, and promises what the answers of a verdict say of the layout: the check refuses
+/// it unless each claim has its proof.
 #[tactic(auto, using(crate::proofs::MeaningProved::judgement_claims))]
 pub fn claims_hold()
     ensures { Claims }

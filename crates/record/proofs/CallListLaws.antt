@@ -146,3 +146,6 @@ module _ {calls : List ℕ} {start : LayoutM} {rest : List ℕ} {current : Layou
     ended_ill h =
         let t : takenWithin (length calls) calls ≡ length calls - length rest = omega (arith, r.taken, r.within, (none_read rest e).taken) in
         rw (t, ne_eqb (length calls - length rest) (length calls) (λ q. absurd (omega (arith, r.within))))
+
+-- how a run ends
+pub ruleset run_ends = (running_end, ended_well, ended_ill)

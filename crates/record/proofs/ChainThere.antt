@@ -6,7 +6,7 @@ use Prim.Native.Nat.{ℕ}
 use lib.ListN.{length}
 use Rattle.specification.specs.Axis.{Axis}
 use Rattle.specification.specs.Outcome.{Check, done, refused}
-use Rattle.specification.specs.Layout.{LayoutM}
+use Rattle.specification.specs.Layout.{LayoutM, HandedRefused, too_many, not_accepted}
 use Rattle.specification.specs.Views.{diagonalView}
 use Rattle.specification.specs.Calls.{Call, permuting, diagonal, broadcasting, after_call}
 use Rattle.specification.specs.ViewRules as rules
@@ -35,20 +35,26 @@ model-again x = ap (λ (axes : List Axis). record { buffer = x.buffer; offset = 
 
 -- ---- an answer in the rules' numbers
 
--- a refusal of a call is a row of the table
-refusal-of : (l : LayoutM) (c : Call) (number : ℕ) (values : List ℕ) → rules.Refuses l c number values → (why : Refusal) × (outcomeOf {A = Unit {0}} (Err why) ≡ refused number values)
-refusal-of l (permuting order) number values (rules.PermuteRefused.too_many h) = (TooManyAxes, refl)
-refusal-of l (permuting order) number values (rules.PermuteRefused.not-accepted h k a) = (OutOfRange, refl)
+-- a number and values are those of a row of the table
+abbrev Row : ℕ → List ℕ → Type 0
+Row number values = (why : Refusal) × (outcomeOf {A = Unit {0}} (Err why) ≡ refused number values)
+
+-- so are those of a layout that is handed in
+row_handed : (l : LayoutM) (entries number : ℕ) (values : List ℕ) → HandedRefused l entries number values → Row number values
+row_handed l entries number values (too_many h) = (TooManyAxes, refl)
+row_handed l entries number values (not_accepted h k a) = (OutOfRange, refl)
+
+-- and those of a call
+refusal-of : (l : LayoutM) (c : Call) (number : ℕ) (values : List ℕ) → rules.Refuses l c number values → Row number values
+refusal-of l (permuting order) number values (rules.PermuteRefused.handed_in h) = row_handed l (length order) number values h
 refusal-of l (permuting order) number values (rules.PermuteRefused.wrong-length a h e) = (WrongLength _ _, refl)
 refusal-of l (permuting order) number values (rules.PermuteRefused.bad-entry a e i h before bad) = (BadAxis _ _, refl)
-refusal-of l (diagonal pairs) number values (rules.DiagonalRefused.too_many h) = (TooManyAxes, refl)
-refusal-of l (diagonal pairs) number values (rules.DiagonalRefused.not-accepted h a) = (OutOfRange, refl)
+refusal-of l (diagonal pairs) number values (rules.DiagonalRefused.handed_in h) = row_handed l 0 number values h
 refusal-of l (diagonal pairs) number values (rules.DiagonalRefused.outside a i h before bad) = (BadAxis _ _, refl)
 refusal-of l (diagonal pairs) number values (rules.DiagonalRefused.same-axis a i h before k e) = (BadAxis _ _, refl)
 refusal-of l (diagonal pairs) number values (rules.DiagonalRefused.sum-out a good p h bad) = (OutOfRange, refl)
 refusal-of l (diagonal pairs) number values (rules.DiagonalRefused.not-checked a good sums e) = (OutOfRange, refl)
-refusal-of l (broadcasting targets) number values (rules.BroadcastRefused.too_many h) = (TooManyAxes, refl)
-refusal-of l (broadcasting targets) number values (rules.BroadcastRefused.not-accepted h k a) = (OutOfRange, refl)
+refusal-of l (broadcasting targets) number values (rules.BroadcastRefused.handed_in h) = row_handed l (length targets) number values h
 refusal-of l (broadcasting targets) number values (rules.BroadcastRefused.wrong-length a h e) = (WrongLength _ _, refl)
 refusal-of l (broadcasting targets) number values (rules.BroadcastRefused.bad-extent a e i h before bad) = (BadExtent _, refl)
 

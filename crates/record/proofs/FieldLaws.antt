@@ -4,10 +4,10 @@ use mathlib.Core.List.{List, [], ◌∷◌, ◌++◌, append_assoc, append-nil}
 use Prim.Native.Nat.{ℕ, ◌+◌, ◌*◌, ◌/◌, ◌%◌, ◌≤◌}
 use native.Mathlib.Nat.{div-one}
 use native.Mathlib.Omega.{arith}
-use lib.IntN.{ℤ}
 use lib.ListN.{length, get_or, take, drop, length-append, take-append-drop}
 use lib.Seq.{take_at, drop_at, drop-drop, length-take-le}
 use Rattle.specification.specs.Axis.{Axis}
+use Rattle.specification.specs.Layout.{LayoutM, rank}
 use Rattle.specification.specs.Record.{bigEndian, twos, numberFrom, axisBytes}
 use mir.Syntax.{w16}
 use Rattle.std.specs.Int.{from_be_bytes}
@@ -33,8 +33,9 @@ two_numbers xs es ss n h e =
     let q : (n + 8) + 8 ≡ n + 16 = omega arith in
     rw g (behind-front (take n xs ++ es) (drop (n + 8) xs) ss (n + 8) 8 m ∙ rw (drop-drop 8 (n + 8) xs, q) (simp append_assoc))
 
-pub length_head : (rank verdict : ℕ) (offset : ℤ) → length (headBytes rank verdict offset) ≡ 13
-length_head rank verdict offset = simp (length-append, length-bigEndian) (omega arith)
+pub length_head : (l : LayoutM) (verdict : ℕ) → length (headBytes l verdict) ≡ 13
+unfolding headBytes
+length_head l verdict = simp (length-append, length-bigEndian) (omega arith)
 
 -- the bytes of axes and one more
 pub axisBytes-snoc : (axes : List Axis) (a : Axis) → axisBytes (axes ++ (a ∷ [])) ≡ axisBytes axes ++ axisField a
@@ -43,15 +44,16 @@ axisBytes-snoc [] a = simp append-nil
 axisBytes-snoc (b ∷ axes) a = rw (axisBytes-snoc axes a) (simp append_assoc)
 
 -- the offset behind the first five bytes
-pub head_put : (rank verdict : ℕ) (offset : ℤ) (out : List ℕ)
-    → take 5 (((13 + 16 * rank) / 256 % 256 ∷ (13 + 16 * rank) % 256 ∷ 1 ∷ verdict ∷ rank ∷ []) ++ drop 5 out)
-    ++ (bigEndian 8 (twos offset) ++ drop (5 + 8) (((13 + 16 * rank) / 256 % 256 ∷ (13 + 16 * rank) % 256 ∷ 1 ∷ verdict ∷ rank ∷ []) ++ drop 5 out))
-    ≡ headBytes rank verdict offset ++ drop 13 out
-unfolding bigEndian
-head_put rank verdict offset out =
-    let e : (13 + 16 * rank) % 256 ≡ (13 + 16 * rank) / 1 % 256 = rw (div-one (13 + 16 * rank)) in
-    behind-front ((13 + 16 * rank) / 256 % 256 ∷ (13 + 16 * rank) % 256 ∷ 1 ∷ verdict ∷ rank ∷ []) (drop 5 out) (bigEndian 8 (twos offset)) 5 8 refl
-    ∙ rw (drop-drop 8 5 out, e)
+pub head_put : (l : LayoutM) (n verdict : ℕ) (out : List ℕ) → rank l ≡ n
+    → take 5 (((13 + 16 * n) / 256 % 256 ∷ (13 + 16 * n) % 256 ∷ 1 ∷ verdict ∷ n ∷ []) ++ drop 5 out)
+    ++ (bigEndian 8 (twos l.offset) ++ drop (5 + 8) (((13 + 16 * n) / 256 % 256 ∷ (13 + 16 * n) % 256 ∷ 1 ∷ verdict ∷ n ∷ []) ++ drop 5 out))
+    ≡ headBytes l verdict ++ drop 13 out
+unfolding bigEndian headBytes
+head_put l n verdict out r =
+    let e : (13 + 16 * n) % 256 ≡ (13 + 16 * n) / 1 % 256 = rw (div-one (13 + 16 * n)) in
+    rw r
+    (behind-front ((13 + 16 * n) / 256 % 256 ∷ (13 + 16 * n) % 256 ∷ 1 ∷ verdict ∷ n ∷ []) (drop 5 out) (bigEndian 8 (twos l.offset)) 5 8 refl
+    ∙ rw (drop-drop 8 5 out, e))
 
 -- ---- the axes written so far
 
@@ -75,6 +77,9 @@ module _ (start : List ℕ) (axes : List Axis) (room : 13 + 16 * length axes ≤
 pub written_none : (start : List ℕ) → 13 ≤ length start → written start [] ≡ start
 unfolding axisBytes
 written_none start h = simp append-nil (take-append-drop 13 start)
+
+-- the axes written so far: none, and one more
+pub ruleset axes_written = (written_none, written_more)
 
 -- all axes are written behind a head
 pub written_behind : (head before : List ℕ) (axes : List Axis) → length head ≡ 13

@@ -131,6 +131,9 @@ module _ (bytes : List ℕ) where
             ∙ rw (← b, t.is) (ap (λ (m : LayoutM). done (record { layout = record { buffer = (withBuffer m).buffer; offset = m.offset; axes = m.axes }; verdict = get_or bytes 3 0 })) (sym told-by-rank))
         by false p q = absurd cc
 
+-- what the first part tells, where it is left and at its end
+pub ruleset fronts = (fields_tested, front_headless, head_is, rank_few, front_formless, front_is)
+
 -- ---- the reader goes on with the judgement
 
 -- 11 for a false verdict, else the layout

@@ -1,4 +1,3 @@
-pub mod HandedLaws
 pub mod FieldLaws
 pub mod NormalAnswers
 pub mod MergeLaws

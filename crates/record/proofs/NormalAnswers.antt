@@ -38,14 +38,14 @@ few-positions axes f o = ltb-false mostUnsigned (positions axes) (rw f at o)
 -- ---- the call
 
 module _ (l : LayoutM) where
-  pub form_refused : (number : ℕ) (values : List ℕ) → handed l [] ≡ refused number values → normalForm l ≡ refused number values
+  pub form_refused : (number : ℕ) (values : List ℕ) → handed l 0 ≡ refused number values → normalForm l ≡ refused number values
   unfolding normalForm ◌>>◌
   form_refused number values e = rw e
 
-  pub form_over : handed l [] ≡ pass → overfull l.axes ≡ true → normalForm l ≡ refused 8 []
+  pub form_over : handed l 0 ≡ pass → overfull l.axes ≡ true → normalForm l ≡ refused 8 []
   unfolding normalForm refuseIf ◌>>◌
   form_over e o = rw (e, o)
 
-  pub form_done : handed l [] ≡ pass → overfull l.axes ≡ false → normalForm l ≡ done (normalOf l)
+  pub form_done : handed l 0 ≡ pass → overfull l.axes ≡ false → normalForm l ≡ done (normalOf l)
   unfolding normalForm refuseIf ◌>>◌
   form_done e o = rw (e, o)

@@ -6,21 +6,20 @@ use Prim.Native.Nat.{ℕ, ◌≤◌, ◌<◌}
 use lib.ListN.{length, drop}
 use borrow.Author.Tests.{lt-ltb, le-ltb}
 use Rattle.specification.specs.Outcome.{Outcome, done, refused, ◌>>=◌}
-use Rattle.specification.specs.Layout.{LayoutM, rank, Accepted, handed}
+use Rattle.specification.specs.Layout.{LayoutM, rank, Accepted}
 use Rattle.specification.specs.Normal.{overfull, normalForm}
 use Rattle.specification.specs.Verdict.{Verdict, Judged, judge, freedBy, ScratchAfter}
 use Rattle.specification.specs.Record.{recordLength, recordBytes, verdictByte, Made, written, writeFrees, writeAnswer, outputAfter, Writing}
-use Rattle.specification.proofs.OutcomeLaws.{passed, passed-check, refuse-yes, refuse-no, bind_done, bind-refused, done_inj}
-use Rattle.specification.proofs.ReachLaws.{tested-no}
+use Rattle.specification.proofs.OutcomeLaws.{refuse-yes, refuse-no, bind_done, bind-refused}
+use Rattle.specification.proofs.CheckInLaws.{normal-call-claims}
 use Rattle.specification.proofs.RecordFields.{length-recordBytes}
 use Rattle.specification.proofs.WriterLaws.{normal-accepted, normal-few}
 use Rattle.specification.proofs.WriterAnswers.{recordOf}
-use Rattle.record.proofs.HandedLaws.{handed-passed}
-use Rattle.record.specs.Fields.{recordFields}
+use Rattle.record.specs.Fields.{headBytes, recordFields}
 
 -- the record by its fields, with the verdict's byte
 pub fields-are-record : (l : LayoutM) (v : Verdict) → recordFields l (verdictByte v) ≡ recordBytes l v
-unfolding recordBytes
+unfolding recordBytes headBytes
 fields-are-record l v = simp append_assoc
 
 -- a normal form is accepted, so it has at most 16 axes, and 64 bits hold its positions
@@ -29,12 +28,9 @@ pub record Formed (n : LayoutM) : Type 0 where
   pub few : overfull n.axes ≡ false
 
 pub formed : (l n : LayoutM) → normalForm l ≡ done n → Formed n
-unfolding normalForm
 formed l n e =
-    let p = passed-check (handed l []) e in
-    let h = handed-passed l [] p.0 in
-    let q = passed (overfull l.axes) 8 [] p.1 in
-    subst Formed (done_inj q.1) (record { accepted = normal-accepted l (tested-no l h.0 h.2); few = normal-few l q.0 })
+    let w = (normal-call-claims.passes l n).0 e in
+    subst Formed w.1 (record { accepted = normal-accepted l w.0.0; few = normal-few l w.0.1 })
 
 -- ---- one call of the writer
 

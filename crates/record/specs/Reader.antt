@@ -1,10 +1,8 @@
 -- The reader's first part: all that stands before the verdict is judged.
-use Rattle.std.specs.Prelude.{Bool, false, not, ◌&&◌, List, [], ◌∷◌, ℕ, eqb, ltb, ℤ, pos, length, get_or, if◌then◌else◌, None, Option, Some}
+use Rattle.std.specs.Prelude.{Bool, not, ◌&&◌, List, [], ℕ, ltb, pos, length, get_or, if◌then◌else◌, None, Option, Some}
 use Rattle.std.specs.Int.Signed.{le_z}
-use Rattle.integer.specs.Multiple.{eqZ}
 use Rattle.integer.specs.Parts.{posPart}
 use Rattle.integer.specs.Range.{mostSigned}
-use Rattle.specification.specs.Axis.{Axis}
 use Rattle.specification.specs.Layout.{LayoutM, lowest, highest}
 use Rattle.specification.specs.Outcome.{Outcome, done, refused, refuseIf, ◌>>◌}
 use Rattle.specification.specs.Record.{numberFrom, signedFrom, axesFrom, fieldsRight, isNormal, withBuffer, layoutFrom}
@@ -27,11 +25,6 @@ abbrev pub layout_told : List ℕ → ℕ → LayoutM
 layout_told bytes rank = record { buffer = 0; offset = signedFrom bytes 5; axes = axesFrom bytes 13 rank }
 
 -- ---- the test for a normal form
-
--- one axis, and each number is 0: `isEmptyForm` of the definitions, said of offset and axes
-abbrev pub is_empty_form : ℤ → List Axis → Bool
-is_empty_form offset [] = false
-is_empty_form offset (a ∷ rest) = eqZ offset (pos 0) && eqb (length rest) 0 && eqb a.extent 0 && eqZ a.stride (pos 0)
 
 -- no offset is below 0 or above 2^63 - 1
 abbrev pub in_range : LayoutM → Bool

@@ -1,4 +1,5 @@
-//! The fields of a record: how many bytes they take, and how they are put to the front of an output.
+//! The fields of a record: how many bytes they take, and how they are put to the front of an
+//! output.
 ghost use Rattle.std.specs.Prelude.{◌≡◌, ◌++◌, ◌≤◌, ◌+◌, length, take, drop};
 ghost use Rattle.specification.specs.Record.{recordLength, axisBytes};
 ghost use Rattle.view.specs.Model.{modelOf};
@@ -6,9 +7,10 @@ ghost use Rattle.record.specs.Fields.{headBytes, axisField, recordFields};
 
 use axis::Axis;
 use big_endian::{BytePlace, put_u64_at, twos_complement};
-use view::layout::{Layout, ReadingOffset};
+use view::layout::Layout;
 
-/// The bytes before the axes: length of the whole (2), version (1), verdict (1), rank (1), offset (8).
+/// The bytes before the axes: length of the whole (2), version (1), verdict (1), rank (1),
+/// offset (8).
 pub(crate) const HEAD_BYTES: usize = 13;
 
 /// The bytes of an axis: extent (8), stride (8).
@@ -30,14 +32,14 @@ pub(crate) fn record_length(rank: usize) -> usize
 
 /// Length of the whole, version, verdict, rank and offset.
 #[tactic(auto, using(crate::proofs::FieldLaws::head_put))]
-fn put_head(out: &mut [u8], rank: usize, verdict: u8, offset: ReadingOffset)
+fn put_head(out: &mut [u8], layout: &Layout, verdict: u8)
+    requires few { layout.now.rank ≤ 16 }
     requires room { 13 ≤ length out.old }
-    requires few { rank ≤ 16 }
-    ensures { out.new ≡ headBytes rank verdict offset.0 ++ drop 13 out.old }
+    ensures { out.new ≡ headBytes (modelOf layout.now) verdict ++ drop 13 out.old }
 {
-    let [high, low] = (record_length(rank) as u16).to_be_bytes();
-    out[..5].copy_from_slice(&[high, low, VERSION, verdict, rank as u8]);
-    put_u64_at(out, OFFSET_PLACE, twos_complement(offset.0));
+    let [high, low] = (record_length(layout.rank) as u16).to_be_bytes();
+    out[..5].copy_from_slice(&[high, low, VERSION, verdict, layout.rank as u8]);
+    put_u64_at(out, OFFSET_PLACE, twos_complement(layout.offset.0));
 }
 
 /// One axis from a place on: extent, then stride.
@@ -51,11 +53,12 @@ fn put_axis_at(out: &mut [u8], at: BytePlace, axis: Axis)
 }
 
 /// Axis after axis behind the head; the bytes before and behind them stay.
-#[tactic(auto, using(crate::proofs::FieldLaws::written_none, crate::proofs::FieldLaws::written_more, crate::proofs::FieldLaws::lengths))]
+#[tactic(auto, using(crate::proofs::FieldLaws::axes_written, crate::proofs::FieldLaws::lengths))]
 fn put_axes(out: &mut [u8], axes: &[Axis])
     requires few { length axes.now ≤ 16 }
     requires room { recordLength (length axes.now) ≤ length out.old }
-    ensures { out.new ≡ (take 13 out.old ++ axisBytes axes.now) ++ drop (recordLength (length axes.now)) out.old }
+    ensures { out.new ≡ (take 13 out.old ++ axisBytes axes.now)
+        ++ drop (recordLength (length axes.now)) out.old }
 {
     for (i, axis) in axes.iter().enumerate() {
         put_axis_at(out, BytePlace(HEAD_BYTES + AXIS_BYTES * i), *axis);
@@ -63,12 +66,13 @@ fn put_axes(out: &mut [u8], axes: &[Axis])
 }
 
 /// The record of a layout with a verdict byte at the front; the bytes past it stay.
-#[tactic(auto, using(view::proofs::AxesLaws::length_first_axes, crate::proofs::FieldLaws::written_behind, crate::proofs::FieldLaws::length_head))]
+#[tactic(auto, using(crate::proofs::FieldLaws::written_behind, crate::proofs::FieldLaws::length_head))]
 pub(crate) fn put_record(out: &mut [u8], layout: &Layout, verdict: u8)
     requires few { layout.now.rank ≤ 16 }
     requires room { recordLength layout.now.rank ≤ length out.old }
-    ensures { out.new ≡ recordFields (modelOf layout.now) verdict ++ drop (recordLength layout.now.rank) out.old }
+    ensures { out.new ≡ recordFields (modelOf layout.now) verdict
+        ++ drop (recordLength layout.now.rank) out.old }
 {
-    put_head(out, layout.rank, verdict, layout.offset);
+    put_head(out, layout, verdict);
     put_axes(out, layout.axes());
 }

@@ -1,9 +1,9 @@
 //! The reader's test for a normal form, and the buffer length that it gives.
 ghost use Rattle.std.specs.Prelude.{◌≡◌, ◌≤◌, length};
 ghost use Rattle.specification.specs.Normal.{overfull};
-ghost use Rattle.specification.specs.Record.{isMerged};
-ghost use Rattle.view.specs.Model.{modelOf, modelFrom};
-ghost use Rattle.record.specs.Reader.{highest_told, is_empty_form, needed_length};
+ghost use Rattle.specification.specs.Record.{isMerged, isEmptyForm};
+ghost use Rattle.view.specs.Model.{modelOf};
+ghost use Rattle.record.specs.Reader.{highest_told, needed_length};
 
 use crate::normal::continues;
 use axis::Axis;
@@ -25,18 +25,16 @@ fn is_merged(axes: &[Axis]) -> bool
     }
 }
 
-/// Whether these are the offset and the axes of an empty layout's normal form: offset 0, and one axis of extent 0 and stride 0.
+/// Whether this is an empty layout's normal form: offset 0, and one axis of extent 0 and stride 0.
 #[tactic(auto, using(crate::proofs::FormLaws::zero_tested, crate::proofs::FormLaws::empty_form_one))]
-fn is_empty_form(offset: ReadingOffset, axes: &[Axis]) -> bool
-    ensures { result ≡ is_empty_form offset.0 axes.now }
+fn is_empty_form(layout: &Layout) -> bool
+    requires { layout.now.rank ≤ 16 }
+    ensures { result ≡ isEmptyForm (modelOf layout.now) }
 {
-    let [axis] = axes else {
+    let [axis] = layout.axes() else {
         return false;
     };
-    if offset.0 != 0 || axis.extent != 0 {
-        return false;
-    }
-    axis.stride == 0
+    layout.offset.0 == 0 && axis.extent == 0 && axis.stride == 0
 }
 
 /// Whether there are more than 2^64 - 1 positions.
@@ -49,31 +47,34 @@ fn is_overfull(axes: &[Axis]) -> bool
 }
 
 /// The highest offset, where none is below 0 or above 2^63 - 1 and a zero extent counts as 1.
-fn highest_offset(offset: ReadingOffset, axes: &[Axis]) -> Option<u64>
-    ensures { result ≡ highest_told (modelFrom 0 offset.0 axes.now) }
+fn highest_offset(layout: &Layout) -> Option<u64>
+    requires { layout.now.rank ≤ 16 }
+    ensures { result ≡ highest_told (modelOf layout.now) }
 {
-    if offset.0 < 0 {
+    let ReadingOffset(offset) = layout.offset;
+    if offset < 0 {
         return None;
     }
-    let base = offset.0.unsigned_abs();
-    let spans = sum_spans(axes, i64::MAX as u64 - base, base)?;
+    let base = offset.unsigned_abs();
+    let spans = sum_spans(layout.axes(), i64::MAX as u64 - base, base)?;
     Some(base + spans.up)
 }
 
-/// The buffer length that a layout needs, if it is a normal form of at most 2^64 - 1 positions with offsets within 0 to 2^63 - 1:
-/// the highest offset + 1, or 0 where there is no position.
-#[tactic(auto, using(view::proofs::AxesLaws::length_first_axes, crate::proofs::FormLaws::length_empty, crate::proofs::FormLaws::length_unmerged, crate::proofs::FormLaws::length_overfull))]
+/// The buffer length that a layout needs, in readings, if it is a normal form of at most 2^64 - 1
+/// positions with offsets within 0 to 2^63 - 1: the highest offset + 1, or 0 where there is no
+/// position.
+#[tactic(auto, using(view::proofs::AxesLaws::length_first_axes, crate::proofs::FormLaws::lengths))]
 pub(crate) fn buffer_length(layout: &Layout) -> Option<u64>
     requires { layout.now.rank ≤ 16 }
     ensures { result ≡ needed_length (modelOf layout.now) }
 {
-    let axes = layout.axes();
-    if is_empty_form(layout.offset, axes) {
+    if is_empty_form(layout) {
         return Some(0);
     }
+    let axes = layout.axes();
     if !is_merged(axes) || is_overfull(axes) {
         return None;
     }
-    let highest = highest_offset(layout.offset, axes)?;
+    let highest = highest_offset(layout)?;
     Some(highest + 1)
 }

@@ -1,4 +1,5 @@
-//! The record of a layout: its normal form with a verdict, written, read back and stepped over; and lists of calls.
+//! The record of a layout: its normal form with a verdict, written, read back and stepped over;
+//! and lists of calls.
 #![tactic(auto)]
 
 ghost use Rattle.record.specs.Claims.{Claims};
@@ -12,7 +13,8 @@ pub mod reader;
 pub mod step;
 pub mod writer;
 
-/// Does nothing, and promises every claim about call lists and running code: the check refuses it unless each has its proof.
+/// Does nothing, and promises every claim about call lists and running code: the check refuses it
+/// unless each has its proof.
 #[tactic(auto, using(crate::proofs::Proved::proved))]
 pub fn claims_hold()
     ensures { Claims }

@@ -1,9 +1,9 @@
 //! The normal form of a layout: axes of extent 1 dropped, neighbours merged.
-ghost use Rattle.std.specs.Prelude.{false, ◌≡◌, ◌≤◌, length};
+ghost use Rattle.std.specs.Prelude.{true, false, ◌≡◌, ◌≤◌, length};
 ghost use Rattle.specification.specs.Axis.{is_empty};
 ghost use Rattle.specification.specs.Normal.{continues, normalAxes, normalOf, overfull, normalForm};
 ghost use Rattle.view.specs.Model.{modelOf, first_axes, layout_outcome};
-ghost use Rattle.record.specs.Normal.{continues_last, empty_model};
+ghost use Rattle.record.specs.Normal.{continues_last};
 
 use axis::Axis;
 use integer::signed::checked_mul;
@@ -25,8 +25,8 @@ fn continues_last(stored: &[Axis], axis: Axis) -> bool
     stored.last().is_some_and(|last| continues(*last, axis))
 }
 
-/// One pass from the left: how many axes come to stand in the first places. The last one stored is in hand:
-/// an axis that continues it is merged into it, another is stored behind it.
+/// One pass from the left: how many axes come to stand in the first places. The last one stored is
+/// in hand: an axis that continues it is merged into it, another is stored behind it.
 fn merge_into(merged: &mut [Axis; 16], axes: &[Axis]) -> usize
     requires few { length axes.now ≤ 16 }
     requires full { is_empty axes.now ≡ false }
@@ -62,27 +62,30 @@ fn merged(layout: &Layout) -> Layout
     form
 }
 
-/// One axis, extent 0, stride 0, offset 0; the buffer length stays.
-#[tactic(auto, unfolding(view::specs::Table::table))]
-fn empty_form(len: u64) -> Layout
-    ensures { modelOf result ≡ empty_model len }
+/// The normal form where there is no position: one axis, extent 0, stride 0, offset 0; the buffer
+/// length stays.
+#[tactic(auto, unfolding(specification::specs::Normal::normalOf, view::specs::Table::table))]
+fn empty_form(layout: &Layout) -> Layout
+    requires { is_empty (modelOf layout.now).axes ≡ true }
+    ensures { modelOf result ≡ normalOf (modelOf layout.now) }
 {
     Layout {
-        len,
+        len: layout.len,
         offset: ReadingOffset(0),
         rank: 1,
         axes: [NO_AXIS; MOST_AXES],
     }
 }
 
-/// The normal form; or refusal 1, 3 or 8.
+/// The normal form, with the same buffer length in readings. Refusal 1 is more than 16 axes, 3 an
+/// offset outside the buffer, 8 more than 2^64 - 1 positions.
 pub fn normal_form(layout: &Layout) -> Result<Layout, Refusal>
     ensures { layout_outcome result ≡ normalForm (modelOf layout.now) }
 {
     layout.handed_refusal(0)?;
     let count = element_count(layout.axes())?;
     if count == 0 {
-        return Ok(empty_form(layout.len));
+        return Ok(empty_form(layout));
     }
     Ok(merged(layout))
 }

@@ -6,7 +6,10 @@ use crate::reader::read_front;
 use crate::writer::judge_layout;
 use view::layout::{Layout, Refusal};
 
-/// Refusals 11, then 9, then 11 for a false verdict; or the layout, whose buffer length is its highest offset + 1.
+/// The layout of the record at the front, whatever bytes stand behind it. Its buffer length, in
+/// readings, is its highest offset + 1. Refusal 11 is that no record is there, 9 a scratch of fewer
+/// words than the verdict needs, then 11 a verdict that is false. Words of scratch past those that
+/// are needed stay, and all stay where no verdict was judged.
 pub fn read_record(bytes: &[u8], scratch: &mut [u64]) -> Result<Layout, Refusal>
     ensures { Reading bytes.now scratch.old (layout_outcome result) scratch.new }
 {

@@ -1,4 +1,5 @@
-//! The reader's first part: a whole record at the front of bytes, up to the verdict that its byte claims.
+//! The reader's first part: a whole record at the front of bytes, up to the verdict that its byte
+//! claims.
 ghost use Rattle.std.specs.Prelude.{◌≡◌, ◌≤◌, ◌+◌, length};
 ghost use Rattle.specification.specs.Record.{recordLength};
 ghost use Rattle.view.specs.Model.{modelOf};
@@ -15,18 +16,23 @@ use view::layout::{Layout, MOST_AXES, NO_AXIS, ReadingOffset};
 /// What the first bytes of a record tell: the byte of its verdict, and how many axes follow.
 #[derive(Clone, Copy, Debug, PartialEq, Eq)]
 pub struct Head {
+    /// 1 to 3.
     pub verdict: u8,
+    /// How many axes, at most 16.
     pub rank: usize,
 }
 
 /// A layout, and the byte of the verdict claimed for it.
 #[derive(Clone, Copy, Debug)]
 pub struct Front {
+    /// A normal form, with the buffer length that it needs.
     pub layout: Layout,
+    /// 1 to 3; nothing says that it is true.
     pub verdict: u8,
 }
 
-/// The head, where the front bytes hold every field: length, version, verdict, rank, and as many bytes as these ask for.
+/// The head, where the front bytes hold every field: length, version, verdict, rank, and as many
+/// bytes as these ask for.
 #[tactic(auto, unfolding(specification::specs::Record::fieldsRight))]
 pub fn read_head(bytes: &[u8]) -> Option<Head>
     ensures { result ≡ head_told bytes.now }
@@ -75,8 +81,9 @@ fn layout_at_front(bytes: &[u8], rank: usize) -> Layout
     }
 }
 
-/// The layout of a whole record at the front, and the verdict that it claims.
-#[tactic(auto, using(view::proofs::AxesLaws::length_first_axes, specification::proofs::ReaderLaws::fields_tested, crate::proofs::FrontLaws::front_headless, crate::proofs::FrontLaws::head_is, crate::proofs::FrontLaws::rank_few, crate::proofs::FrontLaws::front_formless, crate::proofs::FrontLaws::front_is))]
+/// The layout of a whole record at the front, and the verdict that it claims; none, where the bytes
+/// are no record of a normal form.
+#[tactic(auto, using(view::proofs::AxesLaws::length_first_axes, crate::proofs::FrontLaws::fronts))]
 pub fn read_front(bytes: &[u8]) -> Option<Front>
     ensures { front_outcome result ≡ frontOf bytes.now }
 {

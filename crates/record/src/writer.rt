@@ -1,5 +1,6 @@
 //! The writer: the record of a layout's normal form with its verdict, at the front of an output.
-ghost use Rattle.std.specs.Prelude.{◌≤◌, length};
+ghost use Rattle.std.specs.Prelude.{[], ◌<◌, ◌≤◌, length};
+ghost use Rattle.specification.specs.Outcome.{refused};
 ghost use Rattle.specification.specs.Verdict.{judge};
 ghost use Rattle.specification.specs.Record.{Writing};
 ghost use Rattle.view.specs.Model.{modelOf};
@@ -9,24 +10,36 @@ ghost use Rattle.record.specs.Writer.{wroteOf};
 use crate::fields::{put_record, record_length};
 use crate::normal::normal_form;
 use big_endian::BytePlace;
-use injectivity::{Judgement, judge_axes};
-use view::layout::{Layout, Refusal};
+use injectivity::{Judgement, is_injective_axes};
+use view::layout::{Layout, MOST_AXES, Refusal};
 
-/// The verdict of a layout's axes.
+/// The verdict of a layout's axes. Refusal 1 is more than 16 axes; the others, and what stays of
+/// the scratch, are as `is_injective_axes` has them.
+#[tactic(auto, using(injectivity::proofs::PlanLaws::lent))]
 pub fn judge_layout(layout: &Layout, scratch: &mut [u64]) -> Result<Judgement, Refusal>
-    requires { layout.now.rank ≤ 16 }
-    ensures { JudgedAs (judge (modelOf layout.now).axes (length scratch.old)) scratch.old scratch.new result }
+    ensures many { 16 < layout.now.rank → JudgedAs (refused 1 []) scratch.old scratch.new result }
+    ensures few { layout.now.rank ≤ 16
+        → JudgedAs (judge (modelOf layout.now).axes (length scratch.old))
+        scratch.old scratch.new result }
 {
-    judge_axes(layout.axes(), scratch)
+    if MOST_AXES < layout.rank {
+        return Err(Refusal::TooManyAxes);
+    }
+    is_injective_axes(layout.axes(), scratch)
 }
 
-/// Refusals 1, 3, 8, then 10, then 9; or the record at the front, and the bytes past it as they were.
+/// The record of a layout's normal form with its verdict at the front of the output; the answer is
+/// how many bytes it has, and the bytes past it stay. Refusals 1, 3 and 8 are those of the normal
+/// form, then 10 is an output of fewer bytes than the record has, 9 a scratch of fewer words than
+/// the verdict needs; then the output stays, and every word of the scratch. Else the words past
+/// those needed stay.
 pub fn write_record(
     layout: &Layout,
     out: &mut [u8],
     scratch: &mut [u64],
 ) -> Result<BytePlace, Refusal>
-    ensures { Writing (modelOf layout.now) out.old scratch.old (wroteOf result) out.new scratch.new }
+    ensures { Writing (modelOf layout.now) out.old scratch.old
+        (wroteOf result) out.new scratch.new }
 {
     let form = normal_form(layout)?;
     let size = record_length(form.rank);

@@ -1,20 +1,17 @@
 -- `normal_form`: refusals 1 and 3 of any call first, then what the count decides.
-use Rattle.std.proofs.Common.{◌≡◌, sym, ap, ◌∙◌, arith, ℕ, List, [], ◌≤◌, Result}
+use Rattle.std.proofs.Common.{◌≡◌, sym, ap, ◌∙◌, arith, ℕ, List, ◌≤◌, Result}
 use Rattle.std.proofs.lemmas.Result.{err_from_is_err_and}
 use Rattle.specification.specs.Axis.{Axis, extents}
 use Rattle.specification.specs.Layout.{LayoutM, handed}
 use Rattle.specification.specs.Outcome.{Check, done}
 use Rattle.specification.proofs.OutcomeLaws.{refused-inj}
-use Rattle.specification.proofs.NormalLaws.{normal-of-empty}
 use Rattle.view.specs.Answers.{outcomeOf}
 use Rattle.view.specs.Count.{elementCount, count_of}
 use Rattle.view.specs.Model.{modelOf}
-use Rattle.view.specs.Reach.{handed_with}
 use Rattle.view.specs.declared.layout.Layout.{Layout}
 use Rattle.view.specs.declared.layout.Refusal.{Refusal}
 use Rattle.view.proofs.AxesLaws.{length_first_axes}
 use Rattle.view.proofs.CountLaws.{element-count-of-axes, counted_is, counted-refused}
-use Rattle.record.proofs.HandedLaws.{handed-with}
 use Rattle.record.proofs.NormalAnswers.{none-empty, some-full, form_refused, form_over, form_done}
 use Rattle.record.proofs.normal.normal_form.Goals as goal
 
@@ -24,8 +21,8 @@ counted l axes r h e t =
     t ∙ ap (λ (a : List Axis). elementCount (extents a)) e ∙ element-count-of-axes (modelOf l).axes (omega (arith, length_first_axes l.axes l.rank))
 
 -- nothing was refused before it
-passed : (l : LayoutM) (r : Result (Unit {0}) Refusal) → outcomeOf r ≡ handed_with l 0 → {o : Check} → outcomeOf r ≡ o → handed l [] ≡ o
-passed l r e p = handed-with l [] ∙ sym e ∙ p
+passed : (l : LayoutM) (r : Result (Unit {0}) Refusal) → outcomeOf r ≡ handed l 0 → {o : Check} → outcomeOf r ≡ o → handed l 0 ≡ o
+passed l r e p = sym e ∙ p
 
 pub returns-in_err-handed_refusal : goal.returns-in_err-handed_refusal
 returns-in_err-handed_refusal c =
@@ -52,13 +49,18 @@ merged-requires-clause-within c =
     let l = c.args.layout.now in
     (counted_is (modelOf l).axes (counted l _ _ c.in_ok-handed_refusal.ensures.few_axes c.axes.ensures.meaning c.element_count.ensures) c.in_ok-count.was).0
 
+pub empty_form-requires : goal.empty_form-requires
+empty_form-requires c =
+    let l = c.args.layout.now in
+    let k = counted_is (modelOf l).axes (counted l _ _ c.in_ok-handed_refusal.ensures.few_axes c.axes.ensures.meaning c.element_count.ensures) c.in_ok-count.was in
+    none-empty (modelOf l).axes (k.1 ∙ c.if-count-eq0.true)
+
 pub returns-then-count-eq0 : goal.returns-then-count-eq0
 returns-then-count-eq0 c =
     let l = c.args.layout.now in
     let none = passed _ _ c.handed_refusal.ensures.answer (ap outcomeOf c.in_ok-handed_refusal.was) in
     let k = counted_is (modelOf l).axes (counted l _ _ c.in_ok-handed_refusal.ensures.few_axes c.axes.ensures.meaning c.element_count.ensures) c.in_ok-count.was in
-    ap done (c.empty_form.ensures ∙ sym (normal-of-empty (modelOf l) (none-empty (modelOf l).axes (k.1 ∙ c.if-count-eq0.true))))
-    ∙ sym (form_done (modelOf l) none k.0)
+    ap done c.empty_form.ensures ∙ sym (form_done (modelOf l) none k.0)
 
 pub returns : goal.returns
 returns c =

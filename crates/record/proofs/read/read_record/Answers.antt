@@ -1,7 +1,7 @@
 -- `read_record`: the front, then the verdict judged, then held against the byte.
 use Rattle.std.specs.Prelude.{None, Option, Some}
 use Rattle.std.proofs.lemmas.Result.{err_from_is_err_and}
-use Rattle.std.proofs.Common.{◌≡◌, refl, sym, ap, ◌∙◌, arith, ℕ, List, []}
+use Rattle.std.proofs.Common.{◌≡◌, ◌≤◌, refl, sym, ap, ◌∙◌, arith, ℕ, List, []}
 use Rattle.specification.specs.Outcome.{done, refused}
 use Rattle.view.specs.Model.{modelOf}
 use Rattle.view.proofs.ListedLaws.{rank_model_of}
@@ -22,28 +22,27 @@ is_front bytes r f e d = sym e ∙ ap front_outcome d
 no_front : (bytes : List ℕ) (r : Option Front) → front_outcome r ≡ frontOf bytes → r ≡ None → frontOf bytes ≡ refused 11 []
 no_front bytes r e d = sym e ∙ ap front_outcome d
 
+-- its layout has at most 16 axes
+few : (bytes : List ℕ) (r : Option Front) (f : Front) → front_outcome r ≡ frontOf bytes → r ≡ Some f → f.layout.rank ≤ 16
+few bytes r f e d = omega (arith, front-few bytes (is_front bytes r f e d), rank_model_of f.layout)
+
 pub returns-in_default : goal.returns-in_default
 returns-in_default c = reading-no-record c.args.bytes.now c.args.scratch.now (no_front _ _ c.read_front.ensures c.in_default.is) refl
-
-pub judge_layout-requires : goal.judge_layout-requires
-judge_layout-requires c =
-    let f = c.in-Some.front in
-    omega (arith, front-few c.args.bytes.now (is_front _ _ f c.read_front.ensures c.in-Some.is), rank_model_of f.layout)
 
 pub returns-in_err-judged : goal.returns-in_err-judged
 returns-in_err-judged c =
     let p = err_from_is_err_and c.from_residual.result c.from_residual.ensures.1 in
     rw (p.1, p.2) (reading-unjudged c.args.bytes.now c.args.scratch.now (is_front _ _ c.in-Some.front c.read_front.ensures c.in-Some.is)
-    (refusal-told _ _ c.in_err-judged.ensures.told) c.judge_layout.ensures.scratch refl)
+    (refusal-told _ _ (c.in_err-judged.ensures.few (few _ _ c.in-Some.front c.read_front.ensures c.in-Some.is)).told) (c.judge_layout.ensures.few (few _ _ c.in-Some.front c.read_front.ensures c.in-Some.is)).scratch refl)
 
 pub returns-then-not-confirmed : goal.returns-then-not-confirmed
 returns-then-not-confirmed c =
-    let w = byte-told _ _ c.in_ok-judged.ensures.told in
+    let w = byte-told _ _ (c.in_ok-judged.ensures.few (few _ _ c.in-Some.front c.read_front.ensures c.in-Some.is)).told in
     reading-false c.args.bytes.now c.args.scratch.now (is_front _ _ c.in-Some.front c.read_front.ensures c.in-Some.is) w.is
-    (λ q. c.if-not-confirmed.true (c.number.ensures ∙ sym w.byte-is ∙ q)) c.judge_layout.ensures.scratch refl
+    (λ q. c.if-not-confirmed.true (c.number.ensures ∙ sym w.byte-is ∙ q)) (c.judge_layout.ensures.few (few _ _ c.in-Some.front c.read_front.ensures c.in-Some.is)).scratch refl
 
 pub returns : goal.returns
 returns c =
-    let w = byte-told _ _ c.in_ok-judged.ensures.told in
+    let w = byte-told _ _ (c.in_ok-judged.ensures.few (few _ _ c.in-Some.front c.read_front.ensures c.in-Some.is)).told in
     reading-true c.args.bytes.now c.args.scratch.now (is_front _ _ c.in-Some.front c.read_front.ensures c.in-Some.is) w.is
-    (w.byte-is ∙ sym c.number.ensures ∙ c.if-not-confirmed.false) c.judge_layout.ensures.scratch refl
+    (w.byte-is ∙ sym c.number.ensures ∙ c.if-not-confirmed.false) (c.judge_layout.ensures.few (few _ _ c.in-Some.front c.read_front.ensures c.in-Some.is)).scratch refl
