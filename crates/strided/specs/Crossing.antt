@@ -1,60 +1,47 @@
--- What crosses the boundary: for an outcome its number, the values returned, and what the lent memory holds afterwards.
--- A buffer that is too short for its part is one refusal more, 255, without values; in every call it comes before the others.
-use Rattle.std.specs.Prelude.{Bool, true, false, List, [], ◌++◌, ◌≡◌, ℕ, ℤ, length, drop}
-use Rattle.specification.specs.Outcome.{Outcome, Check, done, refused}
-use Rattle.specification.specs.Layout.{LayoutM}
-use Rattle.specification.specs.Views.{After}
-use Rattle.flat.specs.Flat.{holdsLayout, holdsView, modelOfFlat, Stored}
-use Rattle.flat.specs.Number.{answerNumber}
+-- What crosses to C: an outcome's number and values, and what lent memory holds after the call.
+use Rattle.std.specs.Prelude.{List, [], ◌∷◌, ◌++◌, ℕ, nat_le, ℤ, length, drop, if◌then◌else◌}
+use Rattle.specification.specs.Outcome.{Outcome, done, refused}
+use Rattle.specification.specs.Record.{verdictByte}
+use Rattle.injectivity.specs.Judgement.{Told}
+use Rattle.strided.specs.declared.crossing.Values.{Values}
+use Rattle.strided.specs.declared.crossing.Found.{Found}
 
--- the outcome where there is room, else 255
-abbrev pub ifRoom : {A : Type 0} → Bool → Outcome A → Outcome A
-ifRoom true outcome = outcome
-ifRoom false outcome = refused 255 []
+-- 0 done, else the number of the refusal
+abbrev pub number_after : {A : Type 0} → Outcome A → ℕ
+number_after (done a) = 0
+number_after (refused number values) = number
 
--- the values of a refusal in the first places; the others stay
-abbrev pub valuesAfter : {A : Type 0} → Outcome A → List ℕ → List ℕ
-valuesAfter (done a) before = before
-valuesAfter (refused number values) before = values ++ drop (length values) before
+-- the two places for values
+abbrev pub places : Values → List ℕ
+places v = v.first ∷ v.second ∷ []
+
+-- the values of a refusal in the first places; the others stay, and on success both
+abbrev pub values_after : {A : Type 0} → Outcome A → Values → List ℕ
+values_after (done a) before = places before
+values_after (refused number values) before = values ++ drop (length values) (places before)
+
+-- the bytes written in the first place, or the values of the refusal
+abbrev pub written_after : Outcome ℕ → Values → List ℕ
+written_after (done size) before = size ∷ before.second ∷ []
+written_after (refused number values) before = values ++ drop (length values) (places before)
 
 -- what was answered, or what was there before
-abbrev pub resultAfter : {A : Type 0} → Outcome A → A → A
-resultAfter (done a) before = a
-resultAfter (refused number values) before = before
+abbrev pub result_after : {A : Type 0} → Outcome A → A → A
+result_after (done a) before = a
+result_after (refused number values) before = before
 
--- a list that was answered in the first places; the others stay
-abbrev pub frontAfter : {A : Type 0} → Outcome (List A) → List A → List A
-frontAfter (done front) before = front ++ drop (length front) before
-frontAfter (refused number values) before = before
+-- a list that was answered in the first places; the others stay, and all of them on a refusal
+abbrev pub front_after : {A : Type 0} → Outcome (List A) → List A → List A
+front_after (done front) before = front ++ drop (length front) before
+front_after (refused number values) before = before
 
--- the two buffers of a layout: they hold what was answered, or all is as it was
-abbrev pub LayoutAfter : Outcome LayoutM → List ℕ → List ℤ → List ℕ → List ℤ → Type 0
-LayoutAfter (done l) numbers steps numbers-then Steps-then = Stored l numbers steps numbers-then Steps-then
-LayoutAfter (refused number values) numbers steps numbers-then Steps-then = (numbers-then ≡ numbers) × (Steps-then ≡ steps)
+-- the verdict's number (1 Distinct, 2 Repeated, 3 Undecided) and count; on a refusal what was there
+abbrev pub found_after : Outcome Told → Found → Found
+found_after (done j) before = record { verdict = verdictByte j.answer; count = j.count }
+found_after (refused number values) before = before
 
--- the layout beside an answer, as an outcome
-abbrev pub besideAnswer : Check → LayoutM → Outcome LayoutM
-besideAnswer (done u) l = done l
-besideAnswer (refused number values) l = refused number values
-
-abbrev pub layout_of : After → Outcome LayoutM
-layout_of after = besideAnswer after.answer after.layout
-
--- a call that leaves a layout in two buffers
-pub record Crossed (outcome : Outcome LayoutM) (numbers : List ℕ) (steps : List ℤ) (numbers-then : List ℕ) (Steps-then : List ℤ) (answer : ℕ) : Type 0 where
-  pub answer-is : answer ≡ answerNumber outcome
-  pub layout_is : LayoutAfter outcome numbers steps numbers-then Steps-then
-
--- a call that leaves a layout in two buffers, and the values of a refusal
-pub record CrossedWithValues (outcome : Outcome LayoutM) (numbers : List ℕ) (steps : List ℤ) (values : List ℕ) (numbers-then : List ℕ) (Steps-then : List ℤ) (values-then : List ℕ) (answer : ℕ) : Type 0 where
-  pub crossed : Crossed outcome numbers steps numbers-then Steps-then answer
-  pub values-are : values-then ≡ valuesAfter outcome values
-
--- a view of the layout that two buffers hold: what crosses, by the definition of the view
-abbrev pub Viewing : (LayoutM → After) → List ℕ → List ℤ → List ℕ → List ℕ → List ℤ → List ℕ → ℕ → Type 0
-Viewing view numbers steps values numbers-then Steps-then values-then answer =
-    CrossedWithValues (ifRoom (holdsView (length numbers) (length steps) (length values)) (layout_of (view (modelOfFlat numbers steps)))) numbers steps values numbers-then Steps-then values-then answer
-
--- a call without values that makes a layout
-abbrev pub Making : Outcome LayoutM → List ℕ → List ℤ → List ℕ → List ℤ → ℕ → Type 0
-Making outcome numbers steps numbers-then Steps-then answer = Crossed (ifRoom (holdsLayout (length numbers) (length steps)) outcome) numbers steps numbers-then Steps-then answer
+-- dense strides into an array of this length: 255, where it is shorter than the extents; then what
+-- the call answers
+abbrev pub dense_into : (List ℕ → Outcome (List ℤ)) → List ℕ → ℕ → Outcome (List ℤ)
+dense_into dense extents room =
+    if nat_le (length extents) room then dense extents else refused 255 []

@@ -1,23 +1,25 @@
 //! The bounds alone, offsets of index vectors, the order of strides, dense strides.
-ghost use Rattle.std.specs.Prelude.{◌≡◌, ◌≤◌, length};
+ghost use Rattle.std.specs.Prelude.{◌≡◌, ◌≤◌, nat_le, length};
 ghost use Rattle.std.specs.Result.{ForOk};
 ghost use Rattle.specification.specs.CheckIn.{checkIn};
-ghost use Rattle.specification.specs.Beside.{indexedOffset, indexOrder, colMajor, rowMajor};
+ghost use Rattle.specification.specs.Beside.{indexedOffset, indexOrder, orderAfter, colMajor, rowMajor};
 ghost use Rattle.view.specs.Answers.{outcomeOf};
-ghost use Rattle.flat.specs.Flat.{holdsView, modelOfFlat};
-ghost use Rattle.flat.specs.Number.{answerNumber};
-ghost use Rattle.strided.specs.Crossing.{ifRoom};
-ghost use Rattle.strided.specs.Calls.{Located, OrderCrossed, denseInto, DenseCrossed};
+ghost use Rattle.view.specs.Model.{modelOf};
+ghost use Rattle.strided.specs.Crossing.{number_after, places, values_after, result_after, front_after, dense_into};
 
-use crate::SHORT_BUFFER;
+use crate::crossing::{Values, answer_number, refuse};
 use auxiliary::index_order_into;
 use dense::{DenseStrides, checked_col_major_strides, checked_row_major_strides};
-use flat::buffers::{holds_view, layout_in};
-use flat::refusals::{number_of, refuse};
 use view::bounds::validate_bounds;
-use view::layout::{ReadingOffset, Refusal};
+use view::layout::{Layout, ReadingOffset, Refusal};
 
-/// Check-in's answer without the layout.
+/// The answer where the caller's array is too short; it comes before every refusal.
+const SHORT_BUFFER: u8 = 255;
+
+/// What check-in of this length and offset (both in readings) answers, with nothing stored.
+///
+/// Refusals: 1 more than 16 entries; 2 the lists differ in length; 3 an extent, a span or an
+/// offset is out of range, or an offset is outside the length (never where some extent is 0).
 #[unsafe(no_mangle)]
 pub extern "C" fn strided_validate_bounds(
     len: u64,
@@ -25,46 +27,63 @@ pub extern "C" fn strided_validate_bounds(
     extents: &[u64],
     strides: &[i64],
 ) -> u8
-    ensures { result ≡ answerNumber (checkIn len offset extents.now strides.now) }
+    ensures { result ≡ number_after (checkIn len offset extents.now strides.now) }
 {
-    number_of(validate_bounds(len, ReadingOffset(offset), extents, strides))
+    answer_number(validate_bounds(len, ReadingOffset(offset), extents, strides))
 }
 
-/// The offset of an index vector.
+/// The offset of an index vector, in readings: 0, and it stands in `offset`.
+///
+/// Refusals: 1 more than 16 axes or indices; 3 the layout is not accepted; 4, with the indices and
+/// the rank, as many indices as axes are wanted; then axis by axis 7, with the axis, an index is
+/// not below its extent, or 3 an index, a product or a sum is out of range. After a refusal
+/// `offset` is as it was, and its values stand in the first places of `values`; other places stay.
 #[unsafe(no_mangle)]
 pub extern "C" fn strided_indexed_offset(
-    numbers: &[u64],
-    steps: &[i64],
+    layout: &Layout,
     index: &[u64],
-    offset: &mut i64,
-    values: &mut [u64],
+    offset: &mut ReadingOffset,
+    values: &mut Values,
 ) -> u8
-    ensures { Located (ifRoom (holdsView (length numbers.now) (length steps.now) (length values.old)) (indexedOffset (modelOfFlat numbers.now steps.now) index.now)) offset.old values.old offset.new values.new result }
+    ensures answer { result ≡ number_after (indexedOffset (modelOf layout.now) index.now) }
+    ensures offset { offset.new.0 ≡
+        result_after (indexedOffset (modelOf layout.now) index.now) offset.old.0 }
+    ensures values { places values.new ≡
+        values_after (indexedOffset (modelOf layout.now) index.now) values.old }
 {
-    if !holds_view(numbers.len(), steps.len(), values.len()) {
-        return SHORT_BUFFER;
-    }
-    match layout_in(numbers, steps).indexed_offset(index) {
+    match layout.indexed_offset(index) {
         Ok(at) => {
-            *offset = at.0;
+            *offset = at;
             0
         }
         Err(why) => refuse(why, values),
     }
 }
 
-/// Each stride's number by absolute value.
+/// Each stride's number by absolute value, 1 for the least and for 0: 0, and the numbers in `out`.
+///
+/// Refusals: 1 more than 16 strides; 2 `out` has another length. After a refusal `out` is as it
+/// was.
 #[unsafe(no_mangle)]
 pub extern "C" fn strided_index_order(strides: &[i64], out: &mut [usize]) -> u8
-    ensures { OrderCrossed (indexOrder strides.now (length out.old)) out.old out.new result }
+    ensures answer { result ≡ number_after (indexOrder strides.now (length out.old)) }
+    ensures output { out.new ≡ orderAfter (indexOrder strides.now (length out.old)) out.old }
 {
-    number_of(index_order_into(strides, out))
+    answer_number(index_order_into(strides, out))
+}
+
+/// Whether an array is as long as the extents that strides are wanted for.
+fn has_room(strides: &[i64], extents: &[u64]) -> bool
+    ensures { result ≡ nat_le (length extents.now) (length strides.now) }
+{
+    extents.len() <= strides.len()
 }
 
 /// The strides into the first places; on a refusal its number.
 fn answer_dense(dense: Result<DenseStrides, Refusal>, strides: &mut [i64]) -> u8
     requires room { ForOk dense (λ front. length front ≤ length strides.old) }
-    ensures { DenseCrossed (outcomeOf dense) strides.old strides.new result }
+    ensures answer { result ≡ number_after (outcomeOf dense) }
+    ensures strides { strides.new ≡ front_after (outcomeOf dense) strides.old }
 {
     match dense {
         Err(why) => why.number(),
@@ -76,23 +95,37 @@ fn answer_dense(dense: Result<DenseStrides, Refusal>, strides: &mut [i64]) -> u8
     }
 }
 
-/// Dense strides by column: the first axis is the densest.
+/// Dense strides by column, where the first axis is the densest: 0, and they stand in the first
+/// places of `strides`; those past them stay.
+///
+/// 255 where `strides` is shorter than `extents`. Refusals: 1 more than 16 extents; 3 more than
+/// 2^63 - 1 positions. After each of them `strides` is as it was.
 #[unsafe(no_mangle)]
 pub extern "C" fn strided_column_strides(extents: &[u64], strides: &mut [i64]) -> u8
-    ensures { DenseCrossed (denseInto colMajor extents.now (length strides.old)) strides.old strides.new result }
+    ensures answer { result ≡
+        number_after (dense_into colMajor extents.now (length strides.old)) }
+    ensures strides { strides.new ≡
+        front_after (dense_into colMajor extents.now (length strides.old)) strides.old }
 {
-    if strides.len() < extents.len() {
+    if !has_room(strides, extents) {
         return SHORT_BUFFER;
     }
     answer_dense(checked_col_major_strides(extents), strides)
 }
 
-/// Dense strides by row: the last axis is the densest.
+/// Dense strides by row, where the last axis is the densest: 0, and they stand in the first places
+/// of `strides`; those past them stay.
+///
+/// 255 where `strides` is shorter than `extents`. Refusals: 1 more than 16 extents; 3 more than
+/// 2^63 - 1 positions. After each of them `strides` is as it was.
 #[unsafe(no_mangle)]
 pub extern "C" fn strided_row_strides(extents: &[u64], strides: &mut [i64]) -> u8
-    ensures { DenseCrossed (denseInto rowMajor extents.now (length strides.old)) strides.old strides.new result }
+    ensures answer { result ≡
+        number_after (dense_into rowMajor extents.now (length strides.old)) }
+    ensures strides { strides.new ≡
+        front_after (dense_into rowMajor extents.now (length strides.old)) strides.old }
 {
-    if strides.len() < extents.len() {
+    if !has_room(strides, extents) {
         return SHORT_BUFFER;
     }
     answer_dense(checked_row_major_strides(extents), strides)

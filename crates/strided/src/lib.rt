@@ -1,11 +1,9 @@
-//! The static library: every call of the crates below it, with numbers, slices of numbers and `&mut` numbers alone.
-//! A layout crosses as two flat buffers: `numbers` holds length, rank and 16 extents, `steps` holds offset and 16 strides.
+//! The static library: every call of the crates below it, over numbers, and structs and slices
+//! that are lent. A call that changes a layout works in the caller's.
 #![tactic(auto)]
 
 mod beside;
+pub mod crossing;
 mod records;
 mod verdicts;
 mod views;
-
-// The answer where a buffer is too short for its part; it comes before every refusal.
-const SHORT_BUFFER: u8 = 255;

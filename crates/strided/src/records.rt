@@ -1,81 +1,101 @@
 //! The record: written, read and stepped over.
-ghost use Rattle.std.specs.Prelude.{◌≤◌, length};
-ghost use Rattle.specification.specs.Record.{written};
+ghost use Rattle.std.specs.Prelude.{◌≡◌, ◌≢◌, ◌≤◌, length, drop};
+ghost use Rattle.specification.specs.Verdict.{ScratchAfter};
+ghost use Rattle.specification.specs.Record.{written, writeAnswer, writeFrees, outputAfter, read_of, readFrees, rest_of};
+ghost use Rattle.view.specs.Model.{modelOf};
+ghost use Rattle.record.specs.Reading.{layout_read};
 ghost use Rattle.record.specs.Writer.{wroteOf};
-ghost use Rattle.flat.specs.Flat.{holdsView, modelOfFlat};
-ghost use Rattle.strided.specs.Crossing.{ifRoom};
-ghost use Rattle.strided.specs.Calls.{WroteAfter, RecordWritten, RecordRead, Behind};
+ghost use Rattle.strided.specs.Crossing.{number_after, places, values_after, written_after, result_after};
 
-use crate::SHORT_BUFFER;
+use crate::crossing::{Values, refuse};
 use big_endian::BytePlace;
-use flat::buffers::{holds_view, layout_in, store_layout};
-use flat::refusals::refuse;
 use record::read::read_record;
 use record::step::step_over;
 use record::writer::write_record;
-use view::layout::Refusal;
+use view::layout::{Layout, Refusal};
 
 /// The bytes written in the first place, or the refusal.
-fn answer_wrote(wrote: Result<BytePlace, Refusal>, values: &mut [u64]) -> u8
-    requires { 2 ≤ length values.old }
-    ensures { WroteAfter (wroteOf wrote) values.old values.new result }
+fn answer_wrote(wrote: Result<BytePlace, Refusal>, values: &mut Values) -> u8
+    ensures answer { result ≡ number_after (wroteOf wrote) }
+    ensures values { places values.new ≡ written_after (wroteOf wrote) values.old }
 {
     match wrote {
         Ok(place) => {
-            values[0] = place.0 as u64;
+            values.first = place.0;
             0
         }
         Err(why) => refuse(why, values),
     }
 }
 
-/// The record of a layout's normal form at the front of the output.
-#[tactic(auto, unfolding(specification::specs::Record::writeFrees, specification::specs::Record::writeAnswer))]
+/// The record of the layout's normal form, with its verdict, at the front of the output: 0, and in
+/// `values.first` how many bytes it has. The bytes behind it stay, and so does `values.second`.
+///
+/// Refusals: 1, 3 and 8 as of the normal form; 10, with the bytes that are needed, a shorter
+/// output; 9, with the words that are needed, a shorter scratch. After a refusal output and scratch
+/// are as they were, and its values stand in the first places of `values`; other places stay.
+/// After 0 the scratch words that the verdict needs may hold anything, and those past them stay.
 #[unsafe(no_mangle)]
 pub extern "C" fn strided_write(
-    numbers: &[u64],
-    steps: &[i64],
+    layout: &Layout,
     out: &mut [u8],
     scratch: &mut [u64],
-    values: &mut [u64],
+    values: &mut Values,
 ) -> u8
-    ensures { RecordWritten (ifRoom (holdsView (length numbers.now) (length steps.now) (length values.old)) (written (modelOfFlat numbers.now steps.now) (length out.old) (length scratch.old))) out.old scratch.old values.old out.new scratch.new values.new result }
+    ensures answer { result ≡ number_after
+        (writeAnswer (written (modelOf layout.now) (length out.old) (length scratch.old))) }
+    ensures output { out.new ≡ outputAfter
+        (written (modelOf layout.now) (length out.old) (length scratch.old)) out.old }
+    ensures scratch { ScratchAfter (writeFrees
+        (written (modelOf layout.now) (length out.old) (length scratch.old)))
+        scratch.old scratch.new }
+    ensures values { places values.new ≡ written_after
+        (writeAnswer (written (modelOf layout.now) (length out.old) (length scratch.old)))
+        values.old }
 {
-    if !holds_view(numbers.len(), steps.len(), values.len()) {
-        return SHORT_BUFFER;
-    }
-    let wrote = write_record(&layout_in(numbers, steps), out, scratch);
-    answer_wrote(wrote, values)
+    answer_wrote(write_record(layout, out, scratch), values)
 }
 
-/// The layout of the record at the front of the bytes.
+/// The layout of the record at the front of the bytes, whose verdict is judged afresh: 0, and the
+/// layout is it, with its highest offset + 1 as its length in readings (0 where it is empty).
+///
+/// Refusals: 11 the bytes hold no record; 9, with the words that are needed, a shorter scratch;
+/// 11 the verdict is false. After a refusal the layout is as it was, and its values stand in the
+/// first places of `values`; other places stay. The scratch words that the verdict needs may hold
+/// anything after 0 and after a false verdict; those past them stay, and all of them otherwise.
 #[unsafe(no_mangle)]
 pub extern "C" fn strided_read(
+    layout: &mut Layout,
     bytes: &[u8],
     scratch: &mut [u64],
-    numbers: &mut [u64],
-    steps: &mut [i64],
-    values: &mut [u64],
+    values: &mut Values,
 ) -> u8
-    ensures { RecordRead (holdsView (length numbers.old) (length steps.old) (length values.old)) bytes.now scratch.old numbers.old steps.old values.old scratch.new numbers.new steps.new values.new result }
+    ensures answer { result ≡
+        number_after (layout_read (read_of bytes.now (length scratch.old))) }
+    ensures layout { modelOf layout.new ≡ result_after
+        (layout_read (read_of bytes.now (length scratch.old))) (modelOf layout.old) }
+    ensures kept { result ≢ 0 → layout.new ≡ layout.old }
+    ensures scratch { ScratchAfter
+        (readFrees bytes.now (length scratch.old)) scratch.old scratch.new }
+    ensures values { places values.new ≡ values_after
+        (layout_read (read_of bytes.now (length scratch.old))) values.old }
 {
-    if !holds_view(numbers.len(), steps.len(), values.len()) {
-        return SHORT_BUFFER;
-    }
     match read_record(bytes, scratch) {
-        Err(why) => refuse(why, values),
-        Ok(layout) => {
-            store_layout(&layout, numbers, steps);
+        Ok(front) => {
+            *layout = front;
             0
         }
+        Err(why) => refuse(why, values),
     }
 }
 
-/// Where the bytes behind the record at the front begin.
+/// Where the bytes behind the record at the front begin: the length that stands there; the end of
+/// the bytes, where that is missing, below 13 or past the end.
 #[tactic(auto, using(std::proofs::lemmas::Grind::common_steps), unfolding(specification::specs::Record::rest_of))]
 #[unsafe(no_mangle)]
 pub extern "C" fn strided_step(bytes: &[u8]) -> usize
-    ensures { Behind bytes.now result }
+    ensures within { result ≤ length bytes.now }
+    ensures rest { drop result bytes.now ≡ rest_of bytes.now }
 {
     let rest = step_over(bytes);
     bytes.len() - rest.len()

@@ -1,45 +1,60 @@
 //! The verdict.
-ghost use Rattle.std.specs.Prelude.{◌&&◌, ◌≤◌, leb, length};
-ghost use Rattle.specification.specs.Verdict.{verdict};
-ghost use Rattle.injectivity.specs.Judgement.{judgedOf};
-ghost use Rattle.strided.specs.Crossing.{ifRoom};
-ghost use Rattle.strided.specs.Calls.{ToldAfter, Judging};
+ghost use Rattle.std.specs.Prelude.{◌≡◌, length};
+ghost use Rattle.specification.specs.Axis.{extents, strides};
+ghost use Rattle.specification.specs.Verdict.{verdict, freedBy, ScratchAfter};
+ghost use Rattle.injectivity.specs.Judgement.{judgedOf, toldOf};
+ghost use Rattle.strided.specs.Crossing.{number_after, places, values_after, found_after};
 
-use crate::SHORT_BUFFER;
-use flat::refusals::refuse;
-use injectivity::{Judgement, is_injective_layout};
+use crate::crossing::{Found, Values, refuse};
+use axis::Axis;
+use injectivity::{Judgement, is_injective_axes};
 use view::layout::Refusal;
 
-/// 1 Distinct, 2 Repeated, 3 Undecided, with the count; or the refusal.
-fn answer_judgement(judged: Result<Judgement, Refusal>, found: &mut [u64], values: &mut [u64]) -> u8
-    requires found_room { 2 ≤ length found.old }
-    requires values_room { 2 ≤ length values.old }
-    ensures { ToldAfter (judgedOf judged) found.old values.old found.new values.new result }
+/// The verdict into `found`, or the refusal.
+fn answer_judgement(
+    judged: Result<Judgement, Refusal>,
+    found: &mut Found,
+    values: &mut Values,
+) -> u8
+    ensures answer { result ≡ number_after (judgedOf judged) }
+    ensures found { found.new ≡ found_after (judgedOf judged) found.old }
+    ensures values { places values.new ≡ values_after (judgedOf judged) values.old }
 {
     match judged {
         Ok(judgement) => {
-            found[0] = judgement.number().into();
-            found[1] = judgement.count();
+            *found = Found {
+                verdict: judgement.number(),
+                count: judgement.count(),
+            };
             0
         }
         Err(why) => refuse(why, values),
     }
 }
 
-/// Whether no two positions share an offset, with the number of difference vectors looked at.
+/// Whether no two positions of the axes share an offset: 0, and the verdict in `found`.
+///
+/// Refusals: 1 more than 16 axes; 8 more than 2^64 - 1 positions; 3 an extent, a stride or a span
+/// is out of range; 9, with the words that are needed, a shorter scratch. After a refusal `found`
+/// and the scratch are as they were, and its values stand in the first places of `values`; other
+/// places stay. After 0 the scratch words that the verdict needs may hold anything, and those past
+/// them stay.
 #[unsafe(no_mangle)]
 pub extern "C" fn strided_is_injective(
-    extents: &[u64],
-    strides: &[i64],
+    axes: &[Axis],
     scratch: &mut [u64],
-    found: &mut [u64],
-    values: &mut [u64],
+    found: &mut Found,
+    values: &mut Values,
 ) -> u8
-    ensures { Judging (ifRoom (leb 2 (length found.old) && leb 2 (length values.old)) (verdict extents.now strides.now (length scratch.old))) scratch.old found.old values.old scratch.new found.new values.new result }
+    ensures answer { result ≡ number_after
+        (toldOf (verdict (extents axes.now) (strides axes.now) (length scratch.old))) }
+    ensures found { found.new ≡ found_after
+        (toldOf (verdict (extents axes.now) (strides axes.now) (length scratch.old))) found.old }
+    ensures scratch { ScratchAfter
+        (freedBy (verdict (extents axes.now) (strides axes.now) (length scratch.old)))
+        scratch.old scratch.new }
+    ensures values { places values.new ≡ values_after
+        (toldOf (verdict (extents axes.now) (strides axes.now) (length scratch.old))) values.old }
 {
-    if found.len() < 2 || values.len() < 2 {
-        return SHORT_BUFFER;
-    }
-    let judged = is_injective_layout(extents, strides, scratch);
-    answer_judgement(judged, found, values)
+    answer_judgement(is_injective_axes(axes, scratch), found, values)
 }

@@ -1,140 +1,125 @@
-//! Check-in, the views and the normal form.
-ghost use Rattle.std.specs.Prelude.{◌≤◌, length};
+//! Check-in, the views and the normal form, in the layout that is lent.
+ghost use Rattle.std.specs.Prelude.{◌≡◌, ◌≢◌, drop};
 ghost use Rattle.specification.specs.CheckIn.{checkIn};
 ghost use Rattle.specification.specs.Normal.{normalForm};
 ghost use Rattle.specification.specs.Views.{permute, pairsOf, diagonalView, broadcast};
-ghost use Rattle.view.specs.Model.{told};
-ghost use Rattle.flat.specs.Flat.{modelOfFlat};
-ghost use Rattle.strided.specs.Crossing.{layout_of, CrossedWithValues, Viewing, Making};
+ghost use Rattle.view.specs.Answers.{outcomeOf};
+ghost use Rattle.view.specs.Model.{modelOf, checked_into};
+ghost use Rattle.strided.specs.Crossing.{number_after, places, values_after, result_after};
 
-use crate::SHORT_BUFFER;
-use flat::buffers::{
-    NO_LAYOUT, holds_layout, holds_view, layout_in, load_layout, store_layout, store_lists,
-};
-use flat::refusals::refuse;
+use crate::crossing::{Values, answer_number, refuse};
 use record::normal::normal_form;
-use view::bounds::validate_bounds;
-use view::layout::{Layout, ReadingOffset, Refusal};
+use view::layout::{Layout, Refusal};
 
-/// The layout after a view into the buffers; or the number of the refusal with its values, and the buffers as they were.
-fn answer_view(
-    answer: Result<(), Refusal>,
-    layout: &Layout,
-    numbers: &mut [u64],
-    steps: &mut [i64],
-    values: &mut [u64],
-) -> u8
-    requires numbers_room { 18 ≤ length numbers.old }
-    requires steps_room { 17 ≤ length steps.old }
-    requires values_room { 2 ≤ length values.old }
-    ensures { CrossedWithValues (layout_of (told answer layout.now)) numbers.old steps.old values.old numbers.new steps.new values.new result }
+/// The number of a view's answer: 0, or that of the refusal with its values in the first places.
+fn answer_view(answer: Result<(), Refusal>, values: &mut Values) -> u8
+    ensures answer { result ≡ number_after (outcomeOf answer) }
+    ensures values { places values.new ≡ values_after (outcomeOf answer) values.old }
 {
     match answer {
+        Ok(()) => 0,
         Err(why) => refuse(why, values),
-        Ok(()) => {
-            store_layout(layout, numbers, steps);
-            0
-        }
     }
 }
 
-/// Check-in: 0 and the layout in the buffers, or refusal 1, 2 or 3.
+/// Check-in of the length and the offset (both in readings) that stand in the layout, with the
+/// axes of two lists: 0, and rank and axes stand in it too.
+///
+/// Refusals: 1 more than 16 entries; 2 the lists differ in length; 3 an extent, a span or an
+/// offset is out of range, or an offset is outside the length (never where some extent is 0).
+/// After a refusal the layout is as it was. Places past the rank always stay.
 #[unsafe(no_mangle)]
-pub extern "C" fn strided_new(
-    numbers: &mut [u64],
-    steps: &mut [i64],
-    len: u64,
-    offset: i64,
-    extents: &[u64],
-    strides: &[i64],
-) -> u8
-    ensures { Making (checkIn len offset extents.now strides.now) numbers.old steps.old numbers.new steps.new result }
+pub extern "C" fn strided_new(layout: &mut Layout, extents: &[u64], strides: &[i64]) -> u8
+    ensures answer { result ≡ number_after
+        (checkIn layout.old.len layout.old.offset.0 extents.now strides.now) }
+    ensures layout { modelOf layout.new ≡ (checked_into (modelOf layout.old)
+        (checkIn layout.old.len layout.old.offset.0 extents.now strides.now)).layout }
+    ensures kept { result ≢ 0 → layout.new ≡ layout.old }
+    ensures past { drop layout.new.rank layout.new.axes ≡ drop layout.new.rank layout.old.axes }
 {
-    if !holds_layout(numbers.len(), steps.len()) {
-        return SHORT_BUFFER;
-    }
-    let from = ReadingOffset(offset);
-    match validate_bounds(len, from, extents, strides) {
-        Err(why) => why.number(),
-        Ok(()) => {
-            store_lists(numbers, steps, len, from, extents, strides);
-            0
-        }
-    }
+    answer_number(layout.check_in(layout.len, layout.offset, extents, strides))
 }
 
-// A view loads the layout in place: one that is handed out by value is copied twice.
-
-/// The axes in the order of the list.
+/// The axes in the order of a list of their numbers: 0, and the layout is the one after it.
+///
+/// Refusals: 1 more than 16 axes or entries; 3 the layout is not accepted; 4, with the entries and
+/// the rank, as many entries as axes are wanted; 5, with the entry and the rank, an entry is
+/// outside the rank or was there before. After a refusal the layout is as it was, and its values
+/// stand in the first places of `values`; other places stay. Places past the rank always stay.
 #[unsafe(no_mangle)]
-pub extern "C" fn strided_permute(
-    numbers: &mut [u64],
-    steps: &mut [i64],
-    axes: &[usize],
-    values: &mut [u64],
-) -> u8
-    ensures { Viewing (λ layout. permute layout axes.now) numbers.old steps.old values.old numbers.new steps.new values.new result }
+pub extern "C" fn strided_permute(layout: &mut Layout, order: &[usize], values: &mut Values) -> u8
+    ensures answer { result ≡ number_after (permute (modelOf layout.old) order.now).answer }
+    ensures layout { modelOf layout.new ≡ (permute (modelOf layout.old) order.now).layout }
+    ensures kept { result ≢ 0 → layout.new ≡ layout.old }
+    ensures past { drop layout.new.rank layout.new.axes ≡ drop layout.new.rank layout.old.axes }
+    ensures values { places values.new ≡
+        values_after (permute (modelOf layout.old) order.now).answer values.old }
 {
-    if !holds_view(numbers.len(), steps.len(), values.len()) {
-        return SHORT_BUFFER;
-    }
-    let mut layout = NO_LAYOUT;
-    load_layout(&mut layout, numbers, steps);
-    let answer = layout.permute_in_place(axes);
-    answer_view(answer, &layout, numbers, steps, values)
+    answer_view(layout.permute_in_place(order), values)
 }
 
-/// Tied axes as one axis; two numbers of the list are a pair.
+/// Tied axes as one axis; two numbers of the list are a pair, and an odd last one is passed over:
+/// 0, and the layout is the one after it.
+///
+/// Refusals: 1 more than 16 axes; 3 the layout is not accepted; 5, with the larger axis and the
+/// rank, a pair is outside the rank; 5, with the axis and the rank, a pair names one axis twice;
+/// 3 a sum of strides or the new layout is out of range. After a refusal the layout is as it was,
+/// and its values stand in the first places of `values`; other places stay. Places past the new
+/// rank always stay.
 #[unsafe(no_mangle)]
 pub extern "C" fn strided_diagonal_view(
-    numbers: &mut [u64],
-    steps: &mut [i64],
+    layout: &mut Layout,
     pairs: &[usize],
-    values: &mut [u64],
+    values: &mut Values,
 ) -> u8
-    ensures { Viewing (λ layout. diagonalView layout (pairsOf pairs.now)) numbers.old steps.old values.old numbers.new steps.new values.new result }
+    ensures answer { result ≡
+        number_after (diagonalView (modelOf layout.old) (pairsOf pairs.now)).answer }
+    ensures layout { modelOf layout.new ≡
+        (diagonalView (modelOf layout.old) (pairsOf pairs.now)).layout }
+    ensures kept { result ≢ 0 → layout.new ≡ layout.old }
+    ensures past { drop layout.new.rank layout.new.axes ≡ drop layout.new.rank layout.old.axes }
+    ensures values { places values.new ≡
+        values_after (diagonalView (modelOf layout.old) (pairsOf pairs.now)).answer values.old }
 {
-    if !holds_view(numbers.len(), steps.len(), values.len()) {
-        return SHORT_BUFFER;
-    }
-    let mut layout = NO_LAYOUT;
-    load_layout(&mut layout, numbers, steps);
-    let answer = layout.diagonal_by_numbers(pairs);
-    answer_view(answer, &layout, numbers, steps, values)
+    answer_view(layout.diagonal_by_numbers(pairs), values)
 }
 
-/// The layout stretched to the target extents.
+/// The layout stretched to target extents, one for each axis: 0, and the layout is the one after
+/// it. An axis whose extent is its target keeps its stride; another gets the target and stride 0.
+///
+/// Refusals: 1 more than 16 axes or targets; 3 the layout is not accepted; 4, with the rank and the
+/// targets, as many targets as axes are wanted; 6, with the axis, an extent is neither its target
+/// nor 1. After a refusal the layout is as it was, and its values stand in the first places of
+/// `values`; other places stay. Places past the rank always stay.
 #[unsafe(no_mangle)]
-pub extern "C" fn strided_broadcast(
-    numbers: &mut [u64],
-    steps: &mut [i64],
-    extents: &[u64],
-    values: &mut [u64],
-) -> u8
-    ensures { Viewing (λ layout. broadcast layout extents.now) numbers.old steps.old values.old numbers.new steps.new values.new result }
+pub extern "C" fn strided_broadcast(layout: &mut Layout, targets: &[u64], values: &mut Values) -> u8
+    ensures answer { result ≡ number_after (broadcast (modelOf layout.old) targets.now).answer }
+    ensures layout { modelOf layout.new ≡ (broadcast (modelOf layout.old) targets.now).layout }
+    ensures kept { result ≢ 0 → layout.new ≡ layout.old }
+    ensures past { drop layout.new.rank layout.new.axes ≡ drop layout.new.rank layout.old.axes }
+    ensures values { places values.new ≡
+        values_after (broadcast (modelOf layout.old) targets.now).answer values.old }
 {
-    if !holds_view(numbers.len(), steps.len(), values.len()) {
-        return SHORT_BUFFER;
-    }
-    let mut layout = NO_LAYOUT;
-    load_layout(&mut layout, numbers, steps);
-    let answer = layout.broadcast_in_place(extents);
-    answer_view(answer, &layout, numbers, steps, values)
+    answer_view(layout.broadcast_in_place(targets), values)
 }
 
-/// The normal form, or refusal 1, 3 or 8.
+/// The normal form, with axes of extent 1 dropped and neighbours merged, and one axis of extent 0
+/// where there is no position: 0, and the layout is it; its length stays.
+///
+/// Refusals: 1 more than 16 axes; 3 the layout is not accepted; 8 more than 2^64 - 1 positions.
+/// After a refusal the layout is as it was.
 #[unsafe(no_mangle)]
-pub extern "C" fn strided_normal_form(numbers: &mut [u64], steps: &mut [i64]) -> u8
-    ensures { Making (normalForm (modelOfFlat numbers.old steps.old)) numbers.old steps.old numbers.new steps.new result }
+pub extern "C" fn strided_normal_form(layout: &mut Layout) -> u8
+    ensures answer { result ≡ number_after (normalForm (modelOf layout.old)) }
+    ensures layout { modelOf layout.new ≡
+        result_after (normalForm (modelOf layout.old)) (modelOf layout.old) }
+    ensures kept { result ≢ 0 → layout.new ≡ layout.old }
 {
-    if !holds_layout(numbers.len(), steps.len()) {
-        return SHORT_BUFFER;
-    }
-    match normal_form(&layout_in(numbers, steps)) {
-        Err(why) => why.number(),
-        Ok(layout) => {
-            store_layout(&layout, numbers, steps);
+    match normal_form(layout) {
+        Ok(form) => {
+            *layout = form;
             0
         }
+        Err(why) => why.number(),
     }
 }

@@ -1,2 +1,0 @@
-pub mod Flat
-pub mod Number
