@@ -23,7 +23,7 @@ use crate::word::Word;
 use axis::Axis;
 use record::read::read_record;
 use std::alloc::Global;
-use view::axes::pair_into;
+use view::axes::Lists;
 use view::layout::{Layout, MOST_AXES, NO_AXIS, ReadingOffset, Viewed};
 
 /// LEN OFFSET EXTENTS STRIDES, as a line gives them.
@@ -65,13 +65,20 @@ pub fn new_layout(given: &Given) -> Result<Layout, Problem>
 }
 
 // The first 16 axes that two lists give.
-fn sixteen(extents: &[u64], strides: &[i64]) -> [Axis; 16]
-    requires { length strides.now ≡ length extents.now }
-    ensures { take (length extents.now) result ≡ axesOf (take 16 extents.now) (take 16 strides.now) }
+fn sixteen(given: &Given) -> [Axis; 16]
+    requires { length given.now.strides.items ≡ length given.now.extents.items }
+    ensures { take (length given.now.extents.items) result
+        ≡ axesOf (take 16 given.now.extents.items) (take 16 given.now.strides.items) }
 {
+    let extents = given.extents.as_slice();
+    let strides = given.strides.as_slice();
+    let held = extents.len().min(MOST_AXES);
+    let lists = Lists {
+        extents: &extents[..held],
+        strides: &strides[..held],
+    };
     let mut places = [NO_AXIS; MOST_AXES];
-    let held = extents.len().min(16);
-    pair_into(&mut places[..held], &extents[..held], &strides[..held]);
+    lists.store(&mut places);
     places
 }
 
@@ -92,7 +99,7 @@ pub fn set_layout(given: &Given) -> Result<Layout, Problem>
         len: given.len,
         offset: given.offset,
         rank,
-        axes: sixteen(given.extents.as_slice(), given.strides.as_slice()),
+        axes: sixteen(given),
     })
 }
 

@@ -66,16 +66,13 @@ pub fn normal(current: &Layout) -> Result<Reply, Problem>
     Ok(Reply::Current(normal_form(current)?))
 }
 
-/// The verdict on a layout's axes. One of more axes than it holds places for is refused as a list of so many is.
+/// The verdict on a layout's axes. More of them than a layout has places for are refused as a list of so many is.
 pub fn verdict(current: &Layout, memory: &mut Memory, scratch: Word<'_>) -> Result<Reply, Problem>
     ensures many { 16 < current.now.rank → Obeys result (one_of lent lent_form scratch.entry.number scratch.entry.text.now) (λ words. Judges (refused 1 [])) }
     ensures few { current.now.rank ≤ 16 → Obeys result (one_of lent lent_form scratch.entry.number scratch.entry.text.now)
         (λ words. Judges (toldOf (judge (modelOf current.now).axes words.0))) }
 {
     let Lent(count) = scratch.one()?;
-    if 16 < current.rank {
-        return Err(Refusal::TooManyAxes.into());
-    }
     let scratch = lend(&mut memory.scratch, count, 0)?;
     Ok(Reply::Judged(judge_layout(current, scratch)?))
 }

@@ -31,4 +31,10 @@ module _ (n : ℕ) (es : List ℕ) (ss : List ℤ) (alike : length ss ≡ length
       ∙ ap (axesOf (take 16 es)) (take_all n ss (omega arith) ∙ sym (take_all 16 ss (omega arith)))
 
 pub returns : goal.returns
-returns c = by_length c.min-held.result c.args.extents.now c.args.strides.now c.requires c.pair_into.new.axes _ (cases_lt 16 (length c.args.extents.now)) c.min-held.ensures c.pair_into.ensures refl
+returns c =
+    let es = c.as_slice-extents.result.now in
+    let ss = c.as_slice-strides.result.now in
+    let alike : length ss ≡ length es = ap length c.as_slice-strides.ensures.value ∙ c.requires ∙ sym (ap length c.as_slice-extents.ensures.value) in
+    let all : length (take c.min-held.result es) ≡ c.min-held.result = length-take-le c.min-held.result es (omega (arith, c.min-held.ensures)) in
+    rw (← c.as_slice-extents.ensures.value, ← c.as_slice-strides.ensures.value, c.store.ensures, all)
+    (by_length c.min-held.result es ss alike _ _ (cases_lt 16 (length es)) c.min-held.ensures refl refl)
