@@ -1,17 +1,16 @@
 /* Strided layouts over one buffer of readings: the static library's calls, for C99 and C++.
  *
- * Every call answers with one number:
+ * Every call but strided_step answers with one number:
  *   0         done
- *   1 to 11   a refusal, by its number (STRIDED_* below); but for `values`, all that was handed over is as it was
- *             (where strided_read meets a false verdict, 11, the scratch words that the verdict needed may have changed)
- *   255       a buffer is too short for its part (numbers, steps, values, found, dense strides); nothing was written.
- *             In every call it comes before every other refusal.
+ *   1 to 11   a refusal, by its number (STRIDED_* below); but for `values`, all that was handed over is as it was,
+ *             a layout in every field, also past its rank (where strided_read meets a false verdict, 11, the scratch
+ *             words that the verdict needed may have changed)
+ *   255       of the dense strides alone: there are fewer places than extents; nothing was written
  *
- * A slice is a pointer and a length. What the calls assume of their caller: each pointer is true for its length, and no
- * buffer that a call writes overlaps another one that is handed to it. A pointer of length 0 must still not be null.
- *
- * `values` has room for two words. A refusal puts what it returns there (4: both lengths; 5: axis and rank; 6, 7: the axis;
- * 9: the words needed; 10: the bytes needed) and leaves the places that it does not use. */
+ * Lengths of buffers, offsets and strides are counted in readings, scratch in words of 64 bits, records in bytes.
+ * A slice is a pointer and a length; X_len is the length of X. What the calls assume of their caller: each pointer is true
+ * for its length and aligned, none is null (also with length 0), and nothing that a call writes overlaps anything else
+ * that is handed to it. Any numbers may stand in a layout: each has an answer. */
 #ifndef STRIDED_H
 #define STRIDED_H
 
@@ -35,78 +34,98 @@ enum {
     STRIDED_SHORT_SCRATCH = 9,       /* values: words needed */
     STRIDED_SHORT_OUTPUT = 10,       /* values: bytes needed */
     STRIDED_NOT_A_RECORD = 11,       /* bytes are not a record */
-    STRIDED_SHORT_BUFFER = 255       /* a buffer is too short for its part */
+    STRIDED_SHORT_BUFFER = 255       /* fewer places than extents */
 };
 
 enum { STRIDED_DISTINCT = 1, STRIDED_REPEATED = 2, STRIDED_UNDECIDED = 3 };
 
-enum { STRIDED_AXES = 16, STRIDED_NUMBERS = 18, STRIDED_STEPS = 17, STRIDED_RECORD = 269 };
+/* The most axes of a layout, and the bytes of the longest record. */
+enum { STRIDED_AXES = 16, STRIDED_RECORD = 269 };
 
-/* numbers: buffer length, rank, 16 extents. steps: offset, 16 strides. Places past the rank may hold anything. */
 typedef struct {
-    uint64_t numbers[STRIDED_NUMBERS];
-    int64_t steps[STRIDED_STEPS];
+    uint64_t extent;
+    int64_t stride;
+} strided_axis;
+
+/* A layout of a buffer of `len` readings. The axes past the rank are no part of it and may hold anything. */
+typedef struct {
+    uint64_t len;
+    int64_t offset;
+    size_t rank;
+    strided_axis axes[STRIDED_AXES];
 } strided_layout;
 
-static inline uint64_t strided_len(const strided_layout *l) { return l->numbers[0]; }
-static inline uint64_t strided_rank(const strided_layout *l) { return l->numbers[1]; }
-static inline int64_t strided_offset(const strided_layout *l) { return l->steps[0]; }
-/* Of an axis below the rank. */
-static inline uint64_t strided_extent(const strided_layout *l, size_t axis) { return l->numbers[2 + axis]; }
-static inline int64_t strided_stride(const strided_layout *l, size_t axis) { return l->steps[1 + axis]; }
+/* What a refusal returns: one value in the first place, two in both. A place that it does not use stays, and both stay
+ * where a call succeeds, but for strided_write. */
+typedef struct {
+    size_t first;
+    size_t second;
+} strided_values;
 
-/* ---- the calls; X_len is the length of X, in numbers */
+/* A verdict (STRIDED_DISTINCT ..), and how many difference vectors were looked at. */
+typedef struct {
+    uint8_t verdict;
+    uint64_t count;
+} strided_found;
 
-/* Check-in: the layout into numbers and steps, or 1, 2, 3. */
-uint8_t strided_new(uint64_t *numbers, size_t numbers_len, int64_t *steps, size_t steps_len, uint64_t len, int64_t offset,
-                    const uint64_t *extents, size_t extents_len, const int64_t *strides, size_t strides_len);
+/* ---- check-in */
 
-/* Check-in's answer without the layout. */
+/* Check-in of the length and the offset that stand in `layout` with these extents and strides: stores rank and axes, and
+ * nothing else. Places past the rank stay. 1, 2, 3. */
+uint8_t strided_new(strided_layout *layout, const uint64_t *extents, size_t extents_len, const int64_t *strides,
+                    size_t strides_len);
+
+/* Check-in's answer without the layout: 1, 2, 3. */
 uint8_t strided_validate_bounds(uint64_t len, int64_t offset, const uint64_t *extents, size_t extents_len,
                                 const int64_t *strides, size_t strides_len);
 
-/* The axes in the order of the list: 1, 3, 4, 5. */
-uint8_t strided_permute(uint64_t *numbers, size_t numbers_len, int64_t *steps, size_t steps_len, const size_t *axes,
-                        size_t axes_len, uint64_t *values, size_t values_len);
+/* ---- calls on a layout. Each refuses a layout of more than 16 axes, 1, and one whose offsets do not fit its buffer, 3.
+ * A view changes `layout` into the layout after it; the places past its new rank stay. */
 
-/* Tied axes as one axis; two numbers of `pairs` are a pair, and an odd last number is passed over: 1, 3, 5. */
-uint8_t strided_diagonal_view(uint64_t *numbers, size_t numbers_len, int64_t *steps, size_t steps_len, const size_t *pairs,
-                              size_t pairs_len, uint64_t *values, size_t values_len);
+/* The axes in the order of the list: 1, 3, 4 (entries, rank), 5. */
+uint8_t strided_permute(strided_layout *layout, const size_t *order, size_t order_len, strided_values *values);
 
-/* Stretched to the target extents: 1, 3, 4, 6. */
-uint8_t strided_broadcast(uint64_t *numbers, size_t numbers_len, int64_t *steps, size_t steps_len, const uint64_t *extents,
-                          size_t extents_len, uint64_t *values, size_t values_len);
+/* Tied axes as one axis; two numbers of `pairs` are a pair, and an odd last number is passed over: 1, 3, 5, then 3. */
+uint8_t strided_diagonal_view(strided_layout *layout, const size_t *pairs, size_t pairs_len, strided_values *values);
 
-/* The offset of an index vector: 1, 3, 4, 7. */
-uint8_t strided_indexed_offset(const uint64_t *numbers, size_t numbers_len, const int64_t *steps, size_t steps_len,
-                               const uint64_t *index, size_t index_len, int64_t *offset, uint64_t *values, size_t values_len);
+/* Stretched to the target extents: 1, 3, 4 (rank, targets), 6. */
+uint8_t strided_broadcast(strided_layout *layout, const uint64_t *targets, size_t targets_len, strided_values *values);
 
-/* Whether no two positions share an offset. found: the verdict (STRIDED_DISTINCT ..) and the number of difference vectors
- * looked at. 1, 2, 3, 8, 9. Of the scratch only the first words, those that the verdict needs, may change. */
-uint8_t strided_is_injective(const uint64_t *extents, size_t extents_len, const int64_t *strides, size_t strides_len,
-                             uint64_t *scratch, size_t scratch_len, uint64_t *found, size_t found_len, uint64_t *values,
-                             size_t values_len);
+/* The offset of an index vector: 1, 3, 4 (indices, rank), then axis by axis 7 or 3. */
+uint8_t strided_indexed_offset(const strided_layout *layout, const uint64_t *index, size_t index_len, int64_t *offset,
+                               strided_values *values);
 
-/* The normal form: 1, 3, 8. */
-uint8_t strided_normal_form(uint64_t *numbers, size_t numbers_len, int64_t *steps, size_t steps_len);
+/* The normal form, in place; past its rank anything may then stand: 1, 3, 8. */
+uint8_t strided_normal_form(strided_layout *layout);
 
-/* The record of the normal form at the front of the output; values[0] is then its length, at most STRIDED_RECORD.
- * 1, 3, 8, 10, 9. */
-uint8_t strided_write(const uint64_t *numbers, size_t numbers_len, const int64_t *steps, size_t steps_len, uint8_t *out,
-                      size_t out_len, uint64_t *scratch, size_t scratch_len, uint64_t *values, size_t values_len);
+/* ---- the verdict */
 
-/* The layout of the record at the front of the bytes: 11, 9. */
-uint8_t strided_read(const uint8_t *bytes, size_t bytes_len, uint64_t *scratch, size_t scratch_len, uint64_t *numbers,
-                     size_t numbers_len, int64_t *steps, size_t steps_len, uint64_t *values, size_t values_len);
+/* Whether no two positions of these axes share an offset: 1, 8, 3, 9. Of the scratch only the first words, those that the
+ * verdict needs, may change. */
+uint8_t strided_is_injective(const strided_axis *axes, size_t axes_len, uint64_t *scratch, size_t scratch_len,
+                             strided_found *found, strided_values *values);
+
+/* ---- the record */
+
+/* The record of the normal form at the front of the output; values->first is then its length, at most STRIDED_RECORD, and
+ * values->second and the output behind it stay. 1, 3, 8, 10, 9. Scratch as for the verdict. */
+uint8_t strided_write(const strided_layout *layout, uint8_t *out, size_t out_len, uint64_t *scratch, size_t scratch_len,
+                      strided_values *values);
+
+/* The layout of the record at the front of the bytes; past its rank anything may then stand: 11, 9, or 11 where the verdict
+ * is false. Scratch as for the verdict. */
+uint8_t strided_read(strided_layout *layout, const uint8_t *bytes, size_t bytes_len, uint64_t *scratch,
+                     size_t scratch_len, strided_values *values);
 
 /* Where the bytes behind the record at the front begin; the end if there is none. */
 size_t strided_step(const uint8_t *bytes, size_t bytes_len);
 
+/* ---- strides */
+
 /* Each stride's number by absolute value: 1, 2. An out that is not as long as strides is 2, also a shorter one. */
 uint8_t strided_index_order(const int64_t *strides, size_t strides_len, size_t *out, size_t out_len);
 
-/* Dense strides, the first or the last axis the densest, into the first places: 1, 3. With fewer places than extents 255,
- * also where there are more than 16 extents. */
+/* Dense strides, the first or the last axis the densest, into the first places; the others stay: 255, 1, 3, in this order. */
 uint8_t strided_column_strides(const uint64_t *extents, size_t extents_len, int64_t *strides, size_t strides_len);
 uint8_t strided_row_strides(const uint64_t *extents, size_t extents_len, int64_t *strides, size_t strides_len);
 

@@ -3,12 +3,12 @@
 //! A safe wrapper of the static library `libstrided.a`, whose functions are proved against their contracts.
 //!
 //! ```
-//! use strided_layouts::{Layout, Verdict};
+//! use strided_layouts::{Axis, Layout, Verdict};
 //! let sheet = Layout::new(6, 0, &[2, 3], &[1, 2])?;
 //! let turned = sheet.permute(&[1, 0])?;
-//! assert_eq!((turned.extents(), turned.strides()), (&[3, 2][..], &[2, 1][..]));
+//! assert_eq!(turned.axes(), &[Axis { extent: 3, stride: 2 }, Axis { extent: 2, stride: 1 }]);
 //! assert_eq!(turned.verdict()?, (Verdict::Distinct, 0));
-//! assert_eq!(Layout::read(&turned.write()?)?.extents(), &[3, 2]);
+//! assert_eq!(Layout::read(&turned.write()?)?.axes(), turned.axes());
 //! # Ok::<(), strided_layouts::Refusal>(())
 //! ```
 
@@ -17,8 +17,13 @@ mod refusal;
 
 pub use refusal::Refusal;
 
-/// The length of the longest record: 16 axes.
-const LONGEST_RECORD: usize = 13 + 16 * 16;
+use calls::{Found, Values};
+
+/// The most axes of a layout, and the most entries of a list.
+const MOST_AXES: usize = 16;
+
+/// The bytes of the longest record.
+const LONGEST_RECORD: usize = 13 + 16 * MOST_AXES;
 
 /// Whether no two positions of a layout share an offset.
 #[derive(Clone, Copy, Debug, PartialEq, Eq)]
@@ -28,98 +33,101 @@ pub enum Verdict {
     Undecided,
 }
 
-/// A buffer length, an offset, and up to 16 axes. Each one was checked in, read, or is a view of such a layout.
+/// An extent, and a stride in readings.
+#[repr(C)]
+#[derive(Clone, Copy, Debug, PartialEq, Eq)]
+pub struct Axis {
+    pub extent: u64,
+    pub stride: i64,
+}
+
+/// The length of a buffer, an offset, and up to 16 axes. Each layout was checked in, read, or is a view of such a layout.
+#[repr(C)]
 #[derive(Clone, Copy)]
 pub struct Layout {
-    numbers: [u64; 18],
-    steps: [i64; 17],
+    len: u64,
+    offset: i64,
+    rank: usize,
+    axes: [Axis; MOST_AXES],
 }
 
 impl Layout {
-    /// Check-in: refusals 1, 2, 3.
+    /// Check-in of a buffer of `len` readings: refusals 1, 2, 3.
     pub fn new(len: u64, offset: i64, extents: &[u64], strides: &[i64]) -> Result<Layout, Refusal> {
-        let mut made = Layout::blank();
-        let (numbers, steps) = (&mut made.numbers, &mut made.steps);
-        // SAFETY: each pointer is that of a slice or an array of the length beside it; those written are borrowed for this call alone.
+        let mut made = Layout { len, offset, ..Layout::NONE };
+        // SAFETY: each pointer is that of a slice of the length beside it or of a struct, and what is written is borrowed
+        // for this call alone.
         let answer = unsafe {
-            calls::strided_new(
-                numbers.as_mut_ptr(), numbers.len(), steps.as_mut_ptr(), steps.len(), len, offset,
-                extents.as_ptr(), extents.len(), strides.as_ptr(), strides.len(),
-            )
+            calls::strided_new(&mut made, extents.as_ptr(), extents.len(), strides.as_ptr(), strides.len())
         };
-        Refusal::of(answer, [0; 2]).map(|()| made)
+        Refusal::of(answer, Values::default()).map(|()| made)
     }
 
-    fn blank() -> Layout {
-        Layout { numbers: [0; 18], steps: [0; 17] }
-    }
+    /// What a call stores a layout into.
+    const NONE: Layout = Layout { len: 0, offset: 0, rank: 0, axes: [Axis { extent: 0, stride: 0 }; MOST_AXES] };
 
-    /// The length of the buffer.
+    /// The length of the buffer, in readings.
     pub fn buffer_length(&self) -> u64 {
-        self.numbers[0]
-    }
-
-    /// How many axes there are.
-    pub fn rank(&self) -> usize {
-        self.numbers[1].min(16) as usize
+        self.len
     }
 
     /// The offset, in readings.
     pub fn offset(&self) -> i64 {
-        self.steps[0]
+        self.offset
+    }
+
+    /// How many axes there are.
+    pub fn rank(&self) -> usize {
+        self.rank
+    }
+
+    /// The axes, as many as the rank says.
+    pub fn axes(&self) -> &[Axis] {
+        self.axes.get(..self.rank).unwrap_or_default()
     }
 
     /// The extent of each axis.
-    pub fn extents(&self) -> &[u64] {
-        &self.numbers[2..2 + self.rank()]
+    pub fn extents(&self) -> impl ExactSizeIterator<Item = u64> + '_ {
+        self.axes().iter().map(|axis| axis.extent)
     }
 
     /// The stride of each axis, in readings.
-    pub fn strides(&self) -> &[i64] {
-        &self.steps[1..1 + self.rank()]
+    pub fn strides(&self) -> impl ExactSizeIterator<Item = i64> + '_ {
+        self.axes().iter().map(|axis| axis.stride)
     }
 
     /// The axes in the order of the list: refusals 1, 4, 5.
-    pub fn permute(&self, axes: &[usize]) -> Result<Layout, Refusal> {
-        self.viewed(calls::strided_permute, axes)
+    pub fn permute(&self, order: &[usize]) -> Result<Layout, Refusal> {
+        self.viewed(calls::strided_permute, order)
     }
 
     /// Tied axes as one axis: refusals 3, 5.
     pub fn diagonal_view(&self, pairs: &[(usize, usize)]) -> Result<Layout, Refusal> {
-        let flat: Vec<usize> = pairs.iter().flat_map(|&(a, b)| [a, b]).collect();
-        self.viewed(calls::strided_diagonal_view, &flat)
+        let numbers: Vec<usize> = pairs.iter().flat_map(|&(one, other)| [one, other]).collect();
+        self.viewed(calls::strided_diagonal_view, &numbers)
     }
 
     /// Stretched to the target extents: refusals 1, 4, 6.
-    pub fn broadcast(&self, extents: &[u64]) -> Result<Layout, Refusal> {
-        self.viewed(calls::strided_broadcast, extents)
+    pub fn broadcast(&self, targets: &[u64]) -> Result<Layout, Refusal> {
+        self.viewed(calls::strided_broadcast, targets)
     }
 
     /// A call that takes a layout and a list and leaves a layout.
     fn viewed<T>(&self, call: View<T>, list: &[T]) -> Result<Layout, Refusal> {
         let mut next = *self;
-        let mut values = [0; 2];
-        let (numbers, steps) = (&mut next.numbers, &mut next.steps);
+        let mut values = Values::default();
         // SAFETY: as in `new`.
-        let answer = unsafe {
-            call(
-                numbers.as_mut_ptr(), numbers.len(), steps.as_mut_ptr(), steps.len(), list.as_ptr(), list.len(),
-                values.as_mut_ptr(), values.len(),
-            )
-        };
+        let answer = unsafe { call(&mut next, list.as_ptr(), list.len(), &mut values) };
         Refusal::of(answer, values).map(|()| next)
     }
 
-    /// The offset of an index vector: refusals 1, 4, 7, 3.
+    /// The offset of an index vector, in readings: refusals 1, 4, 7, 3.
     pub fn indexed_offset(&self, index: &[u64]) -> Result<i64, Refusal> {
         let mut offset = 0;
-        let mut values = [0; 2];
+        let mut values = Values::default();
         // SAFETY: as in `new`.
         let answer = unsafe {
-            calls::strided_indexed_offset(
-                self.numbers.as_ptr(), self.numbers.len(), self.steps.as_ptr(), self.steps.len(), index.as_ptr(), index.len(),
-                &mut offset, values.as_mut_ptr(), values.len(),
-            )
+            calls::strided_indexed_offset(self, index.as_ptr(), index.len(), &mut offset, &mut values)
         };
         Refusal::of(answer, values).map(|()| offset)
     }
@@ -127,45 +135,41 @@ impl Layout {
     /// The normal form: refusal 8.
     pub fn normal_form(&self) -> Result<Layout, Refusal> {
         let mut next = *self;
-        let (numbers, steps) = (&mut next.numbers, &mut next.steps);
         // SAFETY: as in `new`.
-        let answer = unsafe { calls::strided_normal_form(numbers.as_mut_ptr(), numbers.len(), steps.as_mut_ptr(), steps.len()) };
-        Refusal::of(answer, [0; 2]).map(|()| next)
+        let answer = unsafe { calls::strided_normal_form(&mut next) };
+        Refusal::of(answer, Values::default()).map(|()| next)
     }
 
     /// The verdict of the layout's axes, with the number of difference vectors looked at: refusals 8, 3.
     pub fn verdict(&self) -> Result<(Verdict, u64), Refusal> {
-        verdict_of(self.extents(), self.strides())
+        verdict_of(self.axes())
     }
 
     /// The record of the layout's normal form: refusal 8.
     pub fn write(&self) -> Result<Vec<u8>, Refusal> {
         let mut bytes = [0; LONGEST_RECORD];
-        let mut values = [0; 2];
+        let mut values = Values::default();
         with_scratch(|scratch| {
             // SAFETY: as in `new`.
             let answer = unsafe {
                 calls::strided_write(
-                    self.numbers.as_ptr(), self.numbers.len(), self.steps.as_ptr(), self.steps.len(), bytes.as_mut_ptr(), bytes.len(),
-                    scratch.as_mut_ptr(), scratch.len(), values.as_mut_ptr(), values.len(),
+                    self, bytes.as_mut_ptr(), bytes.len(), scratch.as_mut_ptr(), scratch.len(), &mut values,
                 )
             };
             Refusal::of(answer, values)
         })?;
-        Ok(bytes.into_iter().take(values[0] as usize).collect())
+        Ok(bytes.into_iter().take(values.first).collect())
     }
 
     /// The layout of the record at the front of the bytes: refusal 11.
     pub fn read(bytes: &[u8]) -> Result<Layout, Refusal> {
-        let mut made = Layout::blank();
-        let mut values = [0; 2];
-        let (numbers, steps) = (&mut made.numbers, &mut made.steps);
+        let mut made = Layout::NONE;
+        let mut values = Values::default();
         with_scratch(|scratch| {
             // SAFETY: as in `new`.
             let answer = unsafe {
                 calls::strided_read(
-                    bytes.as_ptr(), bytes.len(), scratch.as_mut_ptr(), scratch.len(), numbers.as_mut_ptr(), numbers.len(),
-                    steps.as_mut_ptr(), steps.len(), values.as_mut_ptr(), values.len(),
+                    &mut made, bytes.as_ptr(), bytes.len(), scratch.as_mut_ptr(), scratch.len(), &mut values,
                 )
             };
             Refusal::of(answer, values)
@@ -177,10 +181,7 @@ impl Layout {
 /// Layouts are equal by what they mean: places past the rank do not count.
 impl PartialEq for Layout {
     fn eq(&self, other: &Layout) -> bool {
-        self.buffer_length() == other.buffer_length()
-            && self.offset() == other.offset()
-            && self.extents() == other.extents()
-            && self.strides() == other.strides()
+        (self.len, self.offset, self.axes()) == (other.len, other.offset, other.axes())
     }
 }
 
@@ -188,17 +189,12 @@ impl Eq for Layout {}
 
 impl std::fmt::Debug for Layout {
     fn fmt(&self, f: &mut std::fmt::Formatter<'_>) -> std::fmt::Result {
-        f.debug_struct("Layout")
-            .field("buffer_length", &self.buffer_length())
-            .field("offset", &self.offset())
-            .field("extents", &self.extents())
-            .field("strides", &self.strides())
-            .finish()
+        f.debug_struct("Layout").field("len", &self.len).field("offset", &self.offset).field("axes", &self.axes()).finish()
     }
 }
 
 /// A call that takes a layout and a list.
-type View<T> = unsafe extern "C" fn(*mut u64, usize, *mut i64, usize, *const T, usize, *mut u64, usize) -> u8;
+type View<T> = unsafe extern "C" fn(*mut Layout, *const T, usize, *mut Values) -> u8;
 
 /// A call tried without scratch, and once more with as many words as it asks for.
 fn with_scratch(mut call: impl FnMut(&mut [u64]) -> Result<(), Refusal>) -> Result<(), Refusal> {
@@ -207,39 +203,30 @@ fn with_scratch(mut call: impl FnMut(&mut [u64]) -> Result<(), Refusal>) -> Resu
         settled => return settled,
     };
     let mut scratch: Vec<u64> = Vec::new();
-    let Ok(count) = usize::try_from(words) else {
-        return Err(Refusal::ShortScratch { words });
-    };
-    if scratch.try_reserve_exact(count).is_err() {
-        return Err(Refusal::ShortScratch { words });
-    }
-    scratch.resize(count, 0);
+    scratch.try_reserve_exact(words).map_err(|_| Refusal::ShortScratch { words })?;
+    scratch.resize(words, 0);
     call(&mut scratch)
 }
 
-/// The verdict of extents and strides, with the number of difference vectors looked at: refusals 1, 2, 8, 3.
-pub fn verdict_of(extents: &[u64], strides: &[i64]) -> Result<(Verdict, u64), Refusal> {
-    let mut found = [0; 2];
-    let mut values = [0; 2];
+/// The verdict of some axes, with the number of difference vectors looked at: refusals 1, 8, 3.
+pub fn verdict_of(axes: &[Axis]) -> Result<(Verdict, u64), Refusal> {
+    let mut found = Found::default();
+    let mut values = Values::default();
     with_scratch(|scratch| {
         // SAFETY: as in `Layout::new`.
         let answer = unsafe {
             calls::strided_is_injective(
-                extents.as_ptr(), extents.len(), strides.as_ptr(), strides.len(), scratch.as_mut_ptr(), scratch.len(),
-                found.as_mut_ptr(), found.len(), values.as_mut_ptr(), values.len(),
+                axes.as_ptr(), axes.len(), scratch.as_mut_ptr(), scratch.len(), &mut found, &mut values,
             )
         };
         Refusal::of(answer, values)
     })?;
-    let [verdict, count] = found;
-    Ok((
-        match verdict {
-            1 => Verdict::Distinct,
-            2 => Verdict::Repeated,
-            _ => Verdict::Undecided,
-        },
-        count,
-    ))
+    let verdict = match found.verdict {
+        1 => Verdict::Distinct,
+        2 => Verdict::Repeated,
+        _ => Verdict::Undecided,
+    };
+    Ok((verdict, found.count))
 }
 
 /// The bytes behind the record at the front; none if there is no record.
@@ -255,18 +242,18 @@ pub fn validate_bounds(len: u64, offset: i64, extents: &[u64], strides: &[i64]) 
     let answer = unsafe {
         calls::strided_validate_bounds(len, offset, extents.as_ptr(), extents.len(), strides.as_ptr(), strides.len())
     };
-    Refusal::of(answer, [0; 2])
+    Refusal::of(answer, Values::default())
 }
 
 /// Each stride's number by absolute value: refusal 1.
 pub fn index_order(strides: &[i64]) -> Result<Vec<usize>, Refusal> {
-    if 16 < strides.len() {
+    if MOST_AXES < strides.len() {
         return Err(Refusal::TooManyAxes);
     }
     let mut order = vec![0; strides.len()];
     // SAFETY: as in `Layout::new`.
     let answer = unsafe { calls::strided_index_order(strides.as_ptr(), strides.len(), order.as_mut_ptr(), order.len()) };
-    Refusal::of(answer, [0; 2]).map(|()| order)
+    Refusal::of(answer, Values::default()).map(|()| order)
 }
 
 /// Dense strides, the first axis the densest: refusals 1, 3.
@@ -280,11 +267,11 @@ pub fn row_strides(extents: &[u64]) -> Result<Vec<i64>, Refusal> {
 }
 
 fn dense(call: unsafe extern "C" fn(*const u64, usize, *mut i64, usize) -> u8, extents: &[u64]) -> Result<Vec<i64>, Refusal> {
-    if 16 < extents.len() {
+    if MOST_AXES < extents.len() {
         return Err(Refusal::TooManyAxes);
     }
-    let mut strides = [0; 16];
+    let mut strides = vec![0; extents.len()];
     // SAFETY: as in `Layout::new`.
     let answer = unsafe { call(extents.as_ptr(), extents.len(), strides.as_mut_ptr(), strides.len()) };
-    Refusal::of(answer, [0; 2]).map(|()| strides.into_iter().take(extents.len()).collect())
+    Refusal::of(answer, Values::default()).map(|()| strides)
 }

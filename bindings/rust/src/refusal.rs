@@ -1,5 +1,7 @@
 //! Why a call was refused.
 
+use crate::calls::Values;
+
 /// One row of the table of refusals each, with the values that are returned. `number` is the row's number.
 #[derive(Clone, Copy, Debug, PartialEq, Eq)]
 pub enum Refusal {
@@ -10,22 +12,22 @@ pub enum Refusal {
     /// 3: a reach, a stride or a span does not fit.
     OutOfRange,
     /// 4: a list's length is not the rank; both lengths, in the order of the call.
-    WrongLength(u64, u64),
+    WrongLength(usize, usize),
     /// 5: an axis outside the rank, or named twice.
-    BadAxis { axis: u64, rank: u64 },
+    BadAxis { axis: usize, rank: usize },
     /// 6: an extent neither equal to the target nor 1.
-    BadExtent { axis: u64 },
+    BadExtent { axis: usize },
     /// 7: an index not below its extent.
-    BadIndex { axis: u64 },
+    BadIndex { axis: usize },
     /// 8: over 2^64 - 1 positions.
     TooManyPositions,
     /// 9: so many scratch words are needed, and could not be had.
-    ShortScratch { words: u64 },
+    ShortScratch { words: usize },
     /// 10: so many bytes are needed.
-    ShortOutput { bytes: u64 },
+    ShortOutput { bytes: usize },
     /// 11: the bytes are not a record.
     NotARecord,
-    /// 255: a buffer was too short for its part. The calls of this crate hand over buffers that are long enough.
+    /// 255: there were fewer places than extents. The calls of this crate hand over as many.
     ShortBuffer,
 }
 
@@ -49,8 +51,8 @@ impl Refusal {
     }
 
     /// The answer of a call, with what it left in `values`.
-    pub(crate) fn of(answer: u8, values: [u64; 2]) -> Result<(), Refusal> {
-        let [first, second] = values;
+    pub(crate) fn of(answer: u8, values: Values) -> Result<(), Refusal> {
+        let Values { first, second } = values;
         Err(match answer {
             0 => return Ok(()),
             1 => Refusal::TooManyAxes,
