@@ -1,7 +1,7 @@
 //! The verdict: one case for each of its steps.
 
 use crate::timing::line;
-use harness::ours::strided_is_injective;
+use harness::ours::{axes, strided_is_injective, Axis, Found, Values};
 use harness::random::Random;
 use harness::reference::words_needed;
 use harness::rust::{signed, unsigned};
@@ -9,26 +9,24 @@ use std::hint::black_box;
 use strided_view::is_injective_layout;
 
 /// Our answer: 1 Distinct, 2 Repeated, 3 Undecided, or 10 and a refusal's number.
-fn ours(extents: &[u64], strides: &[i64], scratch: &mut [u64]) -> u64 {
-    let (mut found, mut values) = ([0u64; 2], [0u64; 2]);
-    // SAFETY: each pointer has so many words behind it.
+fn ours(axes: &[Axis], scratch: &mut [u64]) -> u8 {
+    let (mut found, mut values) = (Found::default(), Values::default());
+    // SAFETY: each pointer is that of a struct or of a list of the length beside it.
     let number = unsafe {
-        strided_is_injective(
-            extents.as_ptr(), extents.len(), strides.as_ptr(), strides.len(), scratch.as_mut_ptr(), scratch.len(),
-            found.as_mut_ptr(), 2, values.as_mut_ptr(), 2,
-        )
+        strided_is_injective(axes.as_ptr(), axes.len(), scratch.as_mut_ptr(), scratch.len(), &mut found, &mut values)
     };
     if number == 0 {
-        found[0]
+        found.verdict
     } else {
-        10 + number as u64
+        10 + number
     }
 }
 
 /// Both sides on one shape; the answers must agree.
 fn verdict(case: &str, extents: &[u64], strides: &[i64]) {
     let mut scratch = vec![0; words_needed(extents, strides).unwrap_or(0) as usize];
-    let answer = ours(extents, strides, &mut scratch);
+    let axes: Vec<Axis> = axes(extents, strides).collect();
+    let answer = ours(&axes, &mut scratch);
     let distinct = is_injective_layout(unsigned(extents), signed(strides));
     assert_eq!(answer == 1, distinct, "{case}: ours {answer}, the Rust {distinct}");
     // What is hidden from the compiler are thin pointers: a hidden slice goes through memory and stalls.
@@ -36,7 +34,7 @@ fn verdict(case: &str, extents: &[u64], strides: &[i64]) {
     let words = ["?", "distinct", "repeated", "undecided"];
     line(
         &format!("verdict, {case}, {}", words.get(answer as usize).unwrap_or(&"refused")),
-        || ours(black_box(&extents), black_box(&strides), &mut scratch),
+        || ours(black_box(&axes), &mut scratch),
         || is_injective_layout(unsigned(black_box(&extents)), signed(black_box(&strides))),
     );
 }

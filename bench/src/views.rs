@@ -1,40 +1,28 @@
-//! Check-in and the three views at ranks 2, 4 and 8. Our side starts from a copy of the layout's two buffers, the Rust's from a view.
+//! Check-in and the three views at ranks 2, 4 and 8. A view of ours starts from a copy of the layout, since the Rust's leave the
+//! old view as it was; check-in of ours writes into a layout that is there.
 
 use crate::timing::line;
 use harness::input::Layout;
-use harness::ours::{strided_broadcast, strided_diagonal_view, strided_new, strided_permute};
+use harness::ours::{self, strided_broadcast, strided_diagonal_view, strided_new, strided_permute, Values};
 use harness::rust::{buffer, signed, unsigned, view};
 use std::hint::black_box;
 use strided_view::{Result, StridedView};
 
-type Flat = ([u64; 18], [i64; 17]);
-type Call = unsafe extern "C" fn(*mut u64, usize, *mut i64, usize, *const u64, usize, *mut u64, usize) -> u8;
+type Call = unsafe extern "C" fn(*mut ours::Layout, *const u64, usize, *mut Values) -> u8;
 
-fn flat(layout: &Layout) -> Flat {
-    let (mut numbers, mut steps) = ([0; 18], [0; 17]);
-    numbers[0] = layout.len;
-    numbers[1] = layout.rank;
-    numbers[2..].copy_from_slice(&layout.extents);
-    steps[0] = layout.offset;
-    steps[1..].copy_from_slice(&layout.strides);
-    (numbers, steps)
-}
-
-/// The view of a layout, made in the two buffers `to`, which first take the layout over.
-fn ours(from: &Flat, to: &mut Flat, list: &[u64], call: Call) -> u8 {
+/// The view of a layout, made in `to`, which first takes the layout over.
+fn viewed(from: &ours::Layout, to: &mut ours::Layout, list: &[u64], call: Call) -> u8 {
     *to = *from;
-    let mut values = [0; 2];
-    // SAFETY: each pointer has so many words behind it.
-    let number = unsafe { call(to.0.as_mut_ptr(), 18, to.1.as_mut_ptr(), 17, list.as_ptr(), list.len(), values.as_mut_ptr(), 2) };
+    let mut values = Values::default();
+    // SAFETY: each pointer is that of a struct or of a list of the length beside it.
+    let number = unsafe { call(to, list.as_ptr(), list.len(), &mut values) };
     black_box(to);
     number
 }
 
-fn checked_in(to: &mut Flat, extents: &[u64], strides: &[i64], len: u64) -> u8 {
+fn checked_in(to: &mut ours::Layout, extents: &[u64], strides: &[i64]) -> u8 {
     // SAFETY: as above.
-    let number = unsafe {
-        strided_new(to.0.as_mut_ptr(), 18, to.1.as_mut_ptr(), 17, len, 0, extents.as_ptr(), extents.len(), strides.as_ptr(), strides.len())
-    };
+    let number = unsafe { strided_new(to, extents.as_ptr(), extents.len(), strides.as_ptr(), strides.len()) };
     black_box(to);
     number
 }
@@ -58,20 +46,20 @@ fn dense(rank: usize) -> Layout {
 
 fn check_in(rank: usize, layout: &Layout) {
     let (extents, strides) = (layout.extents().to_vec(), layout.strides().to_vec());
-    let mut to = flat(layout);
+    let mut to = ours::Layout::from(layout);
     line(
         &format!("check-in, rank {rank}"),
-        || checked_in(&mut to, black_box(&extents), black_box(&strides), layout.len),
+        || checked_in(&mut to, black_box(&extents), black_box(&strides)),
         || made(&StridedView::new(buffer(layout.len), unsigned(black_box(&extents)), signed(black_box(&strides)), 0)),
     );
 }
 
 fn permute(rank: usize, layout: &Layout) {
     let axes: Vec<u64> = (0..rank as u64).rev().collect();
-    let (from, mut to, view) = (flat(layout), flat(layout), view(layout));
+    let (from, mut to, view) = (ours::Layout::from(layout), ours::Layout::from(layout), view(layout));
     line(
         &format!("permute, rank {rank}"),
-        || ours(black_box(&from), &mut to, black_box(&axes), strided_permute),
+        || viewed(black_box(&from), &mut to, black_box(&axes), strided_permute),
         || made(&black_box(&view).permute(unsigned(black_box(&axes)))),
     );
 }
@@ -79,10 +67,10 @@ fn permute(rank: usize, layout: &Layout) {
 fn broadcast(rank: usize, layout: &Layout) {
     let mut target = layout.extents().to_vec();
     target[rank - 1] = 100;
-    let (from, mut to, view) = (flat(layout), flat(layout), view(layout));
+    let (from, mut to, view) = (ours::Layout::from(layout), ours::Layout::from(layout), view(layout));
     line(
         &format!("broadcast, rank {rank}"),
-        || ours(black_box(&from), &mut to, black_box(&target), strided_broadcast),
+        || viewed(black_box(&from), &mut to, black_box(&target), strided_broadcast),
         || made(&black_box(&view).broadcast(unsigned(black_box(&target)))),
     );
 }
@@ -90,10 +78,10 @@ fn broadcast(rank: usize, layout: &Layout) {
 fn diagonal(rank: usize, layout: &Layout) {
     let pairs: Vec<(usize, usize)> = (0..rank / 2).map(|axis| (axis, rank - 1 - axis)).collect();
     let numbers: Vec<u64> = pairs.iter().flat_map(|&(one, other)| [one as u64, other as u64]).collect();
-    let (from, mut to, view) = (flat(layout), flat(layout), view(layout));
+    let (from, mut to, view) = (ours::Layout::from(layout), ours::Layout::from(layout), view(layout));
     line(
         &format!("diagonal_view, rank {rank}, {} pairs", pairs.len()),
-        || ours(black_box(&from), &mut to, black_box(&numbers), strided_diagonal_view),
+        || viewed(black_box(&from), &mut to, black_box(&numbers), strided_diagonal_view),
         || made(&black_box(&view).diagonal_view(black_box(&pairs))),
     );
 }

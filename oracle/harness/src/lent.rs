@@ -1,22 +1,25 @@
 //! Our library's answer to an input, with every word that it was lent looked at afterwards.
 
 use crate::input::{Answer, Given, Input, Layout, List, VALUES};
-use crate::ours::*;
+use crate::ours::{self, *};
 use crate::reference::words_needed;
+use std::mem::offset_of;
 
 /// What lent memory holds where nothing was put.
 const PATTERN: u64 = 0xa5c3_96e1_d00d_beef;
 
-// Areas of the lent words; each ends in words past the length that is handed over.
-const NUMBERS: usize = 0;
-const STEPS: usize = 24;
-const VALUES_AT: usize = 48;
-const FOUND: usize = 56;
-const PLACE: usize = 64;
-const OUT: usize = 72;
-const FIRST: usize = 120;
-const SECOND: usize = 168;
-pub const WORDS: usize = 216;
+// Areas of the lent words; each ends in words past what is handed over.
+const LAYOUT: usize = 0;
+const VALUES_AT: usize = 40;
+const FOUND: usize = 48;
+const PLACE: usize = 56;
+const OUT: usize = 64;
+const FIRST: usize = 112;
+const SECOND: usize = 160;
+pub const WORDS: usize = 208;
+
+/// The words of a layout before its axes; each axis has two.
+const HEAD: usize = offset_of!(ours::Layout, axes) / 8;
 
 /// A wrong answer made up after the call, to see that it is noticed.
 #[derive(Clone, Copy, PartialEq, Debug)]
@@ -26,6 +29,9 @@ pub enum Fault {
     Word(usize),
     Scratch,
 }
+
+/// A call that takes a layout and a list and leaves a layout.
+type View = unsafe extern "C" fn(*mut ours::Layout, *const u64, usize, *mut Values) -> u8;
 
 pub struct Lent {
     words: [u64; WORDS],
@@ -51,18 +57,27 @@ impl Lent {
     }
 
     fn put_layout(&mut self, layout: &Layout) {
-        self.put(NUMBERS, &[layout.len, layout.rank]);
-        self.put(NUMBERS + 2, &layout.extents);
-        self.put_signed(STEPS, &[layout.offset]);
-        self.put_signed(STEPS + 1, &layout.strides);
+        // SAFETY: the area has the words of a layout.
+        unsafe { self.layout_at().write(layout.into()) };
     }
 
-    fn at(&mut self, area: usize) -> *mut u64 {
-        self.words[area..].as_mut_ptr()
+    fn put_axes(&mut self, at: usize, extents: &[u64], strides: &[i64]) {
+        for (place, axis) in ours::axes(extents, strides).enumerate() {
+            self.put(at + 2 * place, &[axis.extent, axis.stride as u64]);
+        }
     }
 
-    fn signed_at(&mut self, area: usize) -> *mut i64 {
-        self.at(area).cast()
+    /// Where something lies, with all words behind it.
+    fn at<T>(&mut self, area: usize) -> *mut T {
+        self.words[area..].as_mut_ptr().cast()
+    }
+
+    fn layout_at(&mut self) -> *mut ours::Layout {
+        self.at(LAYOUT)
+    }
+
+    fn values_at(&mut self) -> *mut Values {
+        self.at(VALUES_AT)
     }
 
     /// These words may have changed.
@@ -70,13 +85,9 @@ impl Lent {
         self.image[from..from + count].copy_from_slice(&self.words[from..from + count]);
     }
 
-    fn layout(&self) -> Layout {
-        let mut layout = Layout { len: self.words[NUMBERS], offset: self.words[STEPS] as i64, rank: self.words[NUMBERS + 1], extents: [0; 16], strides: [0; 16] };
-        for place in 0..16 {
-            layout.extents[place] = self.words[NUMBERS + 2 + place];
-            layout.strides[place] = self.words[STEPS + 1 + place] as i64;
-        }
-        layout
+    fn layout(&mut self) -> Layout {
+        // SAFETY: the area has the words of a layout, and any words are one.
+        Layout::from(unsafe { &*self.layout_at() })
     }
 
     /// Calls with the words as they are, makes the fault up, and takes the answer: on 0 from the `given` words, else from the values.
@@ -98,19 +109,20 @@ impl Lent {
         answer
     }
 
-    fn view(&mut self, layout: &Layout, list: &List<u64>, call: unsafe extern "C" fn(*mut u64, usize, *mut i64, usize, *const u64, usize, *mut u64, usize) -> u8) -> Answer {
+    fn view(&mut self, layout: &Layout, list: &List<u64>, call: View) -> Answer {
         self.put_layout(layout);
         self.put(FIRST, list.slice());
         let len = list.len;
-        // SAFETY: each pointer has so many words of `self.words` behind it.
-        let run = |lent: &mut Lent| unsafe { call(lent.at(NUMBERS), 18, lent.signed_at(STEPS), 17, lent.at(FIRST), len, lent.at(VALUES_AT), 2) };
+        // SAFETY: each pointer has what it is handed over for in `self.words`.
+        let run = |lent: &mut Lent| unsafe { call(lent.layout_at(), lent.at(FIRST), len, lent.values_at()) };
         self.call(run, Lent::given_layout)
     }
 
+    /// The layout made; the places past its rank must be as they were.
     fn given_layout(&mut self) -> Given {
-        self.allow(NUMBERS, 18);
-        self.allow(STEPS, 17);
-        Given::Layout(self.layout())
+        let layout = self.layout();
+        self.allow(LAYOUT, HEAD + 2 * layout.held());
+        Given::Layout(layout)
     }
 
     fn put_lists(&mut self, extents: &List<u64>, strides: &List<i64>) {
@@ -124,7 +136,7 @@ impl Lent {
         let len = index.len;
         // SAFETY: as above.
         let run = |lent: &mut Lent| unsafe {
-            strided_indexed_offset(lent.at(NUMBERS), 18, lent.signed_at(STEPS), 17, lent.at(FIRST), len, lent.signed_at(PLACE), lent.at(VALUES_AT), 2)
+            strided_indexed_offset(lent.layout_at(), lent.at(FIRST), len, lent.at(PLACE), lent.values_at())
         };
         self.call(run, |lent| {
             lent.allow(PLACE, 1);
@@ -136,7 +148,7 @@ impl Lent {
         self.put(FIRST, extents.slice());
         let len = extents.len;
         // SAFETY: as above.
-        let run = |lent: &mut Lent| unsafe { call(lent.at(FIRST), len, lent.signed_at(OUT), len) };
+        let run = |lent: &mut Lent| unsafe { call(lent.at(FIRST), len, lent.at(OUT), len) };
         self.call(run, |lent| {
             lent.allow(OUT, len);
             let mut strides = List::new();
@@ -149,7 +161,7 @@ impl Lent {
         self.put_signed(SECOND, strides.slice());
         let len = strides.len;
         // SAFETY: as above.
-        let run = |lent: &mut Lent| unsafe { strided_index_order(lent.signed_at(SECOND), len, lent.at(OUT), out) };
+        let run = |lent: &mut Lent| unsafe { strided_index_order(lent.at(SECOND), len, lent.at(OUT), out) };
         self.call(run, |lent| {
             lent.allow(OUT, out);
             Given::Order(List::of(&lent.words[OUT..OUT + out]))
@@ -157,19 +169,23 @@ impl Lent {
     }
 
     fn injective(&mut self, extents: &List<u64>, strides: &List<i64>, words: usize) -> Answer {
-        self.put_lists(extents, strides);
+        // Lists that differ in length are no axes: `Input::paired` made them as long as each other.
+        assert_eq!(extents.len, strides.len, "a verdict takes axes");
+        self.put_axes(FIRST, extents.slice(), strides.slice());
         if self.scratch.len() < words + 4 {
             self.scratch.resize(words + 4, PATTERN);
         }
-        let (some, other) = (extents.len, strides.len);
+        let len = extents.len;
         // SAFETY: as above; scratch has `words` words and more.
         let run = |lent: &mut Lent| unsafe {
             let scratch = lent.scratch.as_mut_ptr();
-            strided_is_injective(lent.at(FIRST), some, lent.signed_at(SECOND), other, scratch, words, lent.at(FOUND), 2, lent.at(VALUES_AT), 2)
+            strided_is_injective(lent.at(FIRST), len, scratch, words, lent.at(FOUND), lent.values_at())
         };
         self.call(run, |lent| {
             lent.allow(FOUND, 2);
-            Given::Verdict(lent.words[FOUND], lent.words[FOUND + 1])
+            // SAFETY: the area has the words of what was found.
+            let found = unsafe { lent.at::<Found>(FOUND).read() };
+            Given::Verdict(found.verdict.into(), found.count)
         })
     }
 
@@ -190,14 +206,16 @@ impl Lent {
             Input::Bounds { len, offset, extents, strides } => {
                 self.put_lists(extents, strides);
                 // SAFETY: as above.
-                let run = |lent: &mut Lent| unsafe { strided_validate_bounds(*len, *offset, lent.at(FIRST), extents.len, lent.signed_at(SECOND), strides.len) };
+                let run = |lent: &mut Lent| unsafe { strided_validate_bounds(*len, *offset, lent.at(FIRST), extents.len, lent.at(SECOND), strides.len) };
                 self.call(run, |_| Given::Nothing)
             }
             Input::New { len, offset, extents, strides } => {
+                // Length and offset stand in a layout whose rank and axes are anything.
+                self.put(LAYOUT, &[*len, *offset as u64]);
                 self.put_lists(extents, strides);
                 // SAFETY: as above.
                 let run = |lent: &mut Lent| unsafe {
-                    strided_new(lent.at(NUMBERS), 18, lent.signed_at(STEPS), 17, *len, *offset, lent.at(FIRST), extents.len, lent.signed_at(SECOND), strides.len)
+                    strided_new(lent.layout_at(), lent.at(FIRST), extents.len, lent.at(SECOND), strides.len)
                 };
                 self.call(run, Lent::given_layout)
             }

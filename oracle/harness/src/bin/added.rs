@@ -1,7 +1,7 @@
 //! The calls that 01 adds, our library beside the reference: `added SECONDS SEED`. The Rust has no such calls.
 
 use harness::input::{joined, Layout};
-use harness::ours::{strided_normal_form, strided_read, strided_step, strided_write};
+use harness::ours::{self, strided_normal_form, strided_read, strided_step, strided_write, Values};
 use harness::random::Random;
 use harness::record::{self, Refused};
 use harness::reference::words_needed;
@@ -11,47 +11,66 @@ use std::time::{Duration, Instant};
 const PATTERN: u64 = 0xa5c3_96e1_d00d_beef;
 const BYTE: u8 = 0xa5;
 
+/// A struct that is handed over, and words behind it.
+#[repr(C)]
+#[derive(Clone, Copy, PartialEq)]
+struct Guarded<T> {
+    lent: T,
+    behind: [u64; 2],
+}
+
+impl<T> Guarded<T> {
+    fn of(lent: T) -> Guarded<T> {
+        Guarded { lent, behind: [PATTERN; 2] }
+    }
+
+    /// Where the struct lies, with the words behind it.
+    fn at(&mut self) -> *mut T {
+        (self as *mut Guarded<T>).cast()
+    }
+}
+
+const NO_VALUES: Values = Values { first: PATTERN as usize, second: PATTERN as usize };
+
 struct Lent {
-    numbers: [u64; 20],
-    steps: [i64; 19],
-    values: [u64; 4],
+    layout: Guarded<ours::Layout>,
+    values: Guarded<Values>,
     scratch: Vec<u64>,
 }
 
 impl Lent {
-    fn of(layout: &Layout) -> Lent {
-        let mut lent = Lent { numbers: [PATTERN; 20], steps: [PATTERN as i64; 19], values: [PATTERN; 4], scratch: vec![] };
-        lent.numbers[..2].copy_from_slice(&[layout.len, layout.rank]);
-        lent.numbers[2..18].copy_from_slice(&layout.extents);
-        lent.steps[0] = layout.offset;
-        lent.steps[1..17].copy_from_slice(&layout.strides);
-        lent
-    }
-
-    fn layout(&self) -> Layout {
-        let mut layout = Layout { len: self.numbers[0], offset: self.steps[0], rank: self.numbers[1], extents: [0; 16], strides: [0; 16] };
-        layout.extents.copy_from_slice(&self.numbers[2..18]);
-        layout.strides.copy_from_slice(&self.steps[1..17]);
-        layout
+    fn of(layout: &Layout, words: usize) -> Lent {
+        Lent { layout: Guarded::of(layout.into()), values: Guarded::of(NO_VALUES), scratch: vec![PATTERN; words] }
     }
 
     /// The words past what was handed over, and scratch but for the words that step 6 may use.
     fn kept(&self, layout: &Layout, words: usize) -> bool {
         let needed = words_needed(layout.extents(), layout.strides()).unwrap_or(0) as usize;
         let free = if needed <= words { needed } else { 0 };
-        self.numbers[18..] == [PATTERN; 2] && self.steps[17..] == [PATTERN as i64; 2] && self.scratch.iter().skip(free).all(|&word| word == PATTERN)
+        self.layout.behind == [PATTERN; 2] && self.values.behind == [PATTERN; 2] && self.scratch.iter().skip(free).all(|&word| word == PATTERN)
     }
 
-    /// The refusal, if its values are these and the layout's buffers are as they were.
-    fn refused(&self, number: u8, before: &Lent) -> Refused {
-        let has_value = number == 9 || number == 10;
-        let rest = if has_value { &self.values[1..] } else { &self.values[..] };
-        if rest.iter().any(|&word| word != PATTERN) || self.numbers != before.numbers || self.steps != before.steps {
-            return (254, 0);
+    /// The layout, if the values are as they were.
+    fn made(&self) -> Result<Layout, Refused> {
+        if self.values.lent != NO_VALUES {
+            return Err(CHANGED);
         }
-        (number, if has_value { self.values[0] } else { 0 })
+        Ok(Layout::from(&self.layout.lent))
+    }
+
+    /// The refusal, if its values are these and the layout is as it was, also past its rank.
+    fn refused(&self, number: u8, before: &Layout) -> Refused {
+        let has_value = number == 9 || number == 10;
+        let values = Values { first: if has_value { self.values.lent.first } else { NO_VALUES.first }, ..NO_VALUES };
+        if self.values.lent != values || self.layout.lent != before.into() {
+            return CHANGED;
+        }
+        (number, if has_value { values.first as u64 } else { 0 })
     }
 }
+
+/// Stands for an answer after which lent memory is not as it should be.
+const CHANGED: Refused = (254, 0);
 
 /// A layout; now and then one whose verdict is enumerated.
 fn layout(random: &mut Random) -> Layout {
@@ -64,12 +83,11 @@ fn layout(random: &mut Random) -> Layout {
 
 fn normal(random: &mut Random) -> Result<(), String> {
     let layout = layouts::layout(random);
-    let (before, mut lent) = (Lent::of(&layout), Lent::of(&layout));
-    // SAFETY: each pointer has so many words behind it.
-    let number = unsafe { strided_normal_form(lent.numbers.as_mut_ptr(), 18, lent.steps.as_mut_ptr(), 17) };
-    let found = if number == 0 { Ok(lent.layout()) } else { Err(lent.refused(number, &before)) };
-    let kept = lent.kept(&layout, 0) && lent.values == [PATTERN; 4];
-    if found == record::normal_form(&layout) && kept {
+    let mut lent = Lent::of(&layout, 0);
+    // SAFETY: the pointer is that of a layout.
+    let number = unsafe { strided_normal_form(lent.layout.at()) };
+    let found = if number == 0 { lent.made() } else { Err(lent.refused(number, &layout)) };
+    if found == record::normal_form(&layout) && lent.kept(&layout, 0) {
         return Ok(());
     }
     Err(format!("normal form of {} (rank {}): {number}", layout.text(), layout.rank))
@@ -81,19 +99,22 @@ fn write(random: &mut Random) -> Result<(), String> {
     let room = if random.once_in(8) { random.below(280) as usize } else { 13 + 16 * normal.held() + random.below(3) as usize };
     let needed = words_needed(normal.extents(), normal.strides()).unwrap_or(0);
     let words = if random.once_in(4) { needed / 2 } else { needed + random.below(3) } as usize;
-    let (before, mut lent) = (Lent::of(&layout), Lent::of(&layout));
-    lent.scratch = vec![PATTERN; words];
+    let mut lent = Lent::of(&layout, words);
     let mut out = [BYTE; 300];
-    // SAFETY: as above.
+    // SAFETY: each pointer is that of a struct or has so many bytes or words behind it.
     let number = unsafe {
-        strided_write(lent.numbers.as_ptr(), 18, lent.steps.as_ptr(), 17, out.as_mut_ptr(), room, lent.scratch.as_mut_ptr(), words, lent.values.as_mut_ptr(), 2)
+        strided_write(lent.layout.at(), out.as_mut_ptr(), room, lent.scratch.as_mut_ptr(), words, lent.values.at())
     };
     let expected = record::write(&layout, room, words);
     let (found, used) = match number {
-        0 => (Ok(out[..lent.values[0].min(300) as usize].to_vec()), lent.values[0].min(300) as usize),
-        _ => (Err(lent.refused(number, &before)), 0),
+        0 => {
+            let size = lent.values.lent.first.min(300);
+            (Ok(out[..size].to_vec()), size)
+        }
+        _ => (Err(lent.refused(number, &layout)), 0),
     };
-    if found == expected && out[used..].iter().all(|&byte| byte == BYTE) && lent.kept(&normal, words) {
+    let kept = lent.layout.lent == (&layout).into() && lent.values.lent.second == NO_VALUES.second && lent.kept(&normal, words);
+    if found == expected && out[used..].iter().all(|&byte| byte == BYTE) && kept {
         return Ok(());
     }
     Err(format!("record of {} (rank {}), room {room}, {words} words: {number}", layout.text(), layout.rank))
@@ -130,17 +151,13 @@ fn read(random: &mut Random) -> Result<(), String> {
     let judged = whole.unwrap_or(Layout::of(0, 0, &[], &[]));
     let needed = words_needed(judged.extents(), judged.strides()).unwrap_or(0);
     let words = if random.once_in(4) { needed / 2 } else { needed + random.below(3) } as usize;
-    let before = Lent::of(&Layout::of(7, 7, &[7], &[7]));
-    let mut lent = Lent::of(&Layout::of(7, 7, &[7], &[7]));
-    lent.scratch = vec![PATTERN; words];
+    let before = layouts::layout(random);
+    let mut lent = Lent::of(&before, words);
     // SAFETY: as above.
     let number = unsafe {
-        strided_read(
-            kept_bytes.as_mut_ptr(), bytes.len(), lent.scratch.as_mut_ptr(), words,
-            lent.numbers.as_mut_ptr(), 18, lent.steps.as_mut_ptr(), 17, lent.values.as_mut_ptr(), 2,
-        )
+        strided_read(lent.layout.at(), kept_bytes.as_mut_ptr(), bytes.len(), lent.scratch.as_mut_ptr(), words, lent.values.at())
     };
-    let found = if number == 0 { Ok(lent.layout()) } else { Err(lent.refused(number, &before)) };
+    let found = if number == 0 { lent.made() } else { Err(lent.refused(number, &before)) };
     // A record that is refused for its verdict may have used scratch, too: then only its words past the need are looked at.
     let kept = whole.is_err() || lent.kept(&judged, words);
     // SAFETY: as above.
