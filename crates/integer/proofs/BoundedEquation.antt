@@ -1,17 +1,13 @@
 -- The equation u a + v b = c in naturals with u ≤ mu and v ≤ mv, decided (`solution?`). Where a and b are positive: divided by their
 -- greatest common divisor, u is known modulo b, and the least u of that class that keeps v ≤ mv is tested. Else by trying all.
-use mathlib.Core.Bool.{Bool, ◌&&◌, not}
-use mathlib.Core.Logic.{◌⊎◌, inl, inr}
-use mathlib.Core.Path.{◌∙◌, ◌≡◌, ap, sym}
-use Prim.Native.Nat.{◌%◌, ◌*◌, ◌+◌, ◌-◌, ◌/◌, ◌<◌, ◌≤◌, suc, zero, ℕ}
+use Rattle.std.proofs.Common.{◌≡◌, ◌∙◌, ◌⊎◌, ◌↔◌, Bool, ◌&&◌, not, T, eqb, leb, ℕ, zero, suc, ◌%◌, ◌*◌, ◌+◌, ◌-◌, ◌/◌, ◌<◌, ◌≤◌, ap, arith, inl, inr, sym}
 use native.Mathlib.Decide.{ℕ_discrete}
-use native.Mathlib.Nat.{div-add-mod', div-lt_iff_lt-mul, div-mul_cancel, dvd-mul_left, le_of_mul-le-mul_right, mod-eq-zero_of_dvd, mod-le, mod-lt, mul-div_cancel, mul-le-mul_right, zero-mod}
-use native.Mathlib.Omega.{arith}
-use lib.Dec.{T, T_not, eqb, eqb_refl, eqb→eq, leb}
+use native.Mathlib.Nat.{div-add-mod', div-lt_iff_lt-mul, dvd-mul_left, le_of_mul-le-mul_right, mod-eq-zero_of_dvd, mod-le, mod-lt, mul-div_cancel, mul-le-mul_right, zero-mod}
 use Rattle.integer.proofs.Congruence.{coefficient, congruent-by-inverse, congruent-mul, congruent-sym, congruent-trans, coefficient-inverse, mod-of-congruent, root, root_is}
-use Rattle.integer.proofs.Decide.{and_both, both-and, byTest, find}
-use Rattle.integer.proofs.GcdLaws.{gcd-divides-left, gcd-divides-right, gcd-pos}
+use Rattle.integer.proofs.Decide.{byTest, find}
+use Rattle.integer.proofs.GcdLaws.{gcd-pos, left_back, left-pos, right-back, right-pos}
 use Rattle.integer.specs.Congruence.{Congruent}
+use Rattle.integer.specs.Equation.{Solution}
 use Rattle.integer.specs.Gcd.{gcd}
 use Rattle.std.proofs.lemmas.Int.{ints}
 
@@ -19,7 +15,7 @@ use Rattle.std.proofs.lemmas.Int.{ints}
 unfoldable pub firstFrom : ℕ → ℕ → ℕ → ℕ
 firstFrom b lo u₀ = lo + (u₀ + (b - lo % b)) % b
 
--- It is from lo on, it is of the class, and it is the least such.
+-- It is from there on and of the class, and it is the least such.
 first-from : (b lo u₀ : ℕ) → lo ≤ firstFrom b lo u₀
 unfolding firstFrom
 first-from b lo u₀ = omega arith
@@ -36,57 +32,54 @@ first-least b lo u₀ u h l c =
     let e : Congruent b (u₀ + (b - lo % b)) (u - lo) = record { p = c.q; q = lo / b + c.p + 1; eq = omega (arith, c.eq, div-add-mod' lo b) } in
     omega (arith, mod-of-congruent b (u₀ + (b - lo % b)) (u - lo) e, mod-le (u - lo) b)
 
--- A solution within the bounds.
-pub record Solution (a b mu mv c : ℕ) : Type 0 where
-  pub u : ℕ
-  pub v : ℕ
-  pub u-within : u ≤ mu
-  pub v-within : v ≤ mv
-  pub sum : u * a + v * b ≡ c
-
--- From here on v is at most mv: u a is at least c - mv b.
+-- From here on v is at most mv: u a is at least c - mv b. That is c - mv b over a, rounded up.
 unfoldable pub lowest : ℕ → ℕ → ℕ → ℕ → ℕ
 lowest a b mv c = (c - mv * b + (a - 1)) / a
 
--- The first u of its class from there on is within its bound, and leaves v at least 0.
-unfoldable pub FirstFits : ℕ → ℕ → ℕ → ℕ → ℕ → ℕ → Type 0
-FirstFits a b mu mv c u₀ = (firstFrom b (lowest a b mv c) u₀ ≤ mu) × (firstFrom b (lowest a b mv c) u₀ * a ≤ c)
-
--- (m + a - 1) / a is m / a rounded up.
-multiple-of-rounded-up : (a m u : ℕ) → 0 < a → (m + (a - 1)) / a ≤ u → m ≤ u * a
-multiple-of-rounded-up a m u h l = omega (arith, div-add-mod' (m + (a - 1)) a, mod-lt (m + (a - 1)) h, mul-le-mul_right a l)
-
-rounded-up-of-multiple : (a m u : ℕ) → 0 < a → m ≤ u * a → (m + (a - 1)) / a ≤ u
-rounded-up-of-multiple a m u h l = let z : m + (a - 1) < suc u * a = omega arith in omega (arith, (div-lt_iff_lt-mul h).1 z)
-
--- Where it fits there is a solution, for any u₀ such that u₀ a is c modulo b.
-fits-solution-at : (a b mu mv c u₀ : ℕ) → 0 < a → 0 < b → Congruent b (u₀ * a) c → FirstFits a b mu mv c u₀ → Solution a b mu mv c
-unfolding FirstFits lowest
-fits-solution-at a b mu mv c u₀ ha hb k f =
-    go (firstFrom b (lowest a b mv c) u₀) f.0 f.1 (first-from b (lowest a b mv c) u₀) (first-class b (lowest a b mv c) u₀ hb)
+lowest-is : (a b mv c u : ℕ) → 0 < a → (lowest a b mv c ≤ u) ↔ (c - mv * b ≤ u * a)
+unfolding lowest
+lowest-is a b mv c u h = rounded-up (c - mv * b)
   where
-    go : (u : ℕ) → u ≤ mu → u * a ≤ c → lowest a b mv c ≤ u → Congruent b u u₀ → Solution a b mu mv c
-    go u hu hc lo cu =
-        let m = multiple-of-rounded-up a (c - mv * b) u ha lo in
-        let d = congruent-trans (congruent-mul a cu) k in
-        let e : Congruent b (c - u * a) 0 = record { p = d.q; q = d.p; eq = omega (arith, d.eq) } in
-        let z : (c - u * a) % b ≡ 0 = mod-of-congruent b (c - u * a) 0 e ∙ zero-mod b in
-        let w : (c - u * a) / b * b ≡ c - u * a = omega (arith, div-add-mod' (c - u * a) b) in
-        let y : (c - u * a) / b * b ≤ mv * b = omega arith in
-        record { u = u; v = (c - u * a) / b; u-within = hu; v-within = le_of_mul-le-mul_right y hb; sum = omega arith }
+    rounded-up : (m : ℕ) → ((m + (a - 1)) / a ≤ u) ↔ (m ≤ u * a)
+    rounded-up m = (
+      λ l. omega (arith, div-add-mod' (m + (a - 1)) a, mod-lt (m + (a - 1)) h, mul-le-mul_right a l),
+      λ l. let z : m + (a - 1) < suc u * a = omega arith in omega (arith, (div-lt_iff_lt-mul h).1 z),
+    )
 
--- With an inverse s of a: where there is a solution the root fits, and the other way round.
-solution-fits : (a b mu mv c s : ℕ) → 0 < a → 0 < b → Congruent b 1 (s * a) → Solution a b mu mv c → FirstFits a b mu mv c (root b s c)
-unfolding FirstFits lowest
-solution-fits a b mu mv c s ha hb i k =
-    let ca : Congruent b (k.u * a) c = record { p = k.v; q = 0; eq = omega (arith, k.sum) } in
-    let cu = congruent-by-inverse a b s k.u (root b s c) i (congruent-trans ca (congruent-sym (root_is a b s c i))) in
-    let lo = rounded-up-of-multiple a (c - mv * b) k.u ha (omega (arith, k.sum, mul-le-mul_right b k.v-within)) in
-    let le = first-least b (lowest a b mv c) (root b s c) k.u hb lo cu in
-    (omega (arith, k.u-within), omega (arith, k.sum, mul-le-mul_right a le))
+-- The first u of its class from there on is within its bound, and leaves v at least 0.
+unfoldable pub fitsTest : ℕ → ℕ → ℕ → ℕ → ℕ → ℕ → Bool
+fitsTest a b mu mv c u₀ = leb (firstFrom b (lowest a b mv c) u₀) mu && leb (firstFrom b (lowest a b mv c) u₀ * a) c
 
-fits-solution : (a b mu mv c s : ℕ) → 0 < a → 0 < b → Congruent b 1 (s * a) → FirstFits a b mu mv c (root b s c) → Solution a b mu mv c
-fits-solution a b mu mv c s ha hb i f = fits-solution-at a b mu mv c (root b s c) ha hb (root_is a b s c i) f
+-- With an inverse s of a: the test tells whether there is a solution.
+module _ (a b mu mv c s : ℕ) (ha : 0 < a) (hb : 0 < b) (i : Congruent b 1 (s * a)) where
+  abbrev first : ℕ
+  first = firstFrom b (lowest a b mv c) (root b s c)
+
+  -- For a u whose product leaves a multiple of b, and no more than mv of them, there is a v.
+  solution-of : (u : ℕ) → u ≤ mu → u * a ≤ c → c - mv * b ≤ u * a → Congruent b (u * a) c → Solution a b mu mv c
+  solution-of u hu hc m d =
+      let e : Congruent b (c - u * a) 0 = record { p = d.q; q = d.p; eq = omega (arith, d.eq) } in
+      let w : (c - u * a) / b * b ≡ c - u * a = omega (arith, div-add-mod' (c - u * a) b, mod-of-congruent b (c - u * a) 0 e, zero-mod b) in
+      let y : (c - u * a) / b * b ≤ mv * b = omega arith in
+      record { u = u; v = (c - u * a) / b; u-within = hu; v-within = le_of_mul-le-mul_right y hb; sum = omega arith }
+
+  fits-solution : T (fitsTest a b mu mv c (root b s c)) → Solution a b mu mv c
+  unfolding fitsTest
+  fits-solution t =
+      let f : (first ≤ mu) × (first * a ≤ c) = grind (arith, ints) in
+      let k = congruent-trans (congruent-mul a (first-class b (lowest a b mv c) (root b s c) hb)) (root_is a b s c i) in
+      solution-of first f.0 f.1 ((lowest-is a b mv c first ha).0 (first-from b (lowest a b mv c) (root b s c))) k
+
+  solution-fits : Solution a b mu mv c → T (fitsTest a b mu mv c (root b s c))
+  unfolding fitsTest
+  solution-fits k =
+      let ca : Congruent b (k.u * a) c = record { p = k.v; q = 0; eq = omega (arith, k.sum) } in
+      let cu = congruent-by-inverse a b s k.u (root b s c) i (congruent-trans ca (congruent-sym (root_is a b s c i))) in
+      let lo : lowest a b mv c ≤ k.u = (lowest-is a b mv c k.u ha).1 (omega (arith, k.sum, mul-le-mul_right b k.v-within)) in
+      let le : first ≤ k.u = first-least b (lowest a b mv c) (root b s c) k.u hb lo cu in
+      let x : first ≤ mu = omega (arith, k.u-within) in
+      let y : first * a ≤ c = omega (arith, k.sum, mul-le-mul_right a le) in
+      grind (arith, ints)
 
 -- A common factor g of a and b divides c, and goes out of the equation and back in.
 solution-divided : (g a b mu mv c : ℕ) → 0 < g → Solution (a * g) (b * g) mu mv c → (c % g ≡ 0) × Solution a b mu mv (c / g)
@@ -96,36 +89,14 @@ solution-divided g a b mu mv c h s =
       record { u = s.u; v = s.v; u-within = s.u-within; v-within = s.v-within; sum = sym (ap (λ (z : ℕ). z / g) e ∙ mul-div_cancel (s.u * a + s.v * b) h) },
     )
 
-solution-multiplied : (g a b mu mv c : ℕ) → 0 < g → c % g ≡ 0 → Solution a b mu mv (c / g) → Solution (a * g) (b * g) mu mv c
-solution-multiplied g a b mu mv c h z s = record {
-  u = s.u;
-  v = s.v;
-  u-within = s.u-within;
-  v-within = s.v-within;
-  sum = omega (arith, ap (λ (x : ℕ). x * g) s.sum, div-add-mod' c g);
-}
-
--- `FirstFits` as a test.
-unfoldable pub fitsTest : ℕ → ℕ → ℕ → ℕ → ℕ → ℕ → Bool
-fitsTest a b mu mv c u₀ = leb (firstFrom b (lowest a b mv c) u₀) mu && leb (firstFrom b (lowest a b mv c) u₀ * a) c
-
-fitsTest-yes : (a b mu mv c u₀ : ℕ) → T (fitsTest a b mu mv c u₀) → FirstFits a b mu mv c u₀
-unfolding fitsTest FirstFits
-fitsTest-yes a b mu mv c u₀ t = grind (arith, ints)
-
-fitsTest-of : (a b mu mv c u₀ : ℕ) → FirstFits a b mu mv c u₀ → T (fitsTest a b mu mv c u₀)
-unfolding fitsTest FirstFits
-fitsTest-of a b mu mv c u₀ f = grind (arith, ints)
-
--- A factor of a positive number is positive.
-quotient-pos : (a g : ℕ) → a / g * g ≡ a → 0 < a → 0 < a / g
-quotient-pos a g e h = grind (arith, ints)
+solution-multiplied : (g a b mu mv c : ℕ) → c % g ≡ 0 → Solution a b mu mv (c / g) → Solution (a * g) (b * g) mu mv c
+solution-multiplied g a b mu mv c z s =
+    record { u = s.u; v = s.v; u-within = s.u-within; v-within = s.v-within; sum = omega (arith, ap (λ (x : ℕ). x * g) s.sum, div-add-mod' c g) }
 
 -- Whether there is a solution, for positive a and b: the greatest common divisor divides c, and the root of the divided equation fits.
 unfoldable pub solvable : ℕ → ℕ → ℕ → ℕ → ℕ → Bool
 solvable a b mu mv c = eqb (c % gcd a b) 0 && fitsTest (a / gcd a b) (b / gcd a b) mu mv (c / gcd a b) (root (b / gcd a b) (coefficient a b) (c / gcd a b))
 
--- The test is right.
 module _ (a b mu mv c : ℕ) (ha : 0 < a) (hb : 0 < b) where
   abbrev g : ℕ
   g = gcd a b
@@ -133,33 +104,20 @@ module _ (a b mu mv c : ℕ) (ha : 0 < a) (hb : 0 < b) where
   abbrev fit : Bool
   fit = fitsTest (a / g) (b / g) mu mv (c / g) (root (b / g) (coefficient a b) (c / g))
 
-  left_back : a / g * g ≡ a
-  left_back = div-mul_cancel g {m = a} (gcd-divides-left a b)
-
-  right-back : b / g * g ≡ b
-  right-back = div-mul_cancel g {m = b} (gcd-divides-right a b)
-
-  left-pos : 0 < a / g
-  left-pos = quotient-pos a g left_back ha
-
-  right-pos : 0 < b / g
-  right-pos = quotient-pos b g right-back hb
-
   pub solvable-yes : T (solvable a b mu mv c) → Solution a b mu mv c
   unfolding solvable
   solvable-yes t =
-      let w = and_both (eqb (c % g) 0) fit t in
-      let f = fitsTest-yes (a / g) (b / g) mu mv (c / g) (root (b / g) (coefficient a b) (c / g)) w.1 in
-      let s = fits-solution (a / g) (b / g) mu mv (c / g) (coefficient a b) left-pos right-pos (coefficient-inverse a b ha hb) f in
-      rw (left_back, right-back) at (solution-multiplied g (a / g) (b / g) mu mv c (gcd-pos a b ha) (eqb→eq (c % g) 0 w.0) s)
+      let w : (c % g ≡ 0) × T fit = grind (arith, ints) in
+      let s = fits-solution (a / g) (b / g) mu mv (c / g) (coefficient a b) (left-pos a b ha) (right-pos a b hb) (coefficient-inverse a b ha hb) w.1 in
+      rw (left_back a b, right-back a b) at (solution-multiplied g (a / g) (b / g) mu mv c w.0 s)
 
   pub solvable-no : T (not (solvable a b mu mv c)) → Solution a b mu mv c → ⊥
   unfolding solvable
   solvable-no t s =
-      let d = solution-divided g (a / g) (b / g) mu mv c (gcd-pos a b ha) (rw (left_back, right-back) s) in
-      let f = solution-fits (a / g) (b / g) mu mv (c / g) (coefficient a b) left-pos right-pos (coefficient-inverse a b ha hb) d.1 in
-      let e : T (eqb (c % g) 0) = rw d.0 (eqb_refl 0) in
-      T_not (eqb (c % g) 0 && fit) t (both-and (eqb (c % g) 0) fit e (fitsTest-of (a / g) (b / g) mu mv (c / g) (root (b / g) (coefficient a b) (c / g)) f))
+      let d = solution-divided g (a / g) (b / g) mu mv c (gcd-pos a b ha) (rw (left_back a b, right-back a b) s) in
+      let f : T fit = solution-fits (a / g) (b / g) mu mv (c / g) (coefficient a b) (left-pos a b ha) (right-pos a b hb) (coefficient-inverse a b ha hb) d.1 in
+      let e : c % g ≡ 0 = d.0 in
+      grind (arith, ints)
 
 -- Some v within its bound solves the equation with this u.
 abbrev SolvedBy : ℕ → ℕ → ℕ → ℕ → ℕ → Type 0

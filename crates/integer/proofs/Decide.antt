@@ -1,24 +1,11 @@
 -- Two ways to decide: by a test, and by trying every number below a bound.
-use mathlib.Core.Bool.{Bool, ◌&&◌, false, not, true}
-use mathlib.Core.Logic.{◌⊎◌, inl, inr}
-use mathlib.Core.Path.{◌≡◌}
-use Prim.Native.Nat.{◌<◌, suc, zero, ℕ}
+use Rattle.std.proofs.Common.{◌≡◌, ◌⊎◌, Bool, T, false, not, true, ℕ, zero, suc, ◌<◌, arith, inl, inr}
 use native.Mathlib.Decide.{ℕ_discrete}
-use native.Mathlib.Omega.{arith}
-use lib.Dec.{T}
-use Rattle.std.proofs.lemmas.Int.{ints}
 
 -- A test that decides, with what it says where it holds and where it does not.
 unfoldable pub byTest : {P : Type 0} → (t : Bool) → (T t → P) → (T (not t) → P → ⊥) → Dec P
 byTest true f g = yes (f tt)
 byTest false f g = no (λ p. g tt p)
-
--- Two tests that both hold.
-pub and_both : (x y : Bool) → T (x && y) → T x × T y
-and_both x y t = grind (arith, ints)
-
-pub both-and : (x y : Bool) → T x → T y → T (x && y)
-both-and x y s t = grind (arith, ints)
 
 -- A bounded search: the greatest number below n that has the property, or that none has it.
 pub find : (P : ℕ → Type 0) → ((i : ℕ) → Dec (P i)) → (n : ℕ) → ((i : ℕ) × (i < n) × P i) ⊎ ((i : ℕ) → i < n → ¬ (P i))

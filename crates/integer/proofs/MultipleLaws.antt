@@ -1,13 +1,8 @@
 -- Laws of a natural times an integer, and of the test for equal integers.
-use mathlib.Core.Bool.{not}
-use mathlib.Core.Logic.{◌≢◌}
-use mathlib.Core.Path.{◌≡◌}
-use Prim.Native.Nat.{◌*◌, ◌+◌, ℕ}
-use native.Mathlib.Omega.{arith}
-use lib.Dec.{T, T_not}
-use lib.IntN.{◌+ℤ◌, pos, ℤ}
-use Rattle.integer.proofs.Polynomial.{◌⊕◌, ◌⊙◌, int, nat, prove-eq}
-use Rattle.integer.specs.Multiple.{◌·◌, eqZ}
+use Rattle.std.proofs.Common.{◌≡◌, ◌≢◌, T, not, ℕ, ◌+◌, ◌*◌, ap, arith}
+use Rattle.std.specs.Prelude.{◌+ℤ◌, pos, ℤ}
+use Rattle.integer.specs.Multiple.{◌·◌}
+use Rattle.std.specs.Ordering.{int_eq}
 use Rattle.integer.specs.Parts.{negPart, posPart}
 use Rattle.std.proofs.lemmas.Int.{ints}
 
@@ -20,27 +15,24 @@ pub negPart-· : (k : ℕ) (s : ℤ) → negPart (k · s) ≡ k * negPart s
 unfolding ◌·◌
 negPart-· k s = grind (arith, ints)
 
+pub ruleset multiples = (ints, posPart-·, negPart-·)
+
 -- Multiples add, multiply and distribute.
 pub ·-zero : (s : ℤ) → 0 · s ≡ pos 0
-·-zero s = prove-eq (0 ⊙ int s) (nat 0) (omega arith)
+·-zero s = omega (arith, multiples)
 
 pub ·-one : (s : ℤ) → 1 · s ≡ s
-·-one s = prove-eq (1 ⊙ int s) (int s) (omega arith)
+·-one s = omega (arith, multiples)
 
 pub ·-mul : (q n : ℕ) (s : ℤ) → q · (n · s) ≡ (q * n) · s
-·-mul q n s = prove-eq (q ⊙ n ⊙ int s) ((q * n) ⊙ int s) (omega arith)
+·-mul q n s = omega (arith, multiples, ap (λ (z : ℕ). q * z) (posPart-· n s), ap (λ (z : ℕ). q * z) (negPart-· n s))
 
 pub ·-add : (a b : ℕ) (s : ℤ) → (a + b) · s ≡ a · s +ℤ b · s
-·-add a b s = prove-eq ((a + b) ⊙ int s) (a ⊙ int s ⊕ b ⊙ int s) (omega arith)
+·-add a b s = omega (arith, multiples)
 
 -- The test for equal integers, where it holds and where it does not.
-pub eqZ-yes : (x y : ℤ) → T (eqZ x y) → x ≡ y
-unfolding eqZ
-eqZ-yes x y t = grind (arith, ints)
+pub int_eq-yes : (x y : ℤ) → T (int_eq x y) → x ≡ y
+int_eq-yes x y t = grind (arith, ints)
 
-eqZ-refl : (x : ℤ) → T (eqZ x x)
-unfolding eqZ
-eqZ-refl x = grind (arith, ints)
-
-pub eqZ-no : (x y : ℤ) → T (not (eqZ x y)) → x ≢ y
-eqZ-no x y t e = T_not (eqZ x y) t (rw e (eqZ-refl y))
+pub int_eq-no : (x y : ℤ) → T (not (int_eq x y)) → x ≢ y
+int_eq-no x y t e = grind (arith, ints)

@@ -1,6 +1,6 @@
 -- The greatest common divisor: Euclid's remainders, and the claim that pins them to the name.
 use Rattle.std.specs.Prelude.{◌%◌, suc, zero, ℕ}
-use Rattle.std.specs.Int.{◌∣◌}
+use Rattle.std.specs.Int.{IsGcd}
 
 -- Euclid's remainders, so many steps at most.
 unfoldable pub gcdWithin : ℕ → ℕ → ℕ → ℕ
@@ -12,12 +12,6 @@ gcdWithin (suc steps) a (suc b) = gcdWithin steps (suc b) (a % suc b)
 unfoldable pub gcd : ℕ → ℕ → ℕ
 gcd a b = gcdWithin b a b
 
--- g divides both, and every number that divides both divides g.
-pub record IsGcd (a b g : ℕ) : Type 0 where
-  pub divides-left : g ∣ a
-  pub divides-right : g ∣ b
-  pub greatest : (d : ℕ) → d ∣ a → d ∣ b → d ∣ g
-
--- What is proved of `gcd`. Of 0 and 0 it is 0, which every number divides.
+-- What is proved of `gcd`: it divides both, and every number that divides both divides it. Of 0 and 0 it is 0, which every number divides.
 pub record GcdClaims : Type 0 where
   pub is-gcd : (a b : ℕ) → IsGcd a b (gcd a b)

@@ -4,3 +4,4 @@ pub mod Parts
 pub mod Multiple
 pub mod Gcd
 pub mod Congruence
+pub mod Equation

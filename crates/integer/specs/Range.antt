@@ -1,4 +1,4 @@
--- The ranges of 64-bit numbers, signed and unsigned (01: `usize` and `isize` are 64 bits).
+-- The ranges of 64-bit numbers, signed and unsigned: `usize` and `isize` are 64 bits.
 use Rattle.std.specs.Prelude.{Bool, ◌&&◌, if◌then◌else◌, ℕ, ◌-◌, ◌^◌, ℤ, pos, negsuc, Option, Some, None}
 use Rattle.std.specs.Int.Signed.{le_z}
 

@@ -1,4 +1,15 @@
-// Integers in words of 64 bits: the greatest common divisor, arithmetic modulo a word, signed arithmetic that refuses on overflow.
+//! What std's integers of 64 bits do not have: the greatest common divisor, arithmetic modulo a number, and a stride
+//! times an index.
+//!
+//! `gcd` is Euclid's: it calls itself on the remainder, which falls. A quotient of 0 or 1, which most are, is taken by a
+//! subtraction in place of a division. `modular` never leaves 64 bits: a sum is compared with the modulus before it is
+//! taken; a product fits a word where the modulus is at most 2^32, and else costs one doubling for each bit of the
+//! smaller factor, 64 at most. `gcd_and_inverse` is Euclid's loop with one coefficient, whose sign turns at every step
+//! and whose size is kept apart. `checked_mul` multiplies magnitudes, so -2^63 needs no case of its own.
+//!
+//! `GcdClaims` says that Euclid's remainders end in the greatest common divisor. Each contract here says its result by
+//! that definition, by remainders, or by integers without a bound.
+//! docs/WHY.md says what the divisor decides (section 6, two axes) and what the inverse is for (section 7).
 #![tactic(auto)]
 
 ghost use Rattle.std.specs.Prelude.{◌≡◌, ◌%◌, ◌<◌};
@@ -23,6 +34,7 @@ fn remainder(a: u64, b: u64) -> u64
 }
 
 /// The greatest common divisor, by Euclid's remainders.
+#[tactic(auto, using(crate::proofs::GcdLaws::euclid))]
 pub fn gcd(a: u64, b: u64) -> u64
     ensures { result ≡ gcd a b }
 {

@@ -31,10 +31,8 @@ pub fn neg_mod(x: u64, m: u64) -> u64
 
 // x * y modulo m, with one doubling for each bit of y.
 fn by_doubling(x: u64, y: u64, m: u64) -> u64
-    requires x_below { x < m }
-    requires y_below { y < m }
-    ensures below { result < m }
-    ensures product { Congruent m result (x * y) }
+    requires { (x < m) × (y < m) }
+    ensures { result ≡ x * y % m }
 {
     let mut sum: u64 = 0;
     let mut base = x;

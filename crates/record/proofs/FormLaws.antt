@@ -13,11 +13,10 @@ use borrow.Author.Tests.{ltb-true, ne_eqb}
 use mir.Syntax.{w64}
 use mir.Val.{SFits, of_z}
 use lib.Signed.{le_z}
-use Rattle.integer.specs.Multiple.{eqZ}
+use Rattle.std.specs.Ordering.{int_eq}
 use Rattle.integer.specs.Parts.{posPart}
+use Rattle.std.proofs.lemmas.Int.{ints}
 use Rattle.integer.specs.Range.{mostSigned}
-use Rattle.integer.proofs.MachineInteger.{equal-tested}
-use Rattle.integer.proofs.PartLaws.{parts-fit}
 use Rattle.specification.specs.Tests.{some}
 use Rattle.specification.specs.Axis.{Axis, is_empty, extents}
 use Rattle.specification.specs.Layout.{LayoutM, lowest, highest}
@@ -45,18 +44,18 @@ merged-full (a ∷ b ∷ rest) e =
 
 -- of one axis, its extent and stride decide with the offset
 pub empty_form_one : (l : LayoutM) → length l.axes ≡ 1
-    → isEmptyForm l ≡ (eqZ l.offset (pos 0) && true && eqb (axisAt l.axes 0).extent 0 && eqZ (axisAt l.axes 0).stride (pos 0))
+    → isEmptyForm l ≡ (int_eq l.offset (pos 0) && true && eqb (axisAt l.axes 0).extent 0 && int_eq (axisAt l.axes 0).stride (pos 0))
 empty_form_one l e = by l.axes e
   where
     by : (axes : List Axis) → length axes ≡ 1
-        → isEmptyForm (record { buffer = l.buffer; offset = l.offset; axes = axes }) ≡ (eqZ l.offset (pos 0) && true && eqb (axisAt axes 0).extent 0 && eqZ (axisAt axes 0).stride (pos 0))
+        → isEmptyForm (record { buffer = l.buffer; offset = l.offset; axes = axes }) ≡ (int_eq l.offset (pos 0) && true && eqb (axisAt axes 0).extent 0 && int_eq (axisAt axes 0).stride (pos 0))
     by [] e = absurd (omega arith)
     by (a ∷ []) e = refl
     by (a ∷ b ∷ axes) e = absurd (omega arith)
 
 -- whether the machine's number is 0
-pub zero_tested : (z : ℤ) → SFits w64 z → eqZ z (pos 0) ≡ eqb (of_z w64 z) 0
-zero_tested z f = sym (equal-tested z (pos 0) f (parts-fit {z = pos 0} (omega arith) (omega arith)))
+pub zero_tested : (z : ℤ) → SFits w64 z → int_eq z (pos 0) ≡ eqb (of_z w64 z) 0
+zero_tested z f = grind (arith, ints)
 
 -- it is empty
 pub empty-form-empty : (l : LayoutM) → isEmptyForm l ≡ true → is_empty l.axes ≡ true
@@ -66,8 +65,8 @@ empty-form-empty l h = by l.axes h
     by : (axes : List Axis) → isEmptyForm (record { buffer = l.buffer; offset = l.offset; axes = axes }) ≡ true → is_empty axes ≡ true
     by [] e = absurd (subst T (sym e) tt)
     by (a ∷ rest) e =
-        let p = and-true (eqZ l.offset (pos 0) && eqb (length rest) 0 && eqb a.extent 0) (eqZ a.stride (pos 0)) e in
-        rw (and-true (eqZ l.offset (pos 0) && eqb (length rest) 0) (eqb a.extent 0) p.0).1
+        let p = and-true (int_eq l.offset (pos 0) && eqb (length rest) 0 && eqb a.extent 0) (int_eq a.stride (pos 0)) e in
+        rw (and-true (int_eq l.offset (pos 0) && eqb (length rest) 0) (eqb a.extent 0) p.0).1
 
 -- ---- the test by its parts, and the buffer length that it gives
 

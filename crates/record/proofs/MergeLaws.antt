@@ -1,9 +1,7 @@
 -- The pass from the left over the axes of an array: what the axes stored so far and those that are left come to, turn by turn.
-use Rattle.std.specs.Prelude.{if◌then◌else◌, None, Some}
-use Rattle.std.specs.Bool.{Decides, one_answer}
+use Rattle.std.specs.Prelude.{Some}
 use Rattle.std.specs.Option.{option_eq}
 use Rattle.std.specs.Ordering.{int_eq}
-use Rattle.std.proofs.lemmas.Bool.Decides.{Decides-int_eq}
 use mathlib.Core.Path.{◌≡◌, refl, sym, ap, subst, ◌∙◌}
 use mathlib.Core.Bool.{Bool, true, false, not, ◌&&◌}
 use mathlib.Core.List.{List, [], ◌∷◌, ◌++◌, append_assoc}
@@ -19,14 +17,12 @@ use Rattle.std.proofs.lemmas.List.{take-set}
 use borrow.Author.Tests.{eq-eqb, ne_eqb, eqb-true}
 use mir.Syntax.{w64}
 use mir.Val.{SFits}
-use Rattle.integer.specs.Multiple.{◌·◌, eqZ}
-use Rattle.integer.specs.Range.{fits, checkedOf}
-use Rattle.integer.proofs.CheckedLaws.{fits-of-sfits}
-use Rattle.integer.proofs.MultipleLaws.{eqZ-yes, eqZ-no}
+use Rattle.integer.specs.Multiple.{◌·◌}
+use Rattle.integer.specs.Range.{checkedOf}
+use Rattle.std.proofs.lemmas.Int.{ints}
 use Rattle.specification.specs.Axis.{Axis, positions, product, is_empty}
 use Rattle.specification.specs.Normal.{both, continues, overfull}
 use Rattle.specification.specs.Views.{axisAt}
-use Rattle.specification.proofs.OutcomeLaws.{false-unless}
 use Rattle.specification.proofs.NormalScan.{scan, start, scan-is-normal}
 use Rattle.specification.proofs.NormalAxes.{positions-of-normal}
 use Rattle.specification.proofs.NormalLaws.{full-pos, positions-pos}
@@ -36,25 +32,9 @@ use Rattle.record.proofs.NormalAnswers.{few-positions}
 abbrev no_axis : Axis
 no_axis = record { extent = 0; stride = pos 0 }
 
--- an integer of 64 bits differs from one that they do not hold
-pub over-differs : (x z : ℤ) → SFits w64 x → fits z ≡ false → eqZ x z ≡ false
-over-differs x z f e = false-unless (eqZ x z) (λ t. sym (fits-of-sfits x f) ∙ ap fits (eqZ-yes x z (subst T (sym t) tt)) ∙ e) (λ q. subst T q tt)
-
 -- a product in range is compared; one out of range equals no stride
-pub continues_tested : (s z : ℤ) → SFits w64 s → option_eq int_eq (checkedOf z) (Some s) ≡ eqZ s z
-continues_tested s z f = by (fits z) refl
-  where
-    decided : (x y : ℤ) → Decides (eqZ x y) (x ≡ y)
-    decided x y = (λ t. eqZ-yes x y (subst T (sym t) tt), λ p. yes (eqZ x y) refl p)
-      where
-        yes : (t : Bool) → eqZ x y ≡ t → x ≡ y → eqZ x y ≡ true
-        yes true e p = e
-        yes false e p = absurd (eqZ-no x y (subst (λ (t : Bool). T (not t)) (sym e) tt) p)
-
-    by : (t : Bool) → fits z ≡ t → option_eq int_eq (if t then Some z else None) (Some s) ≡ eqZ s z
-    by true e =
-        one_answer (int_eq z s) (eqZ s z) (λ t. sym ((Decides-int_eq z s).0 t), λ p. (Decides-int_eq z s).1 (sym p)) (decided s z)
-    by false e = sym (over-differs s z f e)
+pub continues_tested : (s z : ℤ) → SFits w64 s → option_eq int_eq (checkedOf z) (Some s) ≡ int_eq s z
+continues_tested s z f = grind (arith, ints)
 
 -- what is continued is there
 pub continued_some : (stored : List Axis) (a : Axis) → continues_last stored a ≡ true → 0 < length stored
@@ -68,7 +48,7 @@ module _ (a b : Axis) (rest : List Axis) where
   abbrev turn : Bool → Bool → List Axis
   turn t u = elim t [ true ↦ scan a rest | false ↦ elim u [ true ↦ scan (both a b) rest | false ↦ a ∷ scan b rest ] ]
 
-  scan-turn : {t u : Bool} → eqb b.extent 1 ≡ t → eqZ b.stride (a.extent · a.stride) ≡ u → scan a (b ∷ rest) ≡ turn t u
+  scan-turn : {t u : Bool} → eqb b.extent 1 ≡ t → int_eq b.stride (a.extent · a.stride) ≡ u → scan a (b ∷ rest) ≡ turn t u
   unfolding scan
   scan-turn e f = λ i. turn (e i) (f i)
 
@@ -86,7 +66,7 @@ positions-append (a ∷ xs) ys = rw (positions-append xs ys) (sym (mul_assoc a.e
 positions-scan : (a : Axis) (rest : List Axis) → positions (scan a rest) ≡ a.extent * positions rest
 unfolding product scan
 positions-scan a [] = refl
-positions-scan a (b ∷ rest) = by (eqb b.extent 1) (eqZ b.stride (a.extent · a.stride)) (eqb-true b.extent 1) (positions-scan a rest) (positions-scan (both a b) rest) (positions-scan b rest)
+positions-scan a (b ∷ rest) = by (eqb b.extent 1) (int_eq b.stride (a.extent · a.stride)) (eqb-true b.extent 1) (positions-scan a rest) (positions-scan (both a b) rest) (positions-scan b rest)
   where
     by : (t u : Bool) → (t ≡ true → b.extent ≡ 1) → positions (scan a rest) ≡ a.extent * positions rest
         → positions (scan (both a b) rest) ≡ a.extent * b.extent * positions rest → positions (scan b rest) ≡ b.extent * positions rest

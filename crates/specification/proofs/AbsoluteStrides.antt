@@ -5,10 +5,8 @@ use mathlib.Core.List.{List, [], ◌∷◌}
 use Prim.Native.Nat.{ℕ, suc, ◌+◌, ◌*◌, ◌-◌, ◌<◌}
 use native.Mathlib.Omega.{arith}
 use lib.IntN.{ℤ, pos, negsuc, nat_abs}
-use Rattle.integer.specs.Multiple.{◌·◌}
 use Rattle.integer.specs.Parts.{negPart, posPart}
-use Rattle.integer.proofs.MultipleLaws.{negPart-·, posPart-·}
-use Rattle.integer.proofs.PartLaws.{parts_add}
+use Rattle.integer.proofs.MultipleLaws.{multiples}
 use Rattle.specification.specs.Axis.{Axis, extents, offsetSum, downward}
 use Rattle.specification.specs.Search.{ActiveAxis, lengths, reach}
 use Rattle.specification.proofs.Positions.{IndexVector, empty, ◌and◌, Apart}
@@ -71,8 +69,7 @@ pub offset-reach : (k : ℕ) (l : List Axis) {x : List ℕ} → IndexVector (ext
 unfolding offsetSum reach downward
 offset-reach k [] empty = omega arith
 offset-reach k (a ∷ r) (◌and◌ {i = i} {is = x} h b) =
-    let e = parts_add (i · a.stride) (offsetSum r x) in
-    omega (arith, simp (posPart-·, negPart-·) at e, negPart-· (a.extent - 1) a.stride, reach-of-one a.extent a.stride i h, offset-reach (suc k) r b)
+    omega (arith, multiples, reach-of-one a.extent a.stride i h, offset-reach (suc k) r b)
 
 -- if absolute strides tell vectors apart, so do signed ones
 pub apart-of-sums : (k : ℕ) (l : List Axis) → SumsApart (absolute k l) → Apart l

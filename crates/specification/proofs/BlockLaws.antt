@@ -9,7 +9,7 @@ use native.Mathlib.Omega.{arith}
 use lib.Dec.{T, leb, ltb, eqb, nleb→lt, ltb→lt, nltb→le}
 use lib.IntN.{ℤ, pos, nat_abs}
 use borrow.Author.Tests.{eqb-true, eqb-false}
-use Rattle.integer.specs.Multiple.{eqZ}
+use Rattle.std.specs.Ordering.{int_eq}
 use Rattle.specification.specs.Tests.{some, sortBy}
 use Rattle.specification.specs.Axis.{Axis}
 use Rattle.specification.specs.Search.{ActiveAxis, lengths, reach, spanSum}
@@ -136,9 +136,8 @@ active-carry k (AllPositive.more {a} {r} h t) = go (ltb 1 a.extent) (nltb→le 1
         (carry-trans (single this (absolute (suc k) r) e) c.0, carry-trans c.1 (single-back this (absolute (suc k) r) e))
 
 -- the test for stride 0, on the absolute stride
-eqZ-abs : (z : ℤ) → eqZ z (pos 0) ≡ eqb (nat_abs z) 0
-unfolding eqZ
-eqZ-abs z = grind (arith, ints)
+int_eq-abs : (z : ℤ) → int_eq z (pos 0) ≡ eqb (nat_abs z) 0
+int_eq-abs z = grind (arith, ints)
 
 -- the vector of zeros
 zeros : {es : List ℕ} → PositiveExtents es → (x : List ℕ) × IndexVector es x
@@ -160,7 +159,7 @@ active-pos k (a ∷ r) = go (ltb 1 a.extent) (ltb→lt 1 a.extent) (active-pos (
 pub still-yes : (k : ℕ) (l : List Axis) → some still l ≡ true → EqualSums (activeFrom k l)
 unfolding activeFrom some
 still-yes k [] e = absurd (subst T (sym e) tt)
-still-yes k (a ∷ r) e = go (ltb 1 a.extent) (eqZ a.stride (pos 0)) (ltb→lt 1 a.extent) (λ q. eqb-true (nat_abs a.stride) 0 (sym (eqZ-abs a.stride) ∙ q)) e (still-yes (suc k) r)
+still-yes k (a ∷ r) e = go (ltb 1 a.extent) (int_eq a.stride (pos 0)) (ltb→lt 1 a.extent) (λ q. eqb-true (nat_abs a.stride) 0 (sym (int_eq-abs a.stride) ∙ q)) e (still-yes (suc k) r)
   where
     go : (x y : Bool) → (T x → 1 < a.extent) → (y ≡ true → nat_abs a.stride ≡ 0) → ((x && y) || some still r) ≡ true → (some still r ≡ true → EqualSums (activeFrom (suc k) r))
         → EqualSums (if x then record { axis = k; extent = a.extent; stride = nat_abs a.stride } ∷ activeFrom (suc k) r else activeFrom (suc k) r)
@@ -172,7 +171,7 @@ still-yes k (a ∷ r) e = go (ltb 1 a.extent) (eqZ a.stride (pos 0)) (ltb→lt 1
 pub still-no : (k : ℕ) (l : List Axis) → some still l ≡ false → Lives (activeFrom k l)
 unfolding activeFrom some
 still-no k [] e = tt
-still-no k (a ∷ r) e = go (ltb 1 a.extent) (eqZ a.stride (pos 0)) (ltb→lt 1 a.extent) (λ q. eqb-false (nat_abs a.stride) 0 (sym (eqZ-abs a.stride) ∙ q)) e (still-no (suc k) r)
+still-no k (a ∷ r) e = go (ltb 1 a.extent) (int_eq a.stride (pos 0)) (ltb→lt 1 a.extent) (λ q. eqb-false (nat_abs a.stride) 0 (sym (int_eq-abs a.stride) ∙ q)) e (still-no (suc k) r)
   where
     go : (x y : Bool) → (T x → 1 < a.extent) → (y ≡ false → ¬ (nat_abs a.stride ≡ 0)) → ((x && y) || some still r) ≡ false → (some still r ≡ false → Lives (activeFrom (suc k) r))
         → Lives (if x then record { axis = k; extent = a.extent; stride = nat_abs a.stride } ∷ activeFrom (suc k) r else activeFrom (suc k) r)

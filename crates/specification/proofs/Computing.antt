@@ -1,6 +1,6 @@
 -- Everything that a line with numbers in it computes with: a proof that says `unfolding computing` unfolds all of it.
 use Rattle.integer.specs.Gcd.{gcd, gcdWithin}
-use Rattle.integer.specs.Multiple.{◌·◌, eqZ}
+use Rattle.integer.specs.Multiple.{◌·◌}
 use Rattle.integer.proofs.BoundedEquation.{firstFrom, lowest, solution?, solvable, fitsTest}
 use Rattle.integer.proofs.Congruence.{root, coefficient, coefficientWithin, subMod}
 use Rattle.integer.proofs.Decide.{byTest}
@@ -21,7 +21,7 @@ use Rattle.specification.specs.Beside.{nextStep, running, colMajor, rowMajor, or
 -- a name for the list
 unfoldable pub computing : Unit {0}
 unfolding gcd gcdWithin
-    ◌·◌ eqZ
+    ◌·◌
     firstFrom lowest solution? solvable fitsTest
     root coefficient coefficientWithin subMod
     byTest

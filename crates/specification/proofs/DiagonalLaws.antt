@@ -1,8 +1,7 @@
 -- What diagonal_view does to the offset of an index vector whose tied axes have one index.
-use Rattle.std.specs.Prelude.{if◌then◌else◌}
+use Rattle.std.specs.Prelude.{Option, Some, None, if◌then◌else◌}
 use mathlib.Core.Path.{◌≡◌, refl, sym, ap, subst, ◌∙◌}
 use mathlib.Core.Bool.{Bool, true, false, not, ◌&&◌, ◌||◌}
-use mathlib.Core.Option.{Option, none, some as found}
 use mathlib.Core.List.{List, [], ◌∷◌, map}
 use Prim.Native.Nat.{ℕ, zero, suc, ◌+◌, ◌*◌, ◌<◌, ◌≤◌}
 use native.Mathlib.Decide.{ℕ_discrete, dec_lt}
@@ -11,10 +10,8 @@ use lib.Dec.{T, ltb}
 use lib.IntN.{ℤ, pos, ◌+ℤ◌}
 use lib.ListN.{length, get_or}
 use borrow.Author.Tests.{ltb-true, lt-ltb}
-use Rattle.integer.specs.Multiple.{◌·◌}
 use Rattle.integer.specs.Parts.{posPart, negPart}
-use Rattle.integer.proofs.MultipleLaws.{posPart-·, negPart-·}
-use Rattle.integer.proofs.PartLaws.{parts_add, parts-ext}
+use Rattle.integer.proofs.MultipleLaws.{multiples}
 use Rattle.specification.specs.Tests.{is_yes, some, those, up_from}
 use Rattle.specification.specs.Axis.{offsetSum}
 use Rattle.specification.specs.Outcome.{Check, pass, ◌>>◌}
@@ -105,8 +102,8 @@ module _ (pairs : List (ℕ × ℕ)) (n : ℕ) where
       pos-neg e = rw e
 
       go : (o : Option ℕ) → First (λ k. t k a) n 0 o → Root a
-      go none f = absurd (true-not-false (tied-test a a itself) (f a (omega arith) (omega arith)))
-      go (found p) f =
+      go None f = absurd (true-not-false (tied-test a a itself) (f a (omega arith) (omega arith)))
+      go (Some p) f =
           let tp : Tied pairs p a = test-tied p a f.2 in
           record {
             root = p;
@@ -161,7 +158,7 @@ module _ (l : LayoutM) (pairs : List (ℕ × ℕ)) (index : List ℕ) where
   stride-parts : (z : ℤ) (c : List ℕ) → posPart (strideSum z (map (axisAt l.axes) c)) + (negPart z + sum_of (part negPart) c) ≡ (posPart z + sum_of (part posPart) c) + negPart (strideSum z (map (axisAt l.axes) c))
   unfolding strideSum sum_of
   stride-parts z [] = omega arith
-  stride-parts z (a ∷ r) = omega (arith, stride-parts (z +ℤ (axisAt l.axes a).stride) r, parts_add z (axisAt l.axes a).stride)
+  stride-parts z (a ∷ r) = omega (arith, ints, stride-parts (z +ℤ (axisAt l.axes a).stride) r)
 
   abbrev heavy : (ℤ → ℕ) → ℕ → ℕ
   heavy g k = y k * sum_of (part g) (class_of pairs (rank l) k)
@@ -170,15 +167,7 @@ module _ (l : LayoutM) (pairs : List (ℕ × ℕ)) (index : List ℕ) where
   unfolding offsetSum sum_of fused
   diagonal-parts [] = refl
   diagonal-parts (k ∷ r) =
-      let s : ℤ = strideSum (pos 0) (map (axisAt l.axes) (class_of pairs (rank l) k)) in
-      omega (
-        arith,
-        diagonal-parts r,
-        parts_add (y k · s) (offsetSum (map (fused l pairs) r) (map y r)),
-        posPart-· (y k) s,
-        negPart-· (y k) s,
-        ap (λ (m : ℕ). y k * m) (stride-parts (pos 0) (class_of pairs (rank l) k)),
-      )
+      omega (arith, multiples, diagonal-parts r, ap (λ (m : ℕ). y k * m) (stride-parts (pos 0) (class_of pairs (rank l) k)))
 
   module _ (alike : (a b : ℕ) → Tied pairs a b → get_or index a 0 ≡ get_or index b 0) where
     in-class : (h : ℕ → ℕ) (k : ℕ) → y k * sum_of h (class_of pairs (rank l) k) ≡ sum_of (λ a. y a * h a) (class_of pairs (rank l) k)
@@ -205,7 +194,7 @@ module _ (l : LayoutM) (pairs : List (ℕ × ℕ)) (index : List ℕ) where
         let c : Check = handed l 0 >> pairFault (rank l) pairs >> sumFaults l pairs (kept pairs (rank l)) >> bounds (withAxes l (map (fused l pairs) (kept pairs (rank l)))) in
         let s = settled l (withAxes l (map (fused l pairs) (kept pairs (rank l)))) c e in
         ap (λ (m : LayoutM). offsetSum m.axes (map y (kept pairs (rank l)))) s.becomes
-        ∙ parts-ext (omega (arith, diagonal-parts (kept pairs (rank l)), all-classes posPart n, all-classes negPart n, parts l.axes index))
+        ∙ omega (arith, ints, diagonal-parts (kept pairs (rank l)), all-classes posPart n, all-classes negPart n, parts l.axes index)
 
 pub view-claims : ViewClaims
 view-claims = record { permuted = permuted; stretched = stretched; fused = λ l pairs index e n alike. fused-offset l pairs index alike e n }

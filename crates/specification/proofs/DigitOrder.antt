@@ -6,7 +6,6 @@ use native.Mathlib.Omega.{arith}
 use lib.IntN.{ℤ, pos, nat_abs, ◌+ℤ◌, ◌-ℤ◌, -ℤ-+ℤ_cancel}
 use lib.ListN.{length, get_or}
 use Rattle.integer.specs.Parts.{posPart, negPart}
-use Rattle.integer.proofs.PartLaws.{parts-ext}
 use Rattle.integer.proofs.SignedEquation.{natAbs-of-shifted, posPart-of-natAbs, shifted}
 use Rattle.specification.specs.Search.{ActiveAxis, lengths, widths, box, half, fromDigits, differenceAt}
 use Rattle.specification.specs.Verdict.{block_of, othersOf}
@@ -52,11 +51,11 @@ digit-is : (d : ℤ) (m : ℕ) → nat_abs d < suc m → nat_abs (d +ℤ pos m) 
 digit-is d m h = grind (arith, ints)
 
 difference-of-digit : (d : ℤ) (m : ℕ) → nat_abs d < suc m → pos (nat_abs (d +ℤ pos m)) -ℤ pos m ≡ d
-difference-of-digit d m h = parts-ext (omega (arith, digit-is d m h, shifted (nat_abs (d +ℤ pos m)) m))
+difference-of-digit d m h = omega (arith, ints, digit-is d m h)
 
--- ---- natAbs-of-shifted differences
+-- ---- small differences
 
--- each difference negPart-of-natAbs its extent, axis by axis
+-- each difference is below its extent, axis by axis
 data EachSmall : List ActiveAxis → List ℤ → Type 0 where
   none_left : EachSmall [] []
   small-and : {a : ActiveAxis} {d : ℤ} {r : List ActiveAxis} {deltas : List ℤ} → nat_abs d < a.extent → EachSmall r deltas → EachSmall (a ∷ r) (d ∷ deltas)
@@ -94,7 +93,7 @@ differences-small (a ∷ r) (◌and◌ {i = d} {is = digits} k b) = let s = diff
 no-difference-zero : (others : List ActiveAxis) (i : ℕ) → get_or (fromDigits others (noDifference others)) i (pos 0) ≡ pos 0
 unfolding fromDigits
 no-difference-zero [] i = refl
-no-difference-zero (a ∷ r) zero = parts-ext (omega (arith, shifted (a.extent - 1) (a.extent - 1)))
+no-difference-zero (a ∷ r) zero = omega (arith, ints)
 no-difference-zero (a ∷ r) (suc i) = no-difference-zero r i
 
 half-is-zero : (others : List ActiveAxis) → PositiveExtents (lengths others) → differenceAt others (half others) ≡ fromDigits others (noDifference others)

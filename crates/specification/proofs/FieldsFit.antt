@@ -7,14 +7,12 @@ use Prim.Native.Nat.{◌+◌, ◌*◌, ◌-◌, ◌<◌, ◌≤◌}
 use native.Mathlib.Nat.{le-mul_of_pos_right, mul-le-mul_right}
 use native.Mathlib.Omega.{arith}
 use lib.Dec.{eqb, ltb}
-use lib.IntN.{pos}
 use mir.Syntax.{w64}
 use mir.Val.{SFits}
 use borrow.Author.Tests.{ltb-false, eqb-true}
 use Rattle.integer.specs.Parts.{posPart, negPart}
 use Rattle.integer.specs.Range.{mostSigned, mostUnsigned}
-use Rattle.integer.proofs.MultipleLaws.{posPart-·, negPart-·}
-use Rattle.integer.proofs.PartLaws.{parts_add, parts-minus, parts-fit}
+use Rattle.integer.proofs.MultipleLaws.{multiples}
 use Rattle.specification.specs.Tests.{some}
 use Rattle.specification.specs.Axis.{Axis, positions, product, is_empty, upward, downward}
 use Rattle.specification.specs.Layout.{LayoutM, Accepted, AllRanges}
@@ -24,6 +22,7 @@ use Rattle.specification.proofs.NormalAxes.{AllPositive, Normal, none, more, nor
 use Rattle.specification.proofs.NormalLaws.{positions-pos, normalAxes-normal, normal-of-empty, normal_of_full, normal-same}
 use Rattle.specification.proofs.ReachLaws.{accepted-within, spans_fit}
 use Rattle.specification.proofs.WriterLaws.{normal-accepted}
+use Rattle.std.proofs.lemmas.Int.{ints}
 
 -- the offset fits 64 bits signed, each extent 64 bits, each stride 64 bits signed
 pub record FieldsFit (n : LayoutM) : Type 0 where
@@ -51,9 +50,7 @@ axes-in-ranges (more {a} {r} q f n) h s =
     let z : 1 ≤ a.extent - 1 = omega arith in (
       record {
         extent-fits = omega arith;
-        stride-fits = parts-fit
-            (omega (arith, posPart-· (a.extent - 1) a.stride, mul-le-mul_right (posPart a.stride) z))
-            (omega (arith, negPart-· (a.extent - 1) a.stride, mul-le-mul_right (negPart a.stride) z));
+        stride-fits = omega (arith, multiples, mul-le-mul_right (posPart a.stride) z, mul-le-mul_right (negPart a.stride) z);
       },
       axes-in-ranges n (omega arith) (omega arith),
     )
@@ -62,9 +59,7 @@ axes-in-ranges (more {a} {r} q f n) h s =
 offset-in-range : (x : LayoutM) → Accepted x → is_empty x.axes ≡ false → SFits w64 x.offset
 offset-in-range x a e =
     let w = accepted-within x e a in
-    let p = parts-minus x.offset (pos (downward x.axes)) in
-    let q = parts_add x.offset (pos (upward x.axes)) in
-    parts-fit (omega (arith, w.w-most)) (omega (arith, w.w-low))
+    omega (arith, ints, w.w-low, w.w-most)
 
 full-fits : (x : LayoutM) → Accepted x → is_empty x.axes ≡ false → positions x.axes ≤ mostUnsigned → FieldsFit (withAxes x (normalAxes x.axes))
 full-fits x a e m =

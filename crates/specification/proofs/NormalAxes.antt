@@ -12,7 +12,7 @@ use lib.Arith.{mod-mul}
 use lib.Dec.{T}
 use lib.IntN.{ℤ, ◌+ℤ◌, +ℤ_idl, +ℤ_assoc}
 use Rattle.integer.specs.Multiple.{◌·◌}
-use Rattle.integer.proofs.MultipleLaws.{eqZ-no, eqZ-yes, ·-add, ·-mul, ·-zero}
+use Rattle.integer.proofs.MultipleLaws.{int_eq-no, int_eq-yes, ·-add, ·-mul, ·-zero}
 use Rattle.specification.specs.Tests.{those}
 use Rattle.specification.specs.Axis.{Axis, extents, positions, product, index_at, offsetSum, sum_at}
 use Rattle.specification.specs.Normal.{continues, both, mergeInto, merge, normalAxes}
@@ -28,7 +28,7 @@ Continues a b = b.stride ≡ a.extent · a.stride
 -- a before b and others: merged with b, or put in front
 merged-either : (P : List Axis → Type 0) (a b : Axis) (r : List Axis) → (Continues a b → P (both a b ∷ r)) → (¬ (Continues a b) → P (a ∷ b ∷ r)) → P (mergeInto a (b ∷ r))
 unfolding mergeInto
-merged-either P a b r f g = go (continues a b) (eqZ-yes b.stride (a.extent · a.stride)) (eqZ-no b.stride (a.extent · a.stride))
+merged-either P a b r f g = go (continues a b) (int_eq-yes b.stride (a.extent · a.stride)) (int_eq-no b.stride (a.extent · a.stride))
   where
     go : (t : Bool) → (T t → Continues a b) → (T (not t) → ¬ (Continues a b)) → P (if t then both a b ∷ r else a ∷ b ∷ r)
     go true y n = f (y tt)

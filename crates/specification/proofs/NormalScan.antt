@@ -8,8 +8,9 @@ use Prim.Native.Nat.{ℕ, ◌*◌, ◌≤◌}
 use native.Mathlib.Nat.{mul-le-mul}
 use native.Mathlib.Omega.{arith}
 use lib.Dec.{T, T_not, eqb, eqb→eq, eqb_refl}
-use Rattle.integer.specs.Multiple.{◌·◌, eqZ}
-use Rattle.integer.proofs.MultipleLaws.{eqZ-no, eqZ-yes}
+use Rattle.integer.specs.Multiple.{◌·◌}
+use Rattle.std.specs.Ordering.{int_eq}
+use Rattle.integer.proofs.MultipleLaws.{int_eq-no, int_eq-yes}
 use Rattle.specification.specs.Axis.{Axis}
 use Rattle.specification.specs.Normal.{both, normalAxes}
 use Rattle.specification.proofs.NormalAxes.{ReadsAlike, alike_refl, alike-trans, alike-more, alike-dropped, alike-merged, Continues, AllPositive, Normal, Apart, none, more}
@@ -18,7 +19,7 @@ use Rattle.specification.proofs.NormalOrder.{normal-of-alike}
 -- from the axis in hand on
 unfoldable pub scan : Axis → List Axis → List Axis
 scan a [] = a ∷ []
-scan a (b ∷ r) = elim (eqb b.extent 1) [ true ↦ scan a r | false ↦ elim (eqZ b.stride (a.extent · a.stride)) [ true ↦ scan (both a b) r | false ↦ a ∷ scan b r ] ]
+scan a (b ∷ r) = elim (eqb b.extent 1) [ true ↦ scan a r | false ↦ elim (int_eq b.stride (a.extent · a.stride)) [ true ↦ scan (both a b) r | false ↦ a ∷ scan b r ] ]
 
 -- from the start: axes of extent 1 are dropped until there is one to take in hand
 unfoldable pub start : List Axis → List Axis
@@ -40,7 +41,7 @@ scan-makes : (a : Axis) (r : List Axis) → 2 ≤ a.extent → AllPositive r →
 unfolding scan
 scan-makes a [] h none = record { alike = alike_refl; normal = more h tt none; apart = λ c f. f }
 scan-makes a (b ∷ r) h (more hb hr) =
-    go (eqb b.extent 1) (eqZ b.stride (a.extent · a.stride)) (eqb→eq b.extent 1) (not-one b.extent) (eqZ-yes b.stride (a.extent · a.stride)) (eqZ-no b.stride (a.extent · a.stride))
+    go (eqb b.extent 1) (int_eq b.stride (a.extent · a.stride)) (eqb→eq b.extent 1) (not-one b.extent) (int_eq-yes b.stride (a.extent · a.stride)) (int_eq-no b.stride (a.extent · a.stride))
     (scan-makes a r h hr) (λ k. scan-makes (both a b) r k hr) (λ k. scan-makes b r k hr)
   where
     go : (t u : Bool) → (T t → b.extent ≡ 1) → (T (not t) → b.extent ≢ 1) → (T u → Continues a b) → (T (not u) → ¬ (Continues a b))

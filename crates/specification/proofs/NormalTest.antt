@@ -11,9 +11,9 @@ use lib.IntN.{ℤ, pos}
 use lib.ListN.{length}
 use lib.Signed.{le_z, ◌≤ℤ◌}
 use borrow.Author.Tests.{ltb-true, eqb-true, lt-ltb, not-true}
-use Rattle.integer.specs.Multiple.{eqZ, ◌·◌}
-use Rattle.integer.proofs.MultipleLaws.{eqZ-yes, eqZ-no}
-use Rattle.integer.proofs.PartLaws.{leZ-true, le-leZ, le_parts, parts-le}
+use Rattle.integer.specs.Multiple.{◌·◌}
+use Rattle.std.specs.Ordering.{int_eq}
+use Rattle.integer.proofs.MultipleLaws.{int_eq-yes, int_eq-no}
 use Rattle.integer.specs.Range.{mostSigned}
 use Rattle.specification.specs.Tests.{some}
 use Rattle.specification.specs.Axis.{Axis, is_empty}
@@ -27,6 +27,7 @@ use Rattle.specification.proofs.ReachLaws.{reach_of, and-true}
 use Rattle.specification.proofs.TestLaws.{or-true}
 use Rattle.specification.proofs.FieldsFit.{not-empty}
 use Rattle.specification.proofs.OutcomeLaws.{false-unless}
+use Rattle.std.proofs.lemmas.Int.{ints}
 
 -- ---- merged axes
 
@@ -37,14 +38,14 @@ merged-normal (a ∷ []) e = more {a = a} (ltb-true 1 a.extent e) tt none
 merged-normal (a ∷ b ∷ rest) e =
     let p = and-true (ltb 1 a.extent && not (continues a b)) (isMerged (b ∷ rest)) e in
     let q = and-true (ltb 1 a.extent) (not (continues a b)) p.0 in
-    more {a = a} (ltb-true 1 a.extent q.0) (eqZ-no b.stride (a.extent · a.stride) (subst T (sym q.1) tt)) (merged-normal (b ∷ rest) p.1)
+    more {a = a} (ltb-true 1 a.extent q.0) (int_eq-no b.stride (a.extent · a.stride) (subst T (sym q.1) tt)) (merged-normal (b ∷ rest) p.1)
 
 normal-merged : {axes : List Axis} → Normal axes → isMerged axes ≡ true
 unfolding isMerged
 normal-merged none = refl
 normal-merged (more {a} h f none) = lt-ltb 1 a.extent h
 normal-merged (more {a} h f (more {a = b} {r} k g t)) =
-    rw (lt-ltb 1 a.extent h, false-unless (continues a b) (λ e. eqZ-yes b.stride (a.extent · a.stride) (subst T (sym e) tt)) f) (normal-merged (more {a = b} {r = r} k g t))
+    rw (lt-ltb 1 a.extent h, false-unless (continues a b) (λ e. int_eq-yes b.stride (a.extent · a.stride) (subst T (sym e) tt)) f) (normal-merged (more {a = b} {r = r} k g t))
 
 -- ---- the form of an empty layout
 
@@ -56,13 +57,13 @@ record EmptyForm (offset : ℤ) (axes : List Axis) : Type 0 where
 empty-tested : (b : ℕ) (o : ℤ) (axes : List Axis) → isEmptyForm (record { buffer = b; offset = o; axes = axes }) ≡ true → EmptyForm o axes
 empty-tested b o [] e = absurd (subst T (sym e) tt)
 empty-tested b o (a ∷ rest) e =
-    let p = and-true (eqZ o (pos 0) && eqb (length rest) 0 && eqb a.extent 0) (eqZ a.stride (pos 0)) e in
-    let q = and-true (eqZ o (pos 0) && eqb (length rest) 0) (eqb a.extent 0) p.0 in
-    let r = and-true (eqZ o (pos 0)) (eqb (length rest) 0) q.0 in
+    let p = and-true (int_eq o (pos 0) && eqb (length rest) 0 && eqb a.extent 0) (int_eq a.stride (pos 0)) e in
+    let q = and-true (int_eq o (pos 0) && eqb (length rest) 0) (eqb a.extent 0) p.0 in
+    let r = and-true (int_eq o (pos 0)) (eqb (length rest) 0) q.0 in
     let n : a.extent ≡ 0 = eqb-true a.extent 0 q.1 in
-    let s : a.stride ≡ pos 0 = eqZ-yes a.stride (pos 0) (subst T (sym p.1) tt) in
+    let s : a.stride ≡ pos 0 = int_eq-yes a.stride (pos 0) (subst T (sym p.1) tt) in
     record {
-      offset-zero = eqZ-yes o (pos 0) (subst T (sym r.0) tt);
+      offset-zero = int_eq-yes o (pos 0) (subst T (sym r.0) tt);
       one-axis = ap₂ (λ (x : Axis) (y : List Axis). x ∷ y) (λ i. record { extent = n i; stride = s i }) (no-rest rest (eqb-true (length rest) 0 r.1));
     }
   where
@@ -72,7 +73,7 @@ empty-tested b o (a ∷ rest) e =
 
 -- such a layout passes the test, is its own normal form, is not overfull and has no position
 empty-passes : (b : ℕ) {o : ℤ} {axes : List Axis} → EmptyForm o axes → isNormal (record { buffer = b; offset = o; axes = axes }) ≡ true
-unfolding isNormal eqZ
+unfolding isNormal
 empty-passes b f = ap₂ (λ (z : ℤ) (l : List Axis). isNormal (record { buffer = b; offset = z; axes = l })) f.offset-zero f.one-axis
 
 empty-record : (b : ℕ) {o : ℤ} {axes : List Axis} → EmptyForm o axes → NormalRecord (record { buffer = b; offset = o; axes = axes })
@@ -103,8 +104,8 @@ merged-record l e =
       normal = record { same-offset = ap (λ (x : LayoutM). x.offset) n; same-axes = ap (λ (x : LayoutM). x.axes) n ∙ normalAxes-own m };
       few = not-true (overfull l.axes) r.1;
       within = λ k h. let b = (reach_of l full).between k h in (
-        parts-le (omega (arith, le_parts b.0, leZ-true (pos 0) (lowest l) q.1)),
-        parts-le (omega (arith, le_parts b.1, leZ-true (highest l) (pos mostSigned) p.1)),
+        grind (arith, ints, b.0, q.1),
+        grind (arith, ints, b.1, p.1),
       );
     }
 
@@ -116,7 +117,9 @@ full-passes l e r =
     let w = reach_of l e in
     let low : pos 0 ≤ℤ lowest l = subst (λ (z : ℤ). pos 0 ≤ℤ z) w.low (r.within w.low-at w.low-is).0 in
     let high : highest l ≤ℤ pos mostSigned = subst (λ (z : ℤ). z ≤ℤ pos mostSigned) w.high (r.within w.high-at w.high_is).1 in
-    rw (normal-merged m, r.few, le-leZ (pos 0) (lowest l) (le_parts low), le-leZ (highest l) (pos mostSigned) (le_parts high)) (or-true (isEmptyForm l))
+    let low_tested : le_z (pos 0) (lowest l) ≡ true = grind (arith, ints, low) in
+    let high-tested : le_z (highest l) (pos mostSigned) ≡ true = grind (arith, ints, high) in
+    rw (normal-merged m, r.few, low_tested, high-tested) (or-true (isEmptyForm l))
 
 pub normal-tested : (l : LayoutM) → (isNormal l ≡ true) ↔ NormalRecord l
 unfolding isNormal

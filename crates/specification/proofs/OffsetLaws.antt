@@ -17,7 +17,6 @@ use Rattle.integer.specs.Multiple.{◌·◌}
 use Rattle.integer.specs.Parts.{posPart, negPart}
 use Rattle.integer.specs.Range.{fits, mostSigned}
 use Rattle.integer.proofs.MultipleLaws.{posPart-·, negPart-·}
-use Rattle.integer.proofs.PartLaws.{parts_add, parts-minus, parts-fit}
 use Rattle.specification.specs.Axis.{Axis, offsetSum, is_empty, upward, downward}
 use Rattle.specification.specs.Outcome.{Outcome, Check, done, refused, pass, refuseIf, ◌>>◌}
 use Rattle.specification.specs.Layout.{LayoutM, rank, Accepted, handed, HandedRefused}
@@ -157,18 +156,18 @@ module _ (sum : ℤ) (a : Axis) (rest : List Axis) (x : ℕ) (r : Room sum (a �
   room_next : Room (sum +ℤ x · a.stride) rest
   unfolding upward downward
   room_next = record {
-    low = omega (arith, r.low, product-down, parts_add sum (x · a.stride));
-    high = omega (arith, r.high, product-up, parts_add sum (x · a.stride));
+    low = omega (arith, ints, r.low, product-down);
+    high = omega (arith, ints, r.high, product-up);
   }
 
   -- so the product fits 64 bits
   product-fits : SFits w64 (x · a.stride)
   unfolding upward downward
-  product-fits = parts-fit (omega (arith, r.low, r.high, product-up)) (omega (arith, r.low, r.high, product-down))
+  product-fits = omega (arith, ints, r.low, r.high, product-up, product-down)
 
   -- and so does the next sum
   next_fits : SFits w64 (sum +ℤ x · a.stride)
-  next_fits = parts-fit (omega (arith, room_next.high)) (omega (arith, room_next.low))
+  next_fits = omega (arith, ints, room_next.low, room_next.high)
 
 -- indices below their extents up to i: product and sum of i fit
 fits-at : (sum : ℤ) (axes : List Axis) (index : List ℕ) (i : ℕ) → Room sum axes → length index ≡ length axes → i < length axes → ((j : ℕ) → j ≤ i → get_or index j 0 < (axisAt axes j).extent)
@@ -188,8 +187,8 @@ room : (l : LayoutM) → Accepted l → is_empty l.axes ≡ false → Room l.off
 room l accepted full =
     let w = accepted-within l full accepted in
     record {
-      low = omega (arith, w.w-low, parts-minus l.offset (pos (downward l.axes)));
-      high = omega (arith, w.w-most, parts_add l.offset (pos (upward l.axes)));
+      low = omega (arith, ints, w.w-low);
+      high = omega (arith, ints, w.w-most);
     }
 
 -- all that is claimed of the indexed offset

@@ -8,7 +8,7 @@ use native.Mathlib.Nat.{le-mul_of_pos_right}
 use native.Mathlib.Omega.{arith}
 use lib.Dec.{ltb}
 use lib.IntN.{ℤ, negsuc, nat_abs}
-use Rattle.integer.specs.Multiple.{eqZ}
+use Rattle.std.specs.Ordering.{int_eq}
 use Rattle.integer.specs.Parts.{posPart, negPart}
 use Rattle.integer.specs.Range.{fits, mostSigned}
 use Rattle.integer.proofs.MultipleLaws.{posPart-·, negPart-·, ·-zero}
@@ -73,7 +73,7 @@ one-in-range axes f e =
     rw (
       none-of-ones tooWide (λ s. refl) axes h,
       none-of-ones (λ a. not (fits (span a))) (λ s. ap (λ (z : ℤ). not (fits z)) (·-zero s)) axes h,
-      none-of-ones (λ a. active a && eqZ a.stride (negsuc mostSigned)) (λ s. refl) axes h,
+      none-of-ones (λ a. active a && int_eq a.stride (negsuc mostSigned)) (λ s. refl) axes h,
       up-of-ones axes h,
       down-of-ones axes h,
     )

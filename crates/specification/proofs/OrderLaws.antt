@@ -11,8 +11,8 @@ use borrow.Author.Tests.{ltb-false, lt-ltb, le-ltb, eq-eqb}
 use lib.Dec.{T, eqb, ltb}
 use lib.IntN.{ℤ, pos, nat_abs}
 use lib.ListN.{length, get_or, length-map}
-use Rattle.integer.specs.Multiple.{eqZ}
-use Rattle.integer.proofs.MultipleLaws.{eqZ-yes, eqZ-no}
+use Rattle.std.specs.Ordering.{int_eq}
+use Rattle.integer.proofs.MultipleLaws.{int_eq-no}
 use Rattle.specification.specs.Tests.{those}
 use Rattle.specification.specs.Outcome.{Check, done, refused, refuseIf, ◌>>◌}
 use Rattle.specification.specs.Layout.{tooLong}
@@ -24,20 +24,16 @@ use Rattle.std.proofs.lemmas.Int.{ints}
 
 -- the strides that the number of s counts
 abbrev below : ℤ → ℤ → Bool
-below s t = not (eqZ t (pos 0)) && ltb (nat_abs t) (nat_abs s)
+below s t = not (int_eq t (pos 0)) && ltb (nat_abs t) (nat_abs s)
 
 -- integers that differ, as a test
-ne-eqZ : (x y : ℤ) → x ≢ y → eqZ x y ≡ false
-ne-eqZ x y n = go (eqZ x y) (eqZ-yes x y)
-  where
-    go : (t : Bool) → (T t → x ≡ y) → t ≡ false
-    go true f = absurd (n (f tt))
-    go false f = refl
+ne-int_eq : (x y : ℤ) → x ≢ y → int_eq x y ≡ false
+ne-int_eq x y n = grind (arith, ints)
 
 -- the number of a stride that is not 0
 order-of-nonzero : (strides : List ℤ) (s : ℤ) → s ≢ pos 0 → orderAmong strides s ≡ 1 + length (those (below s) strides)
 unfolding orderAmong
-order-of-nonzero strides s n = rw (ne-eqZ s (pos 0) n)
+order-of-nonzero strides s n = rw (ne-int_eq s (pos 0) n)
 
 -- what is below a stride is below every stride that is no smaller
 below-mono : (s u : ℤ) → nat_abs s ≤ nat_abs u → (t : ℤ) → below s t ≡ true → below u t ≡ true
@@ -63,12 +59,12 @@ rises strides i j hi hj ni nj = rw (order-of-nonzero strides s ni, order-of-nonz
     upward h (no l) = absurd (omega (arith, those-no-more (below u) (below s) strides (below-mono u s (omega arith))))
 
     downward : nat_abs s < nat_abs u → 1 + length (those (below s) strides) < 1 + length (those (below u) strides)
-    downward h = omega (arith, those-fewer (below s) (below u) (pos 0) strides i hi (below-mono s u (omega arith)) (below_self s) (rw (ne-eqZ s (pos 0) ni, lt-ltb (nat_abs s) (nat_abs u) h)))
+    downward h = omega (arith, those-fewer (below s) (below u) (pos 0) strides i hi (below-mono s u (omega arith)) (below_self s) (rw (ne-int_eq s (pos 0) ni, lt-ltb (nat_abs s) (nat_abs u) h)))
 
 -- a number is from 1 to the number of strides: no stride is below itself
 from_one : (strides : List ℤ) (i : ℕ) → i < length strides → (1 ≤ orderAmong strides (get_or strides i (pos 0))) × (orderAmong strides (get_or strides i (pos 0)) ≤ length strides)
 unfolding orderAmong
-from_one strides i h = go (eqZ (get_or strides i (pos 0)) (pos 0))
+from_one strides i h = go (int_eq (get_or strides i (pos 0)) (pos 0))
   where
     s : ℤ
     s = get_or strides i (pos 0)
@@ -81,7 +77,7 @@ from_one strides i h = go (eqZ (get_or strides i (pos 0)) (pos 0))
 least-is-one : (strides : List ℤ) (i : ℕ) → i < length strides
     → ((j : ℕ) → j < length strides → get_or strides j (pos 0) ≢ pos 0 → nat_abs (get_or strides i (pos 0)) ≤ nat_abs (get_or strides j (pos 0))) → orderAmong strides (get_or strides i (pos 0)) ≡ 1
 unfolding orderAmong
-least-is-one strides i h least = go (eqZ s (pos 0))
+least-is-one strides i h least = go (int_eq s (pos 0))
   where
     s : ℤ
     s = get_or strides i (pos 0)
@@ -92,7 +88,7 @@ least-is-one strides i h least = go (eqZ s (pos 0))
 
     go : (t : Bool) → (if t then 1 else 1 + length (those (below s) strides)) ≡ 1
     go true = refl
-    go false = omega (arith, those-none (below s) (pos 0) strides (λ j b. none_below (eqZ (get_or strides j (pos 0)) (pos 0)) (get_or strides j (pos 0)) (eqZ-no (get_or strides j (pos 0)) (pos 0)) (least j b)))
+    go false = omega (arith, those-none (below s) (pos 0) strides (λ j b. none_below (int_eq (get_or strides j (pos 0)) (pos 0)) (get_or strides j (pos 0)) (int_eq-no (get_or strides j (pos 0)) (pos 0)) (least j b)))
 
 -- an entry of a list of answers is the answer to the entry
 get_d_map : {A : Type 0} (f : A → ℕ) (l : List A) (d : A) (i : ℕ) → i < length l → get_or (map f l) i 0 ≡ f (get_or l i d)
@@ -108,7 +104,7 @@ output strides before n e i h = rw (le-ltb 16 (length strides) n, eq-eqb (length
 
 -- stride 0 gives 1
 zero-is-one : (strides : List ℤ) → orderAmong strides (pos 0) ≡ 1
-unfolding orderAmong eqZ
+unfolding orderAmong
 zero-is-one strides = refl
 
 -- ---- refusals

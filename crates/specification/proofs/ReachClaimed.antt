@@ -10,7 +10,6 @@ use lib.IntN.{pos}
 use lib.Signed.{le_z, lt_z}
 use borrow.Author.Tests.{not-false}
 use Rattle.integer.specs.Range.{fits, mostSigned}
-use Rattle.integer.proofs.PartLaws.{le-ltZ, lt-leZ}
 use Rattle.specification.specs.Tests.{some}
 use Rattle.specification.specs.Axis.{Axis, positions, is_empty, span, upward, downward}
 use Rattle.specification.specs.Outcome.{pass, refused, refuseIf}
@@ -82,13 +81,7 @@ module _ (l : LayoutM) where
   unfolding fiveCases
   no-case e a w =
       let r = accepted-within l e a in
-      rw (
-        w,
-        spans-within l.axes (spans_fit l e a),
-        le-ltZ (pos mostSigned) (highest l) (omega (arith, r.w-most)),
-        le-ltZ (lowest l) (pos 0) (omega (arith, r.w-low)),
-        lt-leZ (pos l.buffer) (highest l) (omega (arith, r.w-in)),
-      )
+      grind (arith, ints, w, spans-within l.axes (spans_fit l e a), r.w-low, r.w-most, r.w-in)
 
   bounds-wide : bounds l ≡ pass → (is_empty l.axes ≡ true) ⊎ (some tooWide l.axes ≡ false)
   bounds-wide q = go (bounds-within l q)

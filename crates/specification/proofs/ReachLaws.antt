@@ -11,11 +11,10 @@ use lib.IntN.{ℤ, pos, negsuc, ◌+ℤ◌}
 use lib.Signed.{le_z, lt_z}
 use Rattle.integer.specs.Multiple.{◌·◌}
 use Rattle.integer.specs.Parts.{posPart, negPart}
-use Rattle.integer.proofs.MultipleLaws.{posPart-·, negPart-·}
-use Rattle.integer.proofs.PartLaws.{parts_add, parts-minus, parts-ext, leZ-false, le-leZ, ltZ-false, lt-ltZ, le_parts, parts-le, lt-parts, parts-lt}
+use Rattle.integer.proofs.MultipleLaws.{multiples, posPart-·, negPart-·}
 use Rattle.integer.specs.Range.{fits, mostSigned}
 use Rattle.specification.specs.Tests.{some}
-use Rattle.specification.specs.Axis.{Axis, extents, offsetSum, sum_at, is_empty, span, upward, downward}
+use Rattle.specification.specs.Axis.{Axis, extents, offsetSum, is_empty, span, upward, downward}
 use Rattle.specification.specs.Outcome.{pass, refuseIf}
 use Rattle.specification.specs.Layout.{LayoutM, rank, Accepted, lowest, highest, inReach}
 use Rattle.specification.specs.CheckIn.{tooWide, bounds}
@@ -68,12 +67,12 @@ high-box (AllPositive.more {a} h t) = ◌and◌ (high_lt a.extent a.stride h) (h
 low_sum : (l : List Axis) → posPart (offsetSum l (lowIndex l)) + downward l ≡ negPart (offsetSum l (lowIndex l))
 unfolding offsetSum downward
 low_sum [] = refl
-low_sum (a ∷ r) = omega (arith, low_sum r, one-low a.extent a.stride, parts_add (low_of a.extent a.stride · a.stride) (offsetSum r (lowIndex r)))
+low_sum (a ∷ r) = omega (arith, ints, low_sum r, one-low a.extent a.stride)
 
 high_sum : (l : List Axis) → posPart (offsetSum l (highIndex l)) ≡ upward l + negPart (offsetSum l (highIndex l))
 unfolding offsetSum upward
 high_sum [] = refl
-high_sum (a ∷ r) = omega (arith, high_sum r, one-high a.extent a.stride, parts_add (high_of a.extent a.stride · a.stride) (offsetSum r (highIndex r)))
+high_sum (a ∷ r) = omega (arith, ints, high_sum r, one-high a.extent a.stride)
 
 -- ---- none outside
 
@@ -82,14 +81,14 @@ unfolding offsetSum downward
 low-all [] empty = omega arith
 low-all (a ∷ r) (◌and◌ {i = i} {is = x} h b) =
     let k : i ≤ a.extent - 1 = omega arith in
-    omega (arith, low-all r b, parts_add (i · a.stride) (offsetSum r x), posPart-· i a.stride, negPart-· i a.stride, negPart-· (a.extent - 1) a.stride, mul-le-mul_right (negPart a.stride) k)
+    omega (arith, multiples, low-all r b, mul-le-mul_right (negPart a.stride) k)
 
 high-all : (l : List Axis) {x : List ℕ} → IndexVector (extents l) x → posPart (offsetSum l x) ≤ upward l + negPart (offsetSum l x)
 unfolding offsetSum upward
 high-all [] empty = omega arith
 high-all (a ∷ r) (◌and◌ {i = i} {is = x} h b) =
     let k : i ≤ a.extent - 1 = omega arith in
-    omega (arith, high-all r b, parts_add (i · a.stride) (offsetSum r x), posPart-· i a.stride, negPart-· i a.stride, posPart-· (a.extent - 1) a.stride, mul-le-mul_right (posPart a.stride) k)
+    omega (arith, multiples, high-all r b, mul-le-mul_right (posPart a.stride) k)
 
 -- ---- the claims
 
@@ -98,10 +97,10 @@ module _ (l : LayoutM) (e : is_empty l.axes ≡ false) where
   hp = full-pos l.axes e
 
   low-is : l.offset +ℤ offsetSum l.axes (lowIndex l.axes) ≡ lowest l
-  low-is = parts-ext (omega (arith, low_sum l.axes, parts_add l.offset (offsetSum l.axes (lowIndex l.axes)), parts-minus l.offset (pos (downward l.axes))))
+  low-is = omega (arith, ints, low_sum l.axes)
 
   high_is : l.offset +ℤ offsetSum l.axes (highIndex l.axes) ≡ highest l
-  high_is = parts-ext (omega (arith, high_sum l.axes, parts_add l.offset (offsetSum l.axes (highIndex l.axes)), parts_add l.offset (pos (upward l.axes))))
+  high_is = omega (arith, ints, high_sum l.axes)
 
   pub reach_of : Reach l
   reach_of = record {
@@ -112,14 +111,14 @@ module _ (l : LayoutM) (e : is_empty l.axes ≡ false) where
     high_is = place-lt l.axes (high-box hp);
     high = ap (λ (x : List ℕ). l.offset +ℤ offsetSum l.axes x) (indices-place l.axes (high-box hp)) ∙ high_is;
     between = λ k h. let b = indices-within hp k h in (
-      parts-le (omega (arith, low-all l.axes b, parts_add l.offset (sum_at l.axes k), parts-minus l.offset (pos (downward l.axes)))),
-      parts-le (omega (arith, high-all l.axes b, parts_add l.offset (sum_at l.axes k), parts_add l.offset (pos (upward l.axes)))),
+      omega (arith, ints, low-all l.axes b),
+      omega (arith, ints, high-all l.axes b),
     );
   }
 
 -- a value whose parts are small fits
 pub fits-small : (z : ℤ) → posPart z ≤ mostSigned → negPart z ≤ mostSigned → fits z ≡ true
-fits-small z p n = rw (le-leZ (negsuc mostSigned) z (omega arith), le-leZ z (pos mostSigned) (omega arith))
+fits-small z p n = grind (arith, ints)
 
 -- what the test says of a layout that is not empty
 pub record Within (l : LayoutM) : Type 0 where
@@ -134,7 +133,7 @@ pub tests : (l : LayoutM) → (le_z (pos 0) (lowest l) && le_z (highest l) (pos 
 tests l e = grind (arith, ints)
 
 pub untests : (l : LayoutM) → Within l → (le_z (pos 0) (lowest l) && le_z (highest l) (pos mostSigned) && lt_z (highest l) (pos l.buffer)) ≡ true
-untests l w = rw (le-leZ (pos 0) (lowest l) (omega (arith, w.w-low)), le-leZ (highest l) (pos mostSigned) (omega (arith, w.w-most)), lt-ltZ (highest l) (pos l.buffer) (omega (arith, w.w-in)))
+untests l w = grind (arith, ints, w.w-low, w.w-most, w.w-in)
 
 pub accepted-within : (l : LayoutM) → is_empty l.axes ≡ false → Accepted l → Within l
 accepted-within l e a =
@@ -142,16 +141,16 @@ accepted-within l e a =
     let lo = a.offsets r.low-at r.low-is in
     let hi = a.offsets r.high-at r.high_is in
     record {
-      w-low = omega (arith, le_parts (rw r.low at lo.from_zero));
-      w-most = omega (arith, le_parts (rw r.high at hi.to-most));
-      w-in = omega (arith, lt-parts (rw r.high at hi.in_buffer));
+      w-low = omega (arith, ints, rw r.low at lo.from_zero);
+      w-most = omega (arith, ints, rw r.high at hi.to-most);
+      w-in = omega (arith, ints, rw r.high at hi.in_buffer);
     }
 
 -- so the spans together fit
 pub spans_fit : (l : LayoutM) → is_empty l.axes ≡ false → Accepted l → upward l.axes + downward l.axes ≤ mostSigned
 spans_fit l e a =
     let w = accepted-within l e a in
-    omega (arith, w.w-low, w.w-most, parts-minus l.offset (pos (downward l.axes)), parts_add l.offset (pos (upward l.axes)))
+    omega (arith, ints, w.w-low, w.w-most)
 
 pub within-accepted : (l : LayoutM) → is_empty l.axes ≡ false → rank l ≤ 16 → Within l → Accepted l
 within-accepted l e n w =
@@ -159,9 +158,9 @@ within-accepted l e n w =
     record {
       few = n;
       offsets = λ k h. let b = r.between k h in record {
-        from_zero = parts-le (omega (arith, le_parts b.0, w.w-low));
-        to-most = parts-le (omega (arith, le_parts b.1, w.w-most));
-        in_buffer = parts-lt (omega (arith, le_parts b.1, w.w-in));
+        from_zero = omega (arith, ints, b.0, w.w-low);
+        to-most = omega (arith, ints, b.1, w.w-most);
+        in_buffer = omega (arith, ints, b.1, w.w-in);
       };
     }
 
@@ -194,17 +193,7 @@ unfolding bounds
 bounds-within l q = go (is_empty l.axes) refl q
   where
     within : (a b : Bool) → (a || b || lt_z (pos mostSigned) (highest l) || lt_z (lowest l) (pos 0) || le_z (pos l.buffer) (highest l)) ≡ false → (a ≡ false) × Within l
-    within a b e =
-        let w₁ = or-false (a || b || lt_z (pos mostSigned) (highest l) || lt_z (lowest l) (pos 0)) (le_z (pos l.buffer) (highest l)) e in
-        let w₂ = or-false (a || b || lt_z (pos mostSigned) (highest l)) (lt_z (lowest l) (pos 0)) w₁.0 in
-        let w₃ = or-false (a || b) (lt_z (pos mostSigned) (highest l)) w₂.0 in (
-          (or-false a b w₃.0).0,
-          record {
-            w-low = omega (arith, ltZ-false (lowest l) (pos 0) w₂.1);
-            w-most = omega (arith, ltZ-false (pos mostSigned) (highest l) w₃.1);
-            w-in = omega (arith, leZ-false (pos l.buffer) (highest l) w₁.1);
-          },
-        )
+    within a b e = grind (arith, ints)
 
     go : (t : Bool) → is_empty l.axes ≡ t
         → (if t then pass else refuseIf (some tooWide l.axes || some (λ a. not (fits (span a))) l.axes || lt_z (pos mostSigned) (highest l) || lt_z (lowest l) (pos 0) || le_z (pos l.buffer) (highest l)) 3 []) ≡ pass

@@ -11,7 +11,6 @@ use lib.ListN.{length, get_or}
 use lib.Signed.{◌≤ℤ◌, ◌<ℤ◌}
 use borrow.Author.Tests.{eqb-true, not-false}
 use Rattle.integer.specs.Parts.{posPart}
-use Rattle.integer.proofs.PartLaws.{le_parts, parts-lt}
 use Rattle.specification.specs.Axis.{positions, is_empty}
 use Rattle.specification.specs.Outcome.{done}
 use Rattle.specification.specs.Layout.{LayoutM, rank, offsetAt, Accepted, highest}
@@ -108,7 +107,7 @@ module _ (l : LayoutM) where
     where
       go : (t : Bool) → is_empty l.axes ≡ t → offsetAt l k <ℤ pos (withBuffer l).buffer
       go true e = absurd (omega (arith, empty-none l.axes e))
-      go false e = parts-lt (omega (arith, le_parts ((reach_of l e).between k h).1, buffer-full e))
+      go false e = omega (arith, ints, ((reach_of l e).between k h).1, buffer-full e)
 
   -- where none is below 0, one of them is just below it
   buffer-to-highest : ((k : ℕ) → k < positions l.axes → pos 0 ≤ℤ offsetAt l k) → BufferToHighest (withBuffer l)

@@ -1,20 +1,18 @@
 -- Steps 5 and 6 tell the truth of a block; each way that the search ends, with its count.
-use Rattle.std.specs.Prelude.{if◌then◌else◌}
+use Rattle.std.specs.Prelude.{Option, Some, None, if◌then◌else◌}
 use mathlib.Core.Path.{◌≡◌, refl, sym, ap, ◌∙◌}
 use mathlib.Core.Bool.{Bool, true, false}
-use mathlib.Core.Option.{Option, none, some}
 use mathlib.Core.List.{List, [], ◌∷◌}
 use Prim.Native.Nat.{ℕ, zero, suc, ◌+◌, ◌*◌, ◌-◌, ◌<◌, ◌≤◌}
 use native.Mathlib.Decide.{ℕ_discrete}
 use native.Mathlib.Omega.{arith}
-use lib.IntN.{ℤ, pos, nat_abs, ◌-ℤ◌, ◌*ℤ◌}
+use lib.IntN.{ℤ, pos, nat_abs, ◌-ℤ◌}
 use Rattle.integer.specs.Parts.{posPart, negPart}
-use Rattle.integer.proofs.PartLaws.{parts_add, posPart-scale, negPart-scale}
 use Rattle.specification.specs.Tests.{is_yes}
 use Rattle.specification.specs.Axis.{product, index_at}
 use Rattle.specification.specs.Search.{ActiveAxis, lengths, reach, spanSum, total, twoDistinct, widths, half, fromDigits, differenceAt, differenceSum, Completes, CompletesAt, first_of, SameSum}
 use Rattle.specification.specs.Decided.{completes?}
-use Rattle.integer.proofs.SignedEquation.{natAbs-of-shifted, negPart-of-natAbs, posPart-of-natAbs, shifted, parts-of-equation, equation-of-parts}
+use Rattle.integer.proofs.SignedEquation.{natAbs-of-shifted, negPart-of-natAbs, posPart-of-natAbs, shifted}
 use Rattle.specification.specs.Verdict.{Distinct, Repeated, Undecided, Plan, answered, enumerated, hit, placed, searched}
 use Rattle.specification.proofs.Positions.{IndexVector, empty, ◌and◌, place}
 use Rattle.specification.proofs.AbsoluteStrides.{SumsApart}
@@ -47,14 +45,7 @@ difference-parts : (l : List ActiveAxis) {d : List ℕ} → IndexVector (widths 
 unfolding differenceSum fromDigits reach spanSum
 difference-parts [] empty = refl
 difference-parts (a ∷ r) (◌and◌ {i = i} {is = d} h b) =
-    omega (
-      arith,
-      difference-parts r b,
-      parts_add ((pos i -ℤ pos (a.extent - 1)) *ℤ pos a.stride) (differenceSum r (fromDigits r d)),
-      posPart-scale (pos i -ℤ pos (a.extent - 1)) a.stride,
-      negPart-scale (pos i -ℤ pos (a.extent - 1)) a.stride,
-      ap (λ (k : ℕ). k * a.stride) (shifted i (a.extent - 1)),
-    )
+    omega (arith, ints, difference-parts r b, ap (λ (k : ℕ). k * a.stride) (shifted i (a.extent - 1)))
 
 module _ (a b : ActiveAxis) (z : ℤ) (t s : ℕ) (e : posPart z + s ≡ t + negPart z) (ha : 0 < a.extent) (hb : 0 < b.extent) where
   completes-solves : Completes a b z → Solves a b t ((a.extent - 1) * a.stride + ((b.extent - 1) * b.stride + s))
@@ -70,7 +61,7 @@ module _ (a b : ActiveAxis) (z : ℤ) (t s : ℕ) (e : posPart z + s ≡ t + neg
         v = posPart w.y + (b.extent - 1) - negPart w.y;
         uu = omega (arith, posPart-of-natAbs w.x (a.extent - 1) hx);
         vv = omega (arith, posPart-of-natAbs w.y (b.extent - 1) hy);
-        sum = omega (arith, parts-of-equation w.x w.y z a.stride b.stride w.to-zero, ap (λ (k : ℕ). k * a.stride) ex, ap (λ (k : ℕ). k * b.stride) ey);
+        sum = omega (arith, ints, w.to-zero, ap (λ (k : ℕ). k * a.stride) ex, ap (λ (k : ℕ). k * b.stride) ey);
       }
 
   solves-completes : Solves a b t ((a.extent - 1) * a.stride + ((b.extent - 1) * b.stride + s)) → Completes a b z
@@ -79,15 +70,14 @@ module _ (a b : ActiveAxis) (z : ℤ) (t s : ℕ) (e : posPart z + s ≡ t + neg
     y = pos w.v -ℤ pos (b.extent - 1);
     x_below = omega (arith, natAbs-of-shifted (pos w.u -ℤ pos (a.extent - 1)) w.u (a.extent - 1) (shifted w.u (a.extent - 1)) (omega (arith, w.uu)));
     y-below = omega (arith, natAbs-of-shifted (pos w.v -ℤ pos (b.extent - 1)) w.v (b.extent - 1) (shifted w.v (b.extent - 1)) (omega (arith, w.vv)));
-    to-zero = equation-of-parts (pos w.u -ℤ pos (a.extent - 1)) (pos w.v -ℤ pos (b.extent - 1)) z a.stride b.stride
-        (omega (arith, w.sum, e, ap (λ (k : ℕ). k * a.stride) (shifted w.u (a.extent - 1)), ap (λ (k : ℕ). k * b.stride) (shifted w.v (b.extent - 1))));
+    to-zero = omega (arith, ints, w.sum, e, ap (λ (k : ℕ). k * a.stride) (shifted w.u (a.extent - 1)), ap (λ (k : ℕ). k * b.stride) (shifted w.v (b.extent - 1)));
   }
 
 -- ---- the first place
 
 abbrev pub First : (ℕ → Bool) → ℕ → ℕ → Option ℕ → Type 0
-First test n c none = (d : ℕ) → c ≤ d → d < c + n → test d ≡ false
-First test n c (some p) = (c ≤ p) × (p < c + n) × (test p ≡ true) × ((d : ℕ) → c ≤ d → d < p → test d ≡ false)
+First test n c None = (d : ℕ) → c ≤ d → d < c + n → test d ≡ false
+First test n c (Some p) = (c ≤ p) × (p < c + n) × (test p ≡ true) × ((d : ℕ) → c ≤ d → d < p → test d ≡ false)
 
 pub first-of : (test : ℕ → Bool) (n c : ℕ) → First test n c (first_of test n c)
 unfolding first_of
@@ -98,10 +88,10 @@ first-of test (suc n) c = go (test c) refl (first_of test n (suc c)) (first-of t
     here d l n w (yes e) = rw (← e) n
     here d l n w (no e) = w (omega arith)
 
-    go : (x : Bool) → test c ≡ x → (o : Option ℕ) → First test n (suc c) o → First test (suc n) c (if x then some c else o)
+    go : (x : Bool) → test c ≡ x → (o : Option ℕ) → First test n (suc c) o → First test (suc n) c (if x then Some c else o)
     go true e o w = (omega arith, omega arith, e, λ d l h. absurd (omega arith))
-    go false e none w = λ d l h. here d l e (λ m. w d m (omega arith)) (ℕ_discrete c d)
-    go false e (some p) w = (omega (arith, w.0), omega (arith, w.1), w.2, λ d l h. here d l e (λ m. w.3 d m h) (ℕ_discrete c d))
+    go false e None w = λ d l h. here d l e (λ m. w d m (omega arith)) (ℕ_discrete c d)
+    go false e (Some p) w = (omega (arith, w.0), omega (arith, w.1), w.2, λ d l h. here d l e (λ m. w.3 d m h) (ℕ_discrete c d))
 
 yes-is : {P : Type 0} (d : Dec P) → is_yes d ≡ true → P
 yes-is d e = grind (arith, ints)
@@ -131,9 +121,9 @@ unfolding searched placed
 search-end a b others = go (twoDistinct a b) refl
   where
     fin : twoDistinct a b ≡ true → (o : Option ℕ) → First (hit a b others) (half others) 1 o → SearchEnd a b others (placed others o)
-    fin e none w = exhausted e (λ d h. hit-no a b others (suc d) (w (suc d) (omega arith) (omega arith)))
-    fin e (some zero) w = absurd (omega (arith, w.0))
-    fin e (some (suc c)) w = completed {c = c} e (omega (arith, w.1)) (hit-yes a b others (suc c) w.2) (λ d h. hit-no a b others (suc d) (w.3 (suc d) (omega arith) (omega arith)))
+    fin e None w = exhausted e (λ d h. hit-no a b others (suc d) (w (suc d) (omega arith) (omega arith)))
+    fin e (Some zero) w = absurd (omega (arith, w.0))
+    fin e (Some (suc c)) w = completed {c = c} e (omega (arith, w.1)) (hit-yes a b others (suc c) w.2) (λ d h. hit-no a b others (suc d) (w.3 (suc d) (omega arith) (omega arith)))
 
     go : (t : Bool) → twoDistinct a b ≡ t → SearchEnd a b others (if t then placed others (first_of (hit a b others) (half others) 1) else answered Repeated 0)
     go true e = fin e (first_of (hit a b others) (half others) 1) (first-of (hit a b others) (half others) 1)

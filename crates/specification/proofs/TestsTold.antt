@@ -3,19 +3,18 @@ use Rattle.std.specs.Prelude.{if◌then◌else◌}
 use mathlib.Core.Bool.{Bool, true, false, not, ◌&&◌, ◌||◌}
 use mathlib.Core.List.{List, [], ◌∷◌}
 use mathlib.Core.Logic.{◌⊎◌, inl, inr, ◌↔◌}
-use mathlib.Core.Path.{◌≡◌, refl, sym, subst}
+use mathlib.Core.Path.{◌≡◌, refl}
 use Prim.Native.Nat.{ℕ, zero, suc, ◌-◌, ◌^◌, ◌<◌, ◌≤◌}
 use native.Mathlib.Omega.{arith}
-use lib.Dec.{T, eqb, ltb, leb}
+use lib.Dec.{eqb, ltb, leb}
 use lib.IntN.{ℤ, pos, negsuc, neg_ℤ}
 use lib.ListN.{length}
 use mir.Syntax.{w64}
 use mir.Val.{SFits}
 use borrow.Author.Tests.{ltb-true, lt-ltb, leb-true, le-leb, eqb-true, eq-eqb}
-use Rattle.integer.specs.Multiple.{eqZ}
+use Rattle.std.specs.Ordering.{int_eq}
 use Rattle.integer.specs.Range.{fits, mostSigned, mostUnsigned}
-use Rattle.integer.proofs.CheckedLaws.{fits-of-sfits, sfits-of-fits}
-use Rattle.integer.proofs.MultipleLaws.{eqZ-yes, eqZ-no}
+use Rattle.integer.proofs.PartLaws.{fits-of-sfits, sfits-of-fits}
 use Rattle.specification.specs.Tests.{some}
 use Rattle.specification.specs.Axis.{Axis, positions, is_empty, active, span, upward, downward}
 use Rattle.specification.specs.CheckIn.{tooWide}
@@ -25,6 +24,7 @@ use Rattle.specification.specs.Verdict.{outOfRange}
 use Rattle.specification.specs.TestClaims.{SomeAxis, OutOfRange, wide, span-out, upward-out, downward-out, least-stride, TestClaims}
 use Rattle.specification.proofs.ReachLaws.{and-true}
 use Rattle.specification.proofs.TestLaws.{true-not-false}
+use Rattle.std.proofs.lemmas.Bool.Decides.{Decides-int_eq}
 use Rattle.std.proofs.lemmas.Int.{ints}
 
 -- ---- tests on tests
@@ -47,12 +47,8 @@ leb-holds a b = (leb-true a b, le-leb a b)
 pub eqb-holds : (a b : ℕ) → (eqb a b ≡ true) ↔ (a ≡ b)
 eqb-holds a b = (eqb-true a b, eq-eqb a b)
 
-eqZ-holds : (x y : ℤ) → (eqZ x y ≡ true) ↔ (x ≡ y)
-eqZ-holds x y = (λ e. eqZ-yes x y (subst T (sym e) tt), λ e. by (eqZ x y) (eqZ-no x y) e)
-  where
-    by : (t : Bool) → (T (not t) → ¬ (x ≡ y)) → x ≡ y → t ≡ true
-    by true f e = refl
-    by false f e = absurd (f tt e)
+int_eq-holds : (x y : ℤ) → (int_eq x y ≡ true) ↔ (x ≡ y)
+int_eq-holds x y = Decides-int_eq x y
 
 pub in-range : (z : ℤ) → (fits z ≡ true) ↔ SFits w64 z
 in-range z = (sfits-of-fits z, fits-of-sfits z)
@@ -82,8 +78,8 @@ pub too_wide : (axes : List Axis) → (some tooWide axes ≡ true) ↔ SomeAxis 
 too_wide = some-axis tooWide (λ a. and-holds (active a) (ltb mostSigned (a.extent - 1)) (ltb-holds 1 a.extent) (ltb-holds mostSigned (a.extent - 1)))
 
 -- an active axis of stride s
-active-stride : (s : ℤ) (axes : List Axis) → (some (λ a. active a && eqZ a.stride s) axes ≡ true) ↔ SomeAxis axes (λ a. (1 < a.extent) × (a.stride ≡ s))
-active-stride s = some-axis (λ a. active a && eqZ a.stride s) (λ a. and-holds (active a) (eqZ a.stride s) (ltb-holds 1 a.extent) (eqZ-holds a.stride s))
+active-stride : (s : ℤ) (axes : List Axis) → (some (λ a. active a && int_eq a.stride s) axes ≡ true) ↔ SomeAxis axes (λ a. (1 < a.extent) × (a.stride ≡ s))
+active-stride s = some-axis (λ a. active a && int_eq a.stride s) (λ a. and-holds (active a) (int_eq a.stride s) (ltb-holds 1 a.extent) (int_eq-holds a.stride s))
 
 over : (axes : List Axis) → (overfull axes ≡ true) ↔ (¬ (SomeAxis axes (λ a. a.extent ≡ 0))) × (mostUnsigned < positions axes)
 unfolding overfull

@@ -1,17 +1,17 @@
 -- Two axes: by step 4's rule they collide exactly if two index vectors have one sum, and exactly if a difference that is not zero sums to 0.
-use mathlib.Core.Path.{◌≡◌, sym, ap, subst, ◌∙◌}
+use mathlib.Core.Path.{◌≡◌, sym, ap, subst}
 use mathlib.Core.Bool.{Bool, true, false, not, ◌||◌}
 use mathlib.Core.Logic.{◌≢◌}
 use mathlib.Core.List.{List, [], ◌∷◌}
 use Prim.Native.Nat.{ℕ, ◌+◌, ◌*◌, ◌/◌, ◌<◌}
 use native.Mathlib.Omega.{arith}
 use lib.Dec.{T, leb, leb→le, nleb→lt}
-use lib.IntN.{ℤ, pos, nat_abs, ◌-ℤ◌, +ℤ_idr}
+use lib.IntN.{ℤ, pos, nat_abs, ◌-ℤ◌}
 use Rattle.integer.specs.Gcd.{gcd}
 use Rattle.integer.specs.Parts.{posPart, negPart}
 use Rattle.integer.proofs.Meeting.{Meet, meet-if, meet-only-if}
-use Rattle.integer.proofs.PartLaws.{parts-ext, natAbs-parts}
-use Rattle.integer.proofs.SignedEquation.{shifted, parts-of-equation, equation-of-parts}
+use Rattle.integer.proofs.PartLaws.{natAbs-parts}
+use Rattle.integer.proofs.SignedEquation.{shifted}
 use Rattle.specification.specs.Search.{ActiveAxis, lengths, reach, twoDistinct}
 use Rattle.specification.specs.CountClaims.{TwoCollide}
 use Rattle.specification.proofs.Positions.{IndexVector, empty, ◌and◌}
@@ -60,10 +60,10 @@ below_both : (z : ℤ) (i j d : ℕ) → posPart z + j ≡ i + negPart z → i <
 below_both z i j d e h k = grind (arith, ints)
 
 no_difference : (i j : ℕ) → pos i -ℤ pos j ≡ pos 0 → i ≡ j
-no_difference i j e = omega (arith, shifted i j, ap posPart e, ap negPart e)
+no_difference i j e = omega (arith, ints)
 
 no-parts : (z : ℤ) → posPart z ≡ negPart z → z ≡ pos 0
-no-parts z e = parts-ext (omega arith)
+no-parts z e = omega (arith, ints)
 
 meet-collide : (a b : ActiveAxis) → Meeting a b → TwoCollide a b
 meet-collide a b m = record {
@@ -72,8 +72,7 @@ meet-collide a b m = record {
   x_below = below_both (pos m.i₁ -ℤ pos m.j₁) m.i₁ m.j₁ a.extent (shifted m.i₁ m.j₁) m.i₁-below m.j₁-below;
   y-below = below_both (pos m.i₂ -ℤ pos m.j₂) m.i₂ m.j₂ b.extent (shifted m.i₂ m.j₂) m.i₂-below m.j₂-below;
   not-both = λ w. m.other (no_difference m.i₁ m.j₁ w.0, no_difference m.i₂ m.j₂ w.1);
-  to-zero = sym (+ℤ_idr _) ∙ equation-of-parts (pos m.i₁ -ℤ pos m.j₁) (pos m.i₂ -ℤ pos m.j₂) (pos 0) a.stride b.stride
-      (omega (arith, m.same, ap (λ (k : ℕ). k * a.stride) (shifted m.i₁ m.j₁), ap (λ (k : ℕ). k * b.stride) (shifted m.i₂ m.j₂)));
+  to-zero = omega (arith, ints, m.same, ap (λ (k : ℕ). k * a.stride) (shifted m.i₁ m.j₁), ap (λ (k : ℕ). k * b.stride) (shifted m.i₂ m.j₂));
 }
 
 collide-meet : (a b : ActiveAxis) → TwoCollide a b → Meeting a b
@@ -87,7 +86,7 @@ collide-meet a b w = record {
   j₁-below = omega (arith, w.x_below, natAbs-parts w.x);
   j₂-below = omega (arith, w.y-below, natAbs-parts w.y);
   other = λ e. w.not-both (no-parts w.x e.0, no-parts w.y e.1);
-  same = omega (arith, parts-of-equation w.x w.y (pos 0) a.stride b.stride (+ℤ_idr _ ∙ w.to-zero));
+  same = omega (arith, ints, w.to-zero);
 }
 
 -- ---- the rule
@@ -96,7 +95,7 @@ module _ (a b : ActiveAxis) (ha : 0 < a.stride) (hb : 0 < b.stride) where
   rule-apart : twoDistinct a b ≡ true → ¬ (Meeting a b)
   unfolding twoDistinct
   rule-apart e m =
-      let w = meet-only-if a.stride a.extent b.stride b.extent ha hb m in
+      let w = meet-only-if a.stride b.stride ha hb a.extent b.extent m in
       go (leb a.extent (b.stride / gcd a.stride b.stride)) (leb b.extent (a.stride / gcd a.stride b.stride))
       (λ t. omega (arith, leb→le a.extent (b.stride / gcd a.stride b.stride) t, w.0)) (λ t. omega (arith, leb→le b.extent (a.stride / gcd a.stride b.stride) t, w.1)) e
     where
@@ -113,7 +112,7 @@ module _ (a b : ActiveAxis) (ha : 0 < a.stride) (hb : 0 < b.stride) where
       go : (x y : Bool) → (T (not x) → b.stride / gcd a.stride b.stride < a.extent) → (T (not y) → a.stride / gcd a.stride b.stride < b.extent) → (x || y) ≡ false → Meeting a b
       go true y f g e = absurd (subst T e tt)
       go false true f g e = absurd (subst T e tt)
-      go false false f g e = meet-if a.stride a.extent b.stride b.extent ha hb (f tt) (g tt)
+      go false false f g e = meet-if a.stride b.stride ha hb a.extent b.extent (f tt) (g tt)
 
   pub no-pair-of-two : twoDistinct a b ≡ true → ¬ (EqualSums (a ∷ b ∷ []))
   no-pair-of-two e p = rule-apart e (pair-meet a b p)

@@ -11,8 +11,7 @@ use lib.ListN.{length, get_or}
 use borrow.Author.Tests.{eqb-true, not-false}
 use Rattle.integer.specs.Multiple.{◌·◌}
 use Rattle.integer.specs.Parts.{posPart, negPart}
-use Rattle.integer.proofs.MultipleLaws.{posPart-·, negPart-·}
-use Rattle.integer.proofs.PartLaws.{parts_add, parts-ext}
+use Rattle.integer.proofs.MultipleLaws.{multiples}
 use Rattle.specification.specs.Tests.{some}
 use Rattle.specification.specs.Axis.{Axis, offsetSum}
 use Rattle.specification.specs.Outcome.{Check, pass, refuseIf, ◌>>◌}
@@ -43,10 +42,10 @@ pub parts : (l : List Axis) (x : List ℕ) → posPart (offsetSum l x) + weigh n
 unfolding offsetSum weigh
 parts [] x = refl
 parts (a ∷ r) [] = refl
-parts (a ∷ r) (i ∷ x) = omega (arith, parts r x, parts_add (i · a.stride) (offsetSum r x), posPart-· i a.stride, negPart-· i a.stride)
+parts (a ∷ r) (i ∷ x) = omega (arith, multiples, parts r x)
 
 same_parts : (l m : List Axis) (x y : List ℕ) → weigh posPart l x ≡ weigh posPart m y → weigh negPart l x ≡ weigh negPart m y → offsetSum l x ≡ offsetSum m y
-same_parts l m x y p n = parts-ext (omega (arith, parts l x, parts m y))
+same_parts l m x y p n = omega (arith, ints, parts l x, parts m y)
 
 pub by-axis : (g : ℤ → ℕ) (l : List Axis) (x : List ℕ) → length x ≡ length l → left (λ i. get_or x i 0 * g (axisAt l i).stride) [] 0 (length l) ≡ weigh g l x
 unfolding left some weigh
@@ -82,7 +81,7 @@ spread-sum (a ∷ r) (t ∷ ts) [] h k = absurd (omega arith)
 spread-sum (a ∷ r) (t ∷ ts) (i ∷ x) h k = go (eqb a.extent t) (spread-sum r ts x (omega arith) (omega arith))
   where
     still : (s : ℤ) → i · pos 0 ≡ 0 · s
-    still s = parts-ext (omega (arith, posPart-· i (pos 0), negPart-· i (pos 0), posPart-· 0 s, negPart-· 0 s))
+    still s = omega (arith, multiples)
 
     new : Bool → Axis
     new u = if u then a else record { extent = t; stride = pos 0 }

@@ -10,10 +10,9 @@ use lib.Dec.{T, eqb, ltb}
 use lib.IntN.{ℤ, pos, negsuc, neg_ℤ}
 use lib.ListN.{length}
 use borrow.Author.Tests.{ltb-true, le-ltb}
-use Rattle.integer.specs.Multiple.{eqZ}
+use Rattle.std.specs.Ordering.{int_eq}
 use Rattle.integer.specs.Parts.{posPart, negPart}
-use Rattle.integer.proofs.MultipleLaws.{posPart-·, negPart-·, eqZ-yes}
-use Rattle.integer.proofs.PartLaws.{posPart-neg, negPart-neg}
+use Rattle.integer.proofs.MultipleLaws.{posPart-·, negPart-·, int_eq-yes}
 use Rattle.integer.specs.Range.{fits, mostSigned, mostUnsigned}
 use Rattle.specification.specs.Tests.{some, those}
 use Rattle.specification.specs.Axis.{Axis, positions, is_empty, active, span, upward, downward}
@@ -89,11 +88,10 @@ form-eight l a o = rw (handed-pass l a, o)
 -- ---- an accepted layout is not out of range
 
 -- an axis that moves spans at least its extent minus 1
-moves-span : (a : Axis) → eqZ a.stride (pos 0) ≡ false → a.extent - 1 ≤ posPart (span a) + negPart (span a)
-unfolding eqZ
+moves-span : (a : Axis) → int_eq a.stride (pos 0) ≡ false → a.extent - 1 ≤ posPart (span a) + negPart (span a)
 moves-span a e = rw (posPart-· (a.extent - 1) a.stride, negPart-· (a.extent - 1) a.stride) (go a.stride e)
   where
-    go : (s : ℤ) → eqZ s (pos 0) ≡ false → a.extent - 1 ≤ (a.extent - 1) * posPart s + (a.extent - 1) * negPart s
+    go : (s : ℤ) → int_eq s (pos 0) ≡ false → a.extent - 1 ≤ (a.extent - 1) * posPart s + (a.extent - 1) * negPart s
     go (pos zero) e = absurd (subst T e tt)
     go (pos (suc n)) e = omega arith
     go (negsuc n) e = omega arith
@@ -109,7 +107,7 @@ least-spans a h e =
 record AxisInRange (a : Axis) : Type 0 where
   not_wide : tooWide a ≡ false
   span-in : not (fits (span a)) ≡ false
-  not_least : (active a && eqZ a.stride (negsuc mostSigned)) ≡ false
+  not_least : (active a && int_eq a.stride (negsuc mostSigned)) ≡ false
 
 axis-in-range : (a : Axis) → still a ≡ false → posPart (span a) + negPart (span a) ≤ mostSigned → AxisInRange a
 axis-in-range a s h = go (active a) refl s
@@ -117,11 +115,11 @@ axis-in-range a s h = go (active a) refl s
     span_fits : not (fits (span a)) ≡ false
     span_fits = ap not (fits-small (span a) (omega arith) (omega arith))
 
-    go : (t : Bool) → active a ≡ t → (t && eqZ a.stride (pos 0)) ≡ false → AxisInRange a
+    go : (t : Bool) → active a ≡ t → (t && int_eq a.stride (pos 0)) ≡ false → AxisInRange a
     go true p e = record {
       not_wide = rw (p, le-ltb mostSigned (a.extent - 1) (omega (arith, moves-span a e)));
       span-in = span_fits;
-      not_least = rw (p, false-unless (eqZ a.stride (negsuc mostSigned)) (λ t. eqZ-yes a.stride (negsuc mostSigned) (subst T (sym t) tt)) (λ s. omega (arith, least-spans a p s)));
+      not_least = rw (p, false-unless (int_eq a.stride (negsuc mostSigned)) (λ t. int_eq-yes a.stride (negsuc mostSigned) (subst T (sym t) tt)) (λ s. omega (arith, least-spans a p s)));
     }
     go false p e = record { not_wide = rw p; span-in = span_fits; not_least = rw p }
 
@@ -129,7 +127,7 @@ axis-in-range a s h = go (active a) refl s
 record AllInRange (axes : List Axis) : Type 0 where
   none-wide : some tooWide axes ≡ false
   spans-in : some (λ a. not (fits (span a))) axes ≡ false
-  none-least : some (λ a. active a && eqZ a.stride (negsuc mostSigned)) axes ≡ false
+  none-least : some (λ a. active a && int_eq a.stride (negsuc mostSigned)) axes ≡ false
 
 all-in-range : (axes : List Axis) → some still axes ≡ false → upward axes + downward axes ≤ mostSigned → AllInRange axes
 unfolding some upward downward
@@ -150,7 +148,7 @@ in-range l a e s =
       c.spans-in,
       c.none-least,
       fits-small (pos (upward l.axes)) (omega arith) (omega arith),
-      fits-small (neg_ℤ (pos (downward l.axes))) (omega (arith, posPart-neg (pos (downward l.axes)))) (omega (arith, negPart-neg (pos (downward l.axes)))),
+      fits-small (neg_ℤ (pos (downward l.axes))) (omega (arith, ints)) (omega (arith, ints)),
     )
 
 -- so steps 1 to 5 refuse nothing but 8

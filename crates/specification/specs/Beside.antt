@@ -1,6 +1,7 @@
 -- Beside it: dense strides, index order, indexed offset.
 use Rattle.std.specs.Prelude.{Bool, not, ◌&&◌, ◌||◌, List, [], ◌∷◌, map, reverse, ℕ, suc, ◌+◌, ◌*◌, eqb, ltb, leb, ℤ, pos, nat_abs, ◌+ℤ◌, length, if◌then◌else◌}
-use Rattle.integer.specs.Multiple.{◌·◌, eqZ}
+use Rattle.integer.specs.Multiple.{◌·◌}
+use Rattle.std.specs.Ordering.{int_eq}
 use Rattle.integer.specs.Range.{fits, mostSigned}
 use Rattle.specification.specs.Tests.{some, those}
 use Rattle.specification.specs.Axis.{Axis}
@@ -43,8 +44,8 @@ rowMajor extents = do
 -- stride 0 gives 1, else 1 + the nonzero strides of smaller absolute value
 unfoldable pub orderAmong : List ℤ → ℤ → ℕ
 orderAmong strides s =
-    if eqZ s (pos 0) then 1
-    else 1 + length (those (λ t. not (eqZ t (pos 0)) && ltb (nat_abs t) (nat_abs s)) strides)
+    if int_eq s (pos 0) then 1
+    else 1 + length (those (λ t. not (int_eq t (pos 0)) && ltb (nat_abs t) (nat_abs s)) strides)
 
 -- `room` is the length of `out`
 unfoldable pub indexOrder : List ℤ → ℕ → Outcome (List ℕ)

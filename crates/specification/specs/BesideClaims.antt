@@ -1,7 +1,7 @@
 -- Claims on what stands beside: dense strides, index order, indexed offset.
 use Rattle.std.specs.Prelude.{false, List, [], ◌∷◌, reverse, ◌≢◌, ◌⊎◌, ◌↔◌, ◌≡◌, ℕ, suc, ◌*◌, ◌<◌, ◌≤◌, ℤ, pos, nat_abs, ◌+ℤ◌, length, take, get_or}
 use Rattle.std.specs.Int.{w64}
-use Rattle.std.proofs.Common.{SFits}
+use Rattle.std.specs.Prelude.{FitsSigned}
 use Rattle.integer.specs.Multiple.{◌·◌}
 use Rattle.integer.specs.Range.{mostSigned}
 use Rattle.specification.specs.Axis.{axesOf, product, offsetSum, sum_at, is_empty}
@@ -73,8 +73,8 @@ sumBefore l index i = l.offset +ℤ offsetSum (take i l.axes) index
 -- index i is below 2^63, and its product and the running sum past it are in 64 bits signed
 pub record InRange (l : LayoutM) (index : List ℕ) (i : ℕ) : Type 0 where
   pub index-fits : get_or index i 0 ≤ mostSigned
-  pub product-fits : SFits w64 (get_or index i 0 · (axisAt l.axes i).stride)
-  pub sum_fits : SFits w64 (sumBefore l index (suc i))
+  pub product-fits : FitsSigned w64 (get_or index i 0 · (axisAt l.axes i).stride)
+  pub sum_fits : FitsSigned w64 (sumBefore l index (suc i))
 
 -- index i is below its extent and in range
 pub record GoodIndex (l : LayoutM) (index : List ℕ) (i : ℕ) : Type 0 where

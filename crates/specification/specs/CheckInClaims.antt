@@ -1,7 +1,7 @@
 -- Claims on check-in and on the call of the normal form: what each answers, and each refusal exactly where 01 has it.
 use Rattle.std.specs.Prelude.{true, false, List, [], ◌≢◌, ◌⊎◌, ◌↔◌, ◌≡◌, ℕ, ◌-◌, ◌<◌, ◌≤◌, ℤ, pos, length, ◌≤ℤ◌, ◌<ℤ◌}
 use Rattle.std.specs.Int.{w64}
-use Rattle.std.proofs.Common.{SFits}
+use Rattle.std.specs.Prelude.{FitsSigned}
 use Rattle.integer.specs.Range.{mostSigned}
 use Rattle.specification.specs.Axis.{axesOf, is_empty, span}
 use Rattle.specification.specs.Outcome.{done, refused}
@@ -15,7 +15,7 @@ pub data OutOfBounds (l : LayoutM) : Type 0 where
   -- an active extent minus 1 exceeds 2^63 - 1
   wide : SomeAxis l.axes (λ a. (1 < a.extent) × (mostSigned < a.extent - 1)) → OutOfBounds l
   -- an axis span leaves 64 bits signed
-  span-out : SomeAxis l.axes (λ a. ¬ (SFits w64 (span a))) → OutOfBounds l
+  span-out : SomeAxis l.axes (λ a. ¬ (FitsSigned w64 (span a))) → OutOfBounds l
   -- offset plus the positive spans passes 2^63 - 1
   too-high : pos mostSigned <ℤ highest l → OutOfBounds l
   -- offset plus the negative spans is below 0

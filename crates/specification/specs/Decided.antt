@@ -3,7 +3,8 @@
 use Rattle.std.specs.Prelude.{Bool, true, false, not, List, ◌⊎◌, ◌≡◌, refl, ℕ, ◌+◌, ◌-◌, ◌*◌, ◌<◌, ◌≤◌, T, ltb, ℤ, pos, negsuc, ◌-ℤ◌}
 use Rattle.std.proofs.Common.{inl, inr, arith, ltb→lt, nltb→le}
 use Rattle.std.proofs.Math.Decide.{ℕ_discrete}
-use Rattle.integer.proofs.BoundedEquation.{Solution, solution?}
+use Rattle.integer.specs.Equation.{Solution}
+use Rattle.integer.proofs.BoundedEquation.{solution?}
 use Rattle.integer.proofs.Decide.{find}
 use Rattle.integer.proofs.SignedEquation.{natAbs-of-shifted, shifted, signed-of-solution, solution-of-signed, no-signed-above}
 use Rattle.specification.specs.Axis.{index_at}

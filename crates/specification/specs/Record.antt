@@ -1,7 +1,7 @@
 -- The record of a layout (added): its bytes, the writer, the reader, and stepping over.
 use Rattle.std.specs.Prelude.{Bool, true, false, not, ◌&&◌, ◌||◌, List, [], ◌∷◌, ◌++◌, ◌≡◌, ℕ, zero, suc, ◌+◌, ◌-◌, ◌*◌, ◌/◌, ◌%◌, ◌^◌, eqb, ltb, leb, ℤ, pos, negsuc, length, drop, get_or, if◌then◌else◌}
 use Rattle.std.specs.Int.Signed.{le_z}
-use Rattle.integer.specs.Multiple.{eqZ}
+use Rattle.std.specs.Ordering.{int_eq}
 use Rattle.integer.specs.Parts.{posPart}
 use Rattle.integer.specs.Range.{mostSigned}
 use Rattle.specification.specs.Axis.{Axis, is_empty}
@@ -116,7 +116,7 @@ isMerged (a ∷ b ∷ rest) = ltb 1 a.extent && not (continues a b) && isMerged 
 abbrev pub isEmptyForm : LayoutM → Bool
 isEmptyForm l = elim l.axes [
   | [] ↦ false
-  | a ∷ rest ↦ eqZ l.offset (pos 0) && eqb (length rest) 0 && eqb a.extent 0 && eqZ a.stride (pos 0)
+  | a ∷ rest ↦ int_eq l.offset (pos 0) && eqb (length rest) 0 && eqb a.extent 0 && int_eq a.stride (pos 0)
 ]
 
 -- a normal form whose positions are at most 2^64 - 1 with offsets within 0 to 2^63 - 1

@@ -1,7 +1,7 @@
 -- Claims on the tests that the rules are said with: each holds exactly if 01's words for it do.
 use Rattle.std.specs.Prelude.{true, List, ◌↔◌, ◌≡◌, ℕ, ◌-◌, ◌^◌, ◌<◌, ℤ, pos, negsuc, length}
 use Rattle.std.specs.Int.{w64}
-use Rattle.std.proofs.Common.{SFits}
+use Rattle.std.specs.Prelude.{FitsSigned}
 use Rattle.integer.specs.Range.{fits, mostSigned, mostUnsigned}
 use Rattle.specification.specs.Tests.{some}
 use Rattle.specification.specs.Axis.{Axis, positions, is_empty, span, upward, downward}
@@ -21,7 +21,7 @@ pub data OutOfRange (axes : List Axis) : Type 0 where
   -- an active extent minus 1 above 2^63 - 1
   wide : SomeAxis axes (λ a. (1 < a.extent) × (mostSigned < a.extent - 1)) → OutOfRange axes
   -- an axis span out of 64 bits signed
-  span-out : SomeAxis axes (λ a. ¬ (SFits w64 (span a))) → OutOfRange axes
+  span-out : SomeAxis axes (λ a. ¬ (FitsSigned w64 (span a))) → OutOfRange axes
   -- the positive spans summing above 2^63 - 1
   upward-out : mostSigned < upward axes → OutOfRange axes
   -- the negative spans summing below -2^63
@@ -31,7 +31,7 @@ pub data OutOfRange (axes : List Axis) : Type 0 where
 
 pub record TestClaims : Type 0 where
   -- 64 bits signed
-  pub in-range : (z : ℤ) → (fits z ≡ true) ↔ SFits w64 z
+  pub in-range : (z : ℤ) → (fits z ≡ true) ↔ FitsSigned w64 z
   -- a zero extent
   pub empty : (axes : List Axis) → (is_empty axes ≡ true) ↔ SomeAxis axes (λ a. a.extent ≡ 0)
   -- not empty, and over 2^64 - 1 positions

@@ -4,8 +4,6 @@ ghost use Rattle.std.specs.Char.{is_ascii_digit};
 ghost use Rattle.std.specs.List.{list_all};
 ghost use Rattle.spelling.specs.Number.{unsignedOf, signed_of};
 
-use integer::signed::{checked_negative, checked_positive};
-
 // The sign in front of a negative number.
 const MINUS: u8 = b'-';
 
@@ -40,7 +38,7 @@ pub fn read_signed(text: &[u8]) -> Option<i64>
 {
     match text {
         [] => None,
-        [MINUS, digits @ ..] => checked_negative(read_unsigned(digits)?),
-        [_, ..] => checked_positive(read_unsigned(text)?),
+        [MINUS, digits @ ..] => 0i64.checked_sub_unsigned(read_unsigned(digits)?),
+        [_, ..] => i64::try_from(read_unsigned(text)?).ok(),
     }
 }

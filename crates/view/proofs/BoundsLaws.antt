@@ -4,14 +4,11 @@ use mathlib.Core.Path.{◌≡◌, refl, sym, ◌∙◌, subst}
 use mathlib.Core.Bool.{Bool, true, false, not}
 use mathlib.Core.List.{List, [], ◌∷◌}
 use mathlib.Core.Logic.{◌⊎◌, inl, inr}
-use Prim.Native.Nat.{◌+◌, ◌≤◌}
+use Prim.Native.Nat.{◌≤◌}
 use native.Mathlib.Omega.{arith}
 use lib.Dec.{T}
-use lib.IntN.{ℤ, pos}
-use Rattle.integer.specs.Parts.{posPart, negPart}
+use lib.IntN.{ℤ}
 use Rattle.integer.specs.Range.{fits, mostSigned}
-use Rattle.integer.proofs.PartLaws.{parts_add, parts-minus, parts-fit, le-ltZ, lt-leZ}
-use Rattle.integer.proofs.CheckedLaws.{fits-of-sfits}
 use Rattle.specification.specs.Tests.{some}
 use Rattle.specification.specs.Outcome.{done, refused, pass, refuseIf, ◌>>◌}
 use Rattle.specification.specs.Axis.{Axis, extents, is_empty, span, upward, downward}
@@ -26,37 +23,25 @@ use Rattle.view.proofs.AxesLaws.{none-wide}
 use Rattle.view.proofs.CountLaws.{empty_extents}
 use Rattle.std.proofs.lemmas.Int.{ints}
 
-module _ (l : LayoutM) where
-  low_parts : posPart (lowest l) + (negPart l.offset + downward l.axes) ≡ (posPart l.offset + 0) + negPart (lowest l)
-  low_parts = parts-minus l.offset (pos (downward l.axes))
-
-  high_parts : posPart (highest l) + (negPart l.offset + 0) ≡ (posPart l.offset + upward l.axes) + negPart (highest l)
-  high_parts = parts_add l.offset (pos (upward l.axes))
-
 -- ---- check-in's bounds
 
 -- one axis among them spans no more than all
 spans_fit : (axes : List Axis) → upward axes ≤ mostSigned → downward axes ≤ mostSigned → some (λ a. not (fits (span a))) axes ≡ false
 unfolding some upward downward
 spans_fit [] u d = refl
-spans_fit (a ∷ rest) u d = rw (fits-of-sfits (span a) (parts-fit (omega arith) (omega arith)), spans_fit rest (omega arith) (omega arith))
+spans_fit (a ∷ rest) u d = rw (fit, spans_fit rest (omega arith) (omega arith))
+  where
+    fit : fits (span a) ≡ true
+    fit = grind (arith, ints)
 
 module _ (l : LayoutM) where
   -- what is within is refused for a wide extent alone
   narrow-bounds : Within l → is_empty l.axes ≡ false → bounds l ≡ refuseIf (not (none_wide (extents l.axes))) 3 []
   unfolding bounds refuseIf
   narrow-bounds w e =
-      let u : upward l.axes ≤ mostSigned = omega (arith, w.w-low, w.w-most, low_parts l, high_parts l) in
-      let d : downward l.axes ≤ mostSigned = omega (arith, w.w-low, w.w-most, low_parts l, high_parts l) in
-      grind (
-        arith,
-        ints,
-        spans_fit l.axes u d,
-        none-wide l.axes,
-        le-ltZ (pos mostSigned) (highest l) (omega (arith, w.w-most)),
-        le-ltZ (lowest l) (pos 0) (omega (arith, w.w-low)),
-        lt-leZ (pos l.buffer) (highest l) (omega (arith, w.w-in)),
-      )
+      let u : upward l.axes ≤ mostSigned = omega (arith, ints, w.w-low, w.w-most) in
+      let d : downward l.axes ≤ mostSigned = omega (arith, ints, w.w-low, w.w-most) in
+      grind (arith, ints, spans_fit l.axes u d, none-wide l.axes, w.w-low, w.w-most, w.w-in)
 
   -- bounds let pass or refuse 3
   three : (bounds l ≡ pass) ⊎ (bounds l ≡ refused 3 [])

@@ -10,15 +10,24 @@ use lib.IntN.{ℤ, pos, ◌+ℤ◌}
 use lib.ListN.{length, drop, get_or, drop_of_length-le}
 use lib.Seq.{drop-cons}
 use borrow.Author.Tests.{lt-leb}
+use mir.Syntax.{w64}
+use mir.Val.{SFits, of_z, to_z}
+use mir.ValLaws.{to_z-of_z}
+use Rattle.std.specs.Prelude.{Option, Some, None}
+use Rattle.std.specs.Option.{SomeIff}
 use Rattle.std.proofs.lemmas.Int.{ints}
 use Rattle.integer.specs.Multiple.{◌·◌}
-use Rattle.integer.specs.Range.{fits, mostSigned}
+use Rattle.integer.specs.Range.{checkedOf, fits, mostSigned}
 use Rattle.specification.specs.Outcome.{Outcome, done, refused, refuseIf, ◌>>◌}
 use Rattle.specification.specs.Axis.{Axis}
 use Rattle.specification.specs.Beside.{sumIndexed}
 use Rattle.specification.specs.Views.{axisAt}
 use Rattle.specification.proofs.OutcomeLaws.{passed, done_inj}
 use Rattle.view.specs.Indexed.{addedOf}
+
+-- an integer as the machine reads it back
+abbrev back : ℤ → ℤ
+back z = to_z w64 (of_z w64 z)
 
 module _ (sum : ℤ) (index : ℕ) (stride : ℤ) where
   pub added-wide : mostSigned < index → addedOf sum index stride ≡ refused 3 []
@@ -36,6 +45,24 @@ module _ (sum : ℤ) (index : ℕ) (stride : ℤ) where
   pub added-fits : index ≤ mostSigned → fits (index · stride) ≡ true → fits (sum +ℤ index · stride) ≡ true → addedOf sum index stride ≡ done (sum +ℤ index · stride)
   unfolding addedOf refuseIf ◌>>◌
   added-fits h e f = grind (arith, ints)
+
+pub ruleset added = (ints, to_z-of_z, added-wide, added-far)
+
+-- the same, as the machine answers: the product is in range, and its sum with what is there is not, or is
+module _ {product : Option ℤ} (sum step : ℤ) (index : ℕ) (stride : ℤ) (f : SFits w64 sum) (g : SFits w64 stride) (h : index ≤ mostSigned)
+    (multiplied : product ≡ checkedOf (index · back stride)) (some : product ≡ Some step) where
+  in-range : (fits (index · stride) ≡ true) × (back step ≡ index · stride)
+  in-range = let m = rw (to_z-of_z w64 stride g) at multiplied in grind (arith, ints)
+
+  module _ {added : Option ℤ} (told : SomeIff added (SFits w64 (back sum +ℤ back step)) (back sum +ℤ back step)) where
+    pub sum-over : added ≡ None → refused 3 [] ≡ addedOf sum index stride
+    sum-over e = let p = in-range in sym (added-over sum index stride h p.0 (grind (arith, ints)))
+
+    pub sum-fits : (offset : ℤ) → added ≡ Some offset → done (back offset) ≡ addedOf sum index stride
+    sum-fits offset e =
+        let p = in-range in
+        let q : back offset ≡ sum +ℤ index · stride = grind (arith, ints) in
+        rw q (sym (added-fits sum index stride h p.0 (grind (arith, ints))))
 
 -- ---- the axes and the index vector from i on
 

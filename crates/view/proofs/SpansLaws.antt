@@ -1,6 +1,6 @@
 -- The two sums of spans, one axis after another, and each with its limit.
 use Rattle.std.specs.Prelude.{None}
-use mathlib.Core.Path.{◌≡◌, sym, ap, ◌∙◌}
+use mathlib.Core.Path.{◌≡◌, ◌∙◌}
 use mathlib.Core.Bool.{Bool, true, false, ◌&&◌, ◌||◌}
 use mathlib.Core.List.{List, ◌∷◌}
 use Prim.Native.Nat.{ℕ, ◌+◌, ◌-◌, ◌*◌, ◌≤◌, ◌<◌}
@@ -13,10 +13,8 @@ use lib.ListN.{length, drop, drop_of_length-le}
 use lib.Seq.{drop-cons}
 use borrow.Author.Tests.{le-leb, lt-leb}
 use mir.Syntax.{w64}
-use mir.Val.{SFits}
-use mir.ValLaws.{to_z-of_z}
+use mir.Val.{SFits, of_z, to_z}
 use Rattle.integer.specs.Parts.{posPart, negPart}
-use Rattle.integer.proofs.MachineInteger.{readBack, negative-tested, nonnegative-tested}
 use Rattle.integer.proofs.MultipleLaws.{posPart-·, negPart-·}
 use Rattle.specification.specs.Axis.{Axis, extents, span, upward, downward}
 use Rattle.specification.specs.Views.{axisAt}
@@ -47,18 +45,16 @@ module _ (axes : List Axis) (i up down last step : ℕ) (stride : ℤ) (left : S
       let q = rw next at left.down_left in
       omega arith
 
-  -- a turn, by the sign of the stride: the axis adds to one of the sums alone
-  pub falling-turn : lt_z (readBack stride) (pos 0) ≡ true → step ≡ nat_abs (readBack stride) → SpansLeft axes (i + 1) up (down + last * step)
+  -- a turn, by the sign of the stride as the machine reads it back: the axis adds to one of the sums alone
+  pub falling-turn : lt_z (to_z w64 (of_z w64 stride)) (pos 0) ≡ true → step ≡ nat_abs (to_z w64 (of_z w64 stride)) → SpansLeft axes (i + 1) up (down + last * step)
   falling-turn below is-step =
-      let none = negative-tested stride f below in
-      let e = up-more 0 (sym none.no-positive) in
-      record { up_left = omega arith; down_left = down-more step (is-step ∙ ap nat_abs (to_z-of_z w64 _ f) ∙ none.size) }
+      let e = up-more 0 (grind (arith, ints)) in
+      record { up_left = omega arith; down_left = down-more step (grind (arith, ints)) }
 
-  pub rising-turn : lt_z (readBack stride) (pos 0) ≡ false → step ≡ nat_abs (readBack stride) → SpansLeft axes (i + 1) (up + last * step) down
+  pub rising-turn : lt_z (to_z w64 (of_z w64 stride)) (pos 0) ≡ false → step ≡ nat_abs (to_z w64 (of_z w64 stride)) → SpansLeft axes (i + 1) (up + last * step) down
   rising-turn above is-step =
-      let none = nonnegative-tested stride f above in
-      let e = down-more 0 (sym none.no-negative) in
-      record { up_left = up-more step (is-step ∙ ap nat_abs (to_z-of_z w64 _ f) ∙ none.size); down_left = omega arith }
+      let e = down-more 0 (grind (arith, ints)) in
+      record { up_left = up-more step (grind (arith, ints)); down_left = omega arith }
 
 pub spans-end : (axes : List Axis) (i up down : ℕ) → SpansLeft axes i up down → length axes ≤ i → (up ≡ upward axes) × (down ≡ downward axes)
 unfolding upward downward

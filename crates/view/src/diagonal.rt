@@ -10,7 +10,6 @@ use crate::bounds::Candidate;
 use crate::layout::{Layout, NO_AXIS, Refusal, Viewed};
 use crate::numbers::Pair;
 use axis::Axis;
-use integer::signed::checked_add;
 
 /// Two axes that are to be one, by their numbers from 0.
 #[derive(Clone, Copy, Debug, PartialEq, Eq)]
@@ -129,7 +128,7 @@ fn fuse(
         if root == axis {
             *class = Axis { extent, stride };
         } else {
-            class.stride = checked_add(class.stride, stride).ok_or(Refusal::OutOfRange)?;
+            class.stride = class.stride.checked_add(stride).ok_or(Refusal::OutOfRange)?;
             class.extent = class.extent.min(extent);
         }
     }

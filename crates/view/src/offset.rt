@@ -5,9 +5,10 @@ ghost use Rattle.view.specs.Indexed.{addedOf, indexedOf};
 ghost use Rattle.view.specs.Model.{modelOf};
 
 use crate::layout::{Layout, ReadingOffset, Refusal};
-use integer::signed::{checked_add, checked_mul};
+use integer::signed::checked_mul;
 
 /// The offset one index further: the index is below 2^63, and neither the product nor the sum leaves 64 bits signed.
+#[tactic(auto, using(crate::proofs::IndexedLaws::added))]
 fn add_indexed(sum: ReadingOffset, index: u64, stride: i64) -> Result<ReadingOffset, Refusal>
     ensures { indexedOf result ≡ addedOf sum.0 index stride }
 {
@@ -15,7 +16,7 @@ fn add_indexed(sum: ReadingOffset, index: u64, stride: i64) -> Result<ReadingOff
         return Err(Refusal::OutOfRange);
     }
     let step = checked_mul(stride, index).ok_or(Refusal::OutOfRange)?;
-    let offset = checked_add(sum.0, step).ok_or(Refusal::OutOfRange)?;
+    let offset = sum.0.checked_add(step).ok_or(Refusal::OutOfRange)?;
     Ok(ReadingOffset(offset))
 }
 

@@ -1,15 +1,16 @@
 -- An axis that is a root begins the class at its place, another is taken into the class of its root, or the sum of strides is out of range.
-use Rattle.std.specs.Prelude.{Some, None}
+use Rattle.std.specs.Prelude.{Option, Some, None}
+use Rattle.std.specs.Option.{SomeIff}
+use Rattle.std.proofs.lemmas.Int.{ints}
 use Rattle.std.proofs.lemmas.Result.{err_from_is_err_and}
-use Rattle.std.proofs.Common.{◌≡◌, ℕ, ◌+◌, ◌<◌, ◌≤◌, ◌%◌, ◌^◌, List, length, refl, sym, ap, subst, ◌∙◌, arith, rules}
+use Rattle.std.proofs.Common.{false, true, ◌≡◌, ℕ, ◌+◌, ◌<◌, ◌≤◌, ◌%◌, ◌^◌, List, length, refl, sym, ap, subst, ◌∙◌, arith, rules}
 use lib.Count.{ones}
 use lib.IntN.{ℤ, ◌+ℤ◌}
 use lib.ListN.{length-set}
 use mir.Syntax.{w64}
-use mir.Val.{SFits}
+use mir.Val.{SFits, of_z, to_z}
 use mir.ValLaws.{to_z-of_z}
-use Rattle.integer.specs.Range.{checkedOf}
-use Rattle.integer.proofs.CheckedLaws.{fits-of-sfits, fits-arm, over-arm, checked-add-is}
+use Rattle.integer.specs.Range.{fits}
 use Rattle.specification.specs.Axis.{Axis}
 use Rattle.specification.specs.Views.{axisAt}
 use Rattle.view.specs.declared.layout.Refusal.TheVariants.{OutOfRange}
@@ -20,6 +21,22 @@ use Rattle.view.proofs.RootLaws.{ones_below, mask-ones}
 use Rattle.view.proofs.FusedLaws.{Stored, stored-first, stored-later, over-here, sums-over, sums_none, axes-stored}
 use Rattle.view.proofs.diagonal.fuse.Goals as goal
 use Rattle.view.proofs.diagonal.fuse.Goals.{then-root-axis, else-root-axis+in_ok-class}
+
+-- what an i64 holds passes the test
+in-range : (z : ℤ) → SFits w64 z → fits z ≡ true
+in-range z f = grind (arith, ints)
+
+-- an integer as the machine reads it back
+abbrev back : ℤ → ℤ
+back z = to_z w64 (of_z w64 z)
+
+-- what the machine's sum of two strides tells of the sum itself, where it is one and where it is none
+module _ {sum : Option ℤ} (x y : ℤ) (f : SFits w64 x) (g : SFits w64 y) (told : SomeIff sum (SFits w64 (back x +ℤ back y)) (back x +ℤ back y)) where
+  sum-over : sum ≡ None → fits (x +ℤ y) ≡ false
+  sum-over e = grind (arith, ints)
+
+  sum-fits : (z : ℤ) → sum ≡ Some z → (fits (x +ℤ y) ≡ true) × (back z ≡ x +ℤ y)
+  sum-fits z e = grind (arith, ints)
 
 -- the place of an axis: that of its root, and below 16
 module _ {n : ℕ} {roots : List ℕ} (of : Rooted n roots) (few : n ≤ 16) (axis : ℕ) (below : axis < n) {mask at : ℕ}
@@ -45,10 +62,9 @@ returns-in_err-class-clause-answer c =
     let less : r < l.axis = omega arith in
     let so_far : ℤ = (axisAt l.fused c.place.result).stride in
     let stride : ℤ = (axisAt axes l.axis).stride in
-    let e : c.checked_add.result ≡ checkedOf (so_far +ℤ stride) = checked-add-is so_far stride (search rules) (search rules) c.checked_add.ensures in
     let none : c.checked_add.result ≡ None = grind arith in
     let here = over-here axes roots l.axis l.invariant.stored c.place.result r refl less (of.own l.axis h)
-    (place_is of c.requires.few l.axis h c.place.ensures c.requires.masked) (over-arm (so_far +ℤ stride) e none) in
+    (place_is of c.requires.few l.axis h c.place.ensures c.requires.masked) (sum-over so_far stride (search rules) (search rules) c.checked_add.ensures none) in
     let why : c.in_err-class.field-0.0 ≡ OutOfRange = grind arith in
     let p = err_from_is_err_and c.from_residual.result c.from_residual.ensures.1 in
     rw (p.1, p.2, why) (sym (sums-over axes roots (l.axis + 1) r (omega arith) (omega arith) (of.own l.axis h) here))
@@ -69,20 +85,19 @@ loop-axis-preserved c =
         long = simp length-set l.invariant.long;
         stored = stored-first axes roots l.axis l.invariant.stored c.place.result w.if-root-axis.true
             (place_is of c.requires.few l.axis h c.place.ensures c.requires.masked ∙ ap (count (isRoot roots)) w.if-root-axis.true)
-            (λ b k. of.low b (omega arith)) (fits-of-sfits _ g) (omega (arith, at-low)) _
+            (λ b k. of.low b (omega arith)) (in-range _ g) (omega (arith, at-low)) _
             (ap {B = Axis} (λ (z : ℤ). record { extent = (axisAt axes l.axis).extent; stride = z }) (to_z-of_z w64 _ g));
       }
       | else-root-axis+in_ok-class w ↦
           let low : r ≤ l.axis = of.low l.axis h in
           let less : r < l.axis = omega arith in
           let so_far : ℤ = (axisAt l.fused c.place.result).stride in
-          let e : w.checked_add.result ≡ checkedOf (so_far +ℤ stride) = checked-add-is so_far stride (search rules) g w.checked_add.ensures in
           let some : w.checked_add.result ≡ Some w.in_ok-class.field-0 = grind arith in
-          let fits = fits-arm (so_far +ℤ stride) e some in
+          let sum = sum-fits so_far stride (search rules) g w.checked_add.ensures _ some in
           rw w.fused-is record {
             long = simp length-set l.invariant.long;
             stored = stored-later axes roots l.axis l.invariant.stored c.place.result r refl less (of.own l.axis h)
-                (place_is of c.requires.few l.axis h c.place.ensures c.requires.masked) fits.test (omega (arith, at-low)) _ w.min-class.ensures _ fits.reads;
+                (place_is of c.requires.few l.axis h c.place.ensures c.requires.masked) sum.0 (omega (arith, at-low)) _ w.min-class.ensures _ sum.1;
           }
     ]
 
