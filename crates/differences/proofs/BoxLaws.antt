@@ -1,30 +1,23 @@
--- Axes and their boxes: where there is a position of the whole there is one of each part, and one axis more multiplies the vectors.
-use mathlib.Core.List.{List, [], ◌∷◌}
-use mathlib.Core.Path.{◌≡◌, ap}
-use Prim.Native.Nat.{ℕ, zero, suc, ◌+◌, ◌*◌, ◌-◌, ◌<◌, ◌≤◌}
-use native.Mathlib.Nat.{mul-pos, mul-le-mul_left}
-use native.Mathlib.Omega.{arith}
-use lib.ListN.{length, get_or, take, drop, length-drop}
-use lib.Seq.{take_all}
+-- Axes where there is a position, so that no extent is 0: in parts, and one by one. Each multiplies the positions and the difference
+-- vectors.
+use Rattle.std.proofs.Common.{◌≡◌, ◌∙◌, sym, ap, refl, ℕ, zero, suc, ◌+◌, ◌*◌, ◌-◌, ◌<◌, ◌≤◌, List, [], ◌∷◌, ◌++◌, length, get_or, take, drop, arith, mul-pos, take-append-drop}
+use Rattle.std.proofs.lemmas.Int.{ints}
+use Rattle.std.proofs.lemmas.List.{take_more, take_rest}
 use Rattle.specification.specs.Axis.{product}
-use Rattle.specification.specs.Search.{ActiveAxis, total, box}
-use Rattle.differences.proofs.AxisLaws.{no_axis, head-some, box-more}
+use Rattle.specification.specs.Search.{ActiveAxis, lengths, total, box, spanSum}
+use Rattle.specification.proofs.Digits.{PositiveExtents, none, more}
 
-pub extent_at : (axes : List ActiveAxis) (j : ℕ) → 0 < total axes → j < length axes → 0 < (get_or axes j no_axis).extent
+-- what is read past the end
+abbrev pub no_axis : ActiveAxis
+no_axis = record { axis = 0; extent = 0; stride = 0 }
+
+pub head-some : (e n : ℕ) → 0 < e * n → (0 < e) × (0 < n)
+head-some e n h = grind (arith, ints)
+
+pub positive-extents : (axes : List ActiveAxis) → 0 < total axes → PositiveExtents (lengths axes)
 unfolding product
-extent_at [] j h l = absurd (omega arith)
-extent_at (a ∷ rest) zero h l = (head-some a.extent (total rest) h).0
-extent_at (a ∷ rest) (suc j) h l = extent_at rest j (head-some a.extent (total rest) h).1 (omega arith)
-
-total-drop : (axes : List ActiveAxis) (c : ℕ) → 0 < total axes → 0 < total (drop c axes)
-unfolding product
-total-drop axes zero h = h
-total-drop [] (suc c) h = h
-total-drop (a ∷ rest) (suc c) h = total-drop rest c (head-some a.extent (total rest) h).1
-
--- the axes from c on
-pub total_rest : (axes : List ActiveAxis) (c : ℕ) → 0 < total axes → 0 < total (take (length axes - c) (drop c axes))
-total_rest axes c h = rw (take_all (length axes - c) (drop c axes) (omega (arith, length-drop c axes))) (total-drop axes c h)
+positive-extents [] h = none
+positive-extents (a ∷ rest) h = let s = head-some a.extent (total rest) h in more s.0 (positive-extents rest s.1)
 
 pub box-some : (axes : List ActiveAxis) → 0 < total axes → 0 < box axes
 unfolding product
@@ -43,15 +36,59 @@ some-total (a ∷ rest) h =
     let e : 0 < a.extent = omega (arith, s.0) in
     mul-pos e (some-total rest s.1)
 
--- no more vectors with the first axes alone
-pub box-front : (axes : List ActiveAxis) (c : ℕ) → 0 < total axes → box (take c axes) ≤ box axes
-unfolding product
-box-front [] zero h = omega arith
-box-front [] (suc c) h = omega arith
-box-front (a ∷ rest) zero h = box-some (a ∷ rest) h
-box-front (a ∷ rest) (suc c) h = mul-le-mul_left (2 * a.extent - 1) (box-front rest c (head-some a.extent (total rest) h).1)
+-- ---- two parts
 
--- nor with them and one axis more
-pub box-grown : (axes : List ActiveAxis) (j v : ℕ) → 0 < total axes → j < length axes → v ≡ box (take j axes) → v * (2 * (get_or axes j no_axis).extent - 1) ≤ box axes
-box-grown axes j v p h e =
-    omega (arith, box-front axes (j + 1) p, box-more axes j h, ap (λ (n : ℕ). n * (2 * (get_or axes j no_axis).extent - 1)) e)
+pub total-append : (u v : List ActiveAxis) → total (u ++ v) ≡ total u * total v
+unfolding product
+total-append [] v = omega arith
+total-append (a ∷ u) v = let z = ap (λ (n : ℕ). a.extent * n) (total-append u v) in omega arith
+
+pub span-append : (u v : List ActiveAxis) → spanSum (u ++ v) ≡ spanSum u + spanSum v
+unfolding spanSum
+span-append [] v = omega arith
+span-append (a ∷ u) v = omega (arith, span-append u v)
+
+pub box-append : (u v : List ActiveAxis) → box (u ++ v) ≡ box u * box v
+unfolding product
+box-append [] v = omega arith
+box-append (a ∷ u) v = let z = ap (λ (n : ℕ). (2 * a.extent - 1) * n) (box-append u v) in omega arith
+
+-- the axes from c on
+pub total_rest : (axes : List ActiveAxis) (c : ℕ) → 0 < total axes → 0 < total (take (length axes - c) (drop c axes))
+total_rest axes c h =
+    let e : total axes ≡ total (take c axes) * total (drop c axes) =
+    ap total (sym (take-append-drop c axes)) ∙ total-append (take c axes) (drop c axes) in
+    rw (take_rest axes c) (head-some (total (take c axes)) (total (drop c axes)) (omega (arith, e))).1
+
+-- ---- one by one
+
+pub box-more : (axes : List ActiveAxis) (j : ℕ) → j < length axes
+    → box (take (j + 1) axes) ≡ box (take j axes) * (2 * (get_or axes j no_axis).extent - 1)
+unfolding product
+box-more axes j h =
+    ap box (take_more axes j no_axis h)
+    ∙ box-append (take j axes) (get_or axes j no_axis ∷ [])
+    ∙ ap (λ (n : ℕ). box (take j axes) * n) (omega arith)
+
+extent_at : (axes : List ActiveAxis) (j : ℕ) → 0 < total axes → j < length axes → 0 < (get_or axes j no_axis).extent
+unfolding product
+extent_at [] j h l = absurd (omega arith)
+extent_at (a ∷ rest) zero h l = (head-some a.extent (total rest) h).0
+extent_at (a ∷ rest) (suc j) h l = extent_at rest j (head-some a.extent (total rest) h).1 (omega arith)
+
+-- the first axes have vectors, and no more than all
+box-front : (axes : List ActiveAxis) (c : ℕ) → 0 < total axes → (0 < box (take c axes)) × (box (take c axes) ≤ box axes)
+box-front axes c h =
+    let e : box axes ≡ box (take c axes) * box (drop c axes) =
+    ap box (sym (take-append-drop c axes)) ∙ box-append (take c axes) (drop c axes) in
+    let s = head-some (box (take c axes)) (box (drop c axes)) (omega (arith, e, box-some axes h)) in
+    (s.0, grind (arith, ints))
+
+-- one axis more, for a walk over them (the first part shows `grind` the call to match)
+pub box_next : (axes : List ActiveAxis) (j : ℕ) → 0 < total axes → j < length axes
+    → (take j axes ≡ take j axes) × (0 < (get_or axes j no_axis).extent) × (0 < box (take j axes))
+    × (box (take (j + 1) axes) ≡ box (take j axes) * (2 * (get_or axes j no_axis).extent - 1)) × (box (take (j + 1) axes) ≤ box axes)
+box_next axes j p h = (refl, extent_at axes j p h, (box-front axes j p).0, box-more axes j h, (box-front axes (j + 1) p).1)
+
+-- for a walk that cuts the axes behind each
+pub ruleset cuts = (box_next, total_rest)

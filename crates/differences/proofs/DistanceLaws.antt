@@ -1,69 +1,67 @@
--- The vector that the code holds is the definitions' vector of its number, and its distance is how far the two sums are apart.
-use mathlib.Core.List.{List, [], ◌∷◌}
-use mathlib.Core.Logic.{◌⊎◌, inl, inr}
-use mathlib.Core.Path.{◌≡◌, refl, sym, ap, ap₂, subst, ◌∙◌}
-use Prim.Native.Nat.{ℕ, ◌+◌, ◌*◌, ◌-◌, ◌/◌, ◌%◌, ◌<◌}
-use native.Mathlib.Omega.{arith}
-use lib.Arith.{digits_div, digits_mod}
-use lib.IntN.{ℤ, pos, nat_abs, ◌-ℤ◌, ◌*ℤ◌}
-use Rattle.std.specs.List.{All}
+-- How far the digits of a difference vector sum from the span is its distance; and so is how far the two sums of the code's vector are
+-- apart.
+use Rattle.std.proofs.Common.{◌≡◌, ap, ℕ, ◌+◌, ◌*◌, ◌-◌, ◌/◌, ◌%◌, ◌<◌, List, [], ◌∷◌, All, ℤ, pos, nat_abs, ◌-ℤ◌, ◌*ℤ◌, arith, mod-eq_of_lt, zero-add}
+use Rattle.std.proofs.Math.Nat.{add-mul-mod_self_left, add-mul-div_left, div-eq_of_lt}
 use Rattle.std.proofs.lemmas.List.Elements.{All-head, All-tail}
 use Rattle.integer.specs.Parts.{posPart, negPart}
 use Rattle.integer.proofs.PartLaws.{parts_add, posPart-scale, negPart-scale, natAbs-parts, one-part-zero}
 use Rattle.integer.proofs.SignedEquation.{shifted}
 use Rattle.specification.specs.Axis.{index_at}
-use Rattle.specification.specs.Search.{widths, differenceSum, differenceAt, fromDigits}
+use Rattle.specification.specs.Search.{ActiveAxis, reach, spanSum, widths, differenceSum, differenceAt, fromDigits}
 use Rattle.differences.specs.declared.AxisDifference.{AxisDifference}
 use Rattle.differences.specs.Differences.{distance_at}
-use Rattle.differences.specs.AxisDifferences.{axes_of, number_of, up_of, down_of, IsSmall}
-use Rattle.differences.proofs.VectorLaws.{digit_of}
+use Rattle.differences.specs.AxisDifferences.{axes_of, number_of, up_of, down_of, digit_of, IsSmall}
 
-digits_of : List AxisDifference → List ℕ
-digits_of [] = []
-digits_of (d ∷ ds) = digit_of d ∷ digits_of ds
+-- the sum of the digits of vector number k
+abbrev pub digit_sum : List ActiveAxis → ℕ → ℕ
+digit_sum axes k = reach axes (index_at (widths axes) k)
 
-digits-of-number : (ds : List AxisDifference) → All IsSmall ds → index_at (widths (axes_of ds)) (number_of ds) ≡ digits_of ds
-unfolding index_at number_of digits_of
-digits-of-number [] h = refl
-digits-of-number (d ∷ ds) h =
-    let s = All-head IsSmall d ds h in
-    let l : digit_of d < 2 * d.axis.extent - 1 = omega arith in
-    let e : digit_of d + (2 * d.axis.extent - 1) * number_of ds ≡ number_of ds * (2 * d.axis.extent - 1) + digit_of d = omega arith in
-    ap₂ (λ (n : ℕ) (z : List ℕ). n ∷ z)
-    (ap (λ (n : ℕ). n % (2 * d.axis.extent - 1)) e ∙ digits_mod (number_of ds) l)
-    (ap (λ (n : ℕ). index_at (widths (axes_of ds)) (n / (2 * d.axis.extent - 1))) e
-    ∙ ap (index_at (widths (axes_of ds))) (digits_div (number_of ds) l)
-    ∙ digits-of-number ds (All-tail IsSmall d ds h))
-
--- the sum of the definitions' vector, in the two parts of the code's
-sum-parts : (ds : List AxisDifference) → All IsSmall ds
-    → posPart (differenceSum (axes_of ds) (fromDigits (axes_of ds) (digits_of ds))) + down_of ds ≡ up_of ds + negPart (differenceSum (axes_of ds) (fromDigits (axes_of ds) (digits_of ds)))
-unfolding differenceSum fromDigits digits_of up_of down_of
-sum-parts [] h = refl
-sum-parts (d ∷ ds) h =
-    let s = All-head IsSmall d ds h in
-    let k : posPart (pos (digit_of d) -ℤ pos (d.axis.extent - 1)) + d.below ≡ d.above + negPart (pos (digit_of d) -ℤ pos (d.axis.extent - 1)) = omega (arith, shifted (digit_of d) (d.axis.extent - 1)) in
+-- the sum of vector number k is that of its digits less the span
+digit-parts : (axes : List ActiveAxis) (k : ℕ)
+    → posPart (differenceSum axes (differenceAt axes k)) + spanSum axes
+    ≡ digit_sum axes k + negPart (differenceSum axes (differenceAt axes k))
+unfolding index_at differenceSum fromDigits reach spanSum
+digit-parts [] k = omega arith
+digit-parts (a ∷ rest) k =
+    let w = 2 * a.extent - 1 in
+    let d = pos (k % w) -ℤ pos (a.extent - 1) in
     omega (
       arith,
-      sum-parts ds (All-tail IsSmall d ds h),
-      parts_add ((pos (digit_of d) -ℤ pos (d.axis.extent - 1)) *ℤ pos d.axis.stride) (differenceSum (axes_of ds) (fromDigits (axes_of ds) (digits_of ds))),
-      posPart-scale (pos (digit_of d) -ℤ pos (d.axis.extent - 1)) d.axis.stride,
-      negPart-scale (pos (digit_of d) -ℤ pos (d.axis.extent - 1)) d.axis.stride,
-      ap (λ (n : ℕ). n * d.axis.stride) k,
+      digit-parts rest (k / w),
+      parts_add (d *ℤ pos a.stride) (differenceSum rest (differenceAt rest (k / w))),
+      posPart-scale d a.stride,
+      negPart-scale d a.stride,
+      ap (λ (n : ℕ). n * a.stride) (shifted (k % w) (a.extent - 1)),
     )
 
 gap-of : (z : ℤ) (up down : ℕ) → posPart z + down ≡ up + negPart z → up - down + (down - up) ≡ nat_abs z
-gap-of z up down e = go (one-part-zero z)
-  where
-    go : (posPart z ≡ 0) ⊎ (negPart z ≡ 0) → up - down + (down - up) ≡ nat_abs z
-    go (inl p) = omega (arith, natAbs-parts z)
-    go (inr p) = omega (arith, natAbs-parts z)
+gap-of z up down e = grind (arith, natAbs-parts z, one-part-zero z)
+
+pub distance-is : (axes : List ActiveAxis) (k : ℕ)
+    → digit_sum axes k - spanSum axes + (spanSum axes - digit_sum axes k) ≡ distance_at axes k
+distance-is axes k = gap-of _ _ _ (digit-parts axes k)
+
+-- the code's vector: its parts above 0 and the span are its parts below and its digits
+digits-of-vector : (ds : List AxisDifference) → All IsSmall ds
+    → digit_sum (axes_of ds) (number_of ds) + down_of ds ≡ spanSum (axes_of ds) + up_of ds
+unfolding index_at number_of reach spanSum up_of down_of
+digits-of-vector [] h = omega arith
+digits-of-vector (d ∷ ds) h =
+    let s = All-head IsSmall d ds h in
+    let l : digit_of d < 2 * d.axis.extent - 1 = omega arith in
+    let e : digit_of d + d.below ≡ d.axis.extent - 1 + d.above = omega arith in
+    let w : 0 < 2 * d.axis.extent - 1 = omega arith in
+    let m = add-mul-mod_self_left (digit_of d) (2 * d.axis.extent - 1) (number_of ds) in
+    let q = add-mul-div_left (digit_of d) (number_of ds) w in
+    rw (m, mod-eq_of_lt l, q, div-eq_of_lt l, zero-add (number_of ds))
+    (omega (arith, digits-of-vector ds (All-tail IsSmall d ds h), ap (λ (n : ℕ). n * d.axis.stride) e))
 
 -- the sum of the vector with this number, in its two parts
 pub parts-at : (ds : List AxisDifference) → All IsSmall ds
-    → posPart (differenceSum (axes_of ds) (differenceAt (axes_of ds) (number_of ds))) + down_of ds ≡ up_of ds + negPart (differenceSum (axes_of ds) (differenceAt (axes_of ds) (number_of ds)))
-parts-at ds h = subst (λ (x : List ℕ). posPart (differenceSum (axes_of ds) (fromDigits (axes_of ds) x)) + down_of ds ≡ up_of ds + negPart (differenceSum (axes_of ds) (fromDigits (axes_of ds) x)))
-    (sym (digits-of-number ds h)) (sum-parts ds h)
+    → posPart (differenceSum (axes_of ds) (differenceAt (axes_of ds) (number_of ds))) + down_of ds
+    ≡ up_of ds + negPart (differenceSum (axes_of ds) (differenceAt (axes_of ds) (number_of ds)))
+parts-at ds h = omega (arith, digit-parts (axes_of ds) (number_of ds), digits-of-vector ds h)
 
-pub distance-of : (ds : List AxisDifference) → All IsSmall ds → up_of ds - down_of ds + (down_of ds - up_of ds) ≡ distance_at (axes_of ds) (number_of ds)
-distance-of ds h = gap-of (differenceSum (axes_of ds) (differenceAt (axes_of ds) (number_of ds))) (up_of ds) (down_of ds) (parts-at ds h)
+pub distance-of : (ds : List AxisDifference) → All IsSmall ds
+    → up_of ds - down_of ds + (down_of ds - up_of ds) ≡ distance_at (axes_of ds) (number_of ds)
+distance-of ds h = gap-of _ _ _ (parts-at ds h)

@@ -1,10 +1,8 @@
 -- The laws of differences, lowest first.
-pub mod AxisLaws
+pub mod BoxLaws
 pub mod VectorLaws
 mod Advancing
 pub mod DistanceLaws
 pub mod ZeroVector
-pub mod BoxLaws
-mod Swapping
 mod Apart
 pub mod Meeting

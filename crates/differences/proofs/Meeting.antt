@@ -1,216 +1,24 @@
--- Axes in two parts: two positions have one sum exactly if two of a part have, or one distance is one of both parts.
-use Rattle.std.specs.Prelude.{◌↔◌}
-use mathlib.Core.List.{List, [], ◌∷◌, ◌++◌}
-use mathlib.Core.Path.{◌≡◌, refl, sym, ap, ap₂, subst, ◌∙◌}
-use Prim.Native.Nat.{ℕ, ◌+◌, ◌*◌, ◌-◌, ◌<◌, ◌≤◌}
-use native.Mathlib.Decide.{ℕ_discrete, dec_le}
-use native.Mathlib.Omega.{arith}
-use lib.ListN.{length, length-append}
-use Rattle.std.specs.List.{All}
-use Rattle.std.proofs.lemmas.List.Elements.{All-nil, All-cons, All-head, All-tail, All-append}
-use Rattle.specification.specs.Axis.{product}
-use Rattle.specification.specs.Search.{ActiveAxis, lengths, reach, total, spanSum, SameSum}
+-- Axes in two parts: two positions have one sum exactly if 0 is a distance, and that exactly if 0 is one of a part or one number is one
+-- of both.
+use Rattle.std.proofs.Common.{◌≡◌, ◌≢◌, ◌↔◌, ◌∙◌, length, take, drop, take-append-drop, length-append, ap, ap₂, subst, ℕ, ◌+◌, ◌-◌, ◌*◌, ◌/◌, ◌%◌, ◌<◌, List, [], ◌∷◌, ◌++◌, arith, refl, mod-lt}
+use Rattle.std.proofs.Math.Decide.{ℕ_discrete}
+use Rattle.std.proofs.Math.Nat.{mod-add-div, add-mul-mod_self_left, add-mul-div_left}
+use Rattle.std.proofs.lemmas.Nat.{same_from_place, mul-add-lt}
+use Rattle.specification.specs.Axis.{product, index_at}
+use Rattle.specification.specs.Search.{ActiveAxis, reach, widths, total, spanSum, box, half, SameSum}
 use Rattle.specification.specs.Decided.{sameSum?}
-use Rattle.specification.proofs.Positions.{IndexVector, empty, ◌and◌}
-use Rattle.specification.proofs.Digits.{PositiveExtents, none, more}
-use Rattle.specification.proofs.Differences.{EqualSums}
-use Rattle.specification.proofs.SearchLaws.{same-pair, no_same}
-use Rattle.differences.specs.declared.AxisDifference.{AxisDifference}
-use Rattle.differences.specs.Differences.{IsDistance, Meets, in_first, in_second, in_both, Walkable}
-use Rattle.differences.specs.AxisDifferences.{axes_of, up_of, down_of, IsSmall}
-use Rattle.differences.proofs.AxisLaws.{head-some}
-use Rattle.differences.proofs.BoxLaws.{some-total}
-use Rattle.differences.proofs.ZeroVector.{zero_vector, zero-axes, zero-small, zero-up, zero-down}
-use Rattle.differences.proofs.Swapping.{IsLevel, opposite, opposite-axes, opposite-small, opposite-up, opposite-down}
-use Rattle.differences.proofs.Apart.{Apart, turned, apart-distance, distance-apart}
-
--- ---- vectors of two parts
-
-axes-append : (v w : List AxisDifference) → axes_of (v ++ w) ≡ axes_of v ++ axes_of w
-axes-append [] w = refl
-axes-append (d ∷ v) w = ap (λ z. d.axis ∷ z) (axes-append v w)
-
-up-append : (v w : List AxisDifference) → up_of (v ++ w) ≡ up_of v + up_of w
-unfolding up_of
-up-append [] w = omega arith
-up-append (d ∷ v) w = omega (arith, up-append v w)
-
-down-append : (v w : List AxisDifference) → down_of (v ++ w) ≡ down_of v + down_of w
-unfolding down_of
-down-append [] w = omega arith
-down-append (d ∷ v) w = omega (arith, down-append v w)
-
-all-first : (P : AxisDifference → Type 0) (v w : List AxisDifference) → All P (v ++ w) → All P v
-all-first P [] w h = All-nil P
-all-first P (d ∷ v) w h = All-cons P d v (All-head P d (v ++ w) h) (all-first P v w (All-tail P d (v ++ w) h))
-
-all-second : (P : AxisDifference → Type 0) (v w : List AxisDifference) → All P (v ++ w) → All P w
-all-second P [] w h = h
-all-second P (d ∷ v) w h = all-second P v w (All-tail P d (v ++ w) h)
-
--- a vector over two parts is one of each
-record Parted (u v : List ActiveAxis) (w : List AxisDifference) : Type 0 where
-  front : List AxisDifference
-  back : List AxisDifference
-  is : w ≡ front ++ back
-  front-axes : axes_of front ≡ u
-  back-axes : axes_of back ≡ v
-
-parted : (u v : List ActiveAxis) (w : List AxisDifference) → axes_of w ≡ u ++ v → Parted u v w
-parted [] v w e = record { front = []; back = w; is = refl; front-axes = refl; back-axes = e }
-parted (a ∷ u) v [] e = absurd (omega (arith, ap length e))
-parted (a ∷ u) v (d ∷ w) e =
-    let s = parted u v w (cc) in
-    let h : d.axis ≡ a = cc in
-    record { front = d ∷ s.front; back = s.back; is = ap (λ z. d ∷ z) s.is; front-axes = ap₂ (λ b z. b ∷ z) h s.front-axes; back-axes = s.back-axes }
-
--- whether a vector has no difference
-level? : (v : List AxisDifference) → Dec (All IsLevel v)
-level? [] = yes (All-nil IsLevel)
-level? (d ∷ v) = go (ℕ_discrete d.above d.below) (level? v)
-  where
-    go : Dec (IsLevel d) → Dec (All IsLevel v) → Dec (All IsLevel (d ∷ v))
-    go (no n) l = no (λ h. n (All-head IsLevel d v h))
-    go (yes e) (no n) = no (λ h. n (All-tail IsLevel d v h))
-    go (yes e) (yes l) = yes (All-cons IsLevel d v e l)
-
-level-sums : (v : List AxisDifference) → All IsLevel v → up_of v ≡ down_of v
-unfolding up_of down_of
-level-sums [] h = refl
-level-sums (d ∷ v) h = ap₂ (λ (i n : ℕ). i * d.axis.stride + n) (All-head IsLevel d v h) (level-sums v (All-tail IsLevel d v h))
-
--- ---- the two parts
-
-module _ (u v : List ActiveAxis) (hu : 0 < total u) (hv : 0 < total v) where
-  meets-apart : Meets u v → Apart (u ++ v) 0
-  meets-apart (in_first d) =
-      let a = distance-apart hu d in
-      record {
-        vector = a.vector ++ zero_vector v;
-        axes-are = axes-append a.vector (zero_vector v) ∙ ap₂ (λ x y. x ++ y) a.axes-are (zero-axes v);
-        small = All-append IsSmall a.vector (zero_vector v) a.small (zero-small v hv);
-        other = λ l. a.other (all-first IsLevel a.vector (zero_vector v) l);
-        is = omega (arith, up-append a.vector (zero_vector v), down-append a.vector (zero_vector v), zero-up v, zero-down v, a.is);
-      }
-  meets-apart (in_second d) =
-      let a = distance-apart hv d in
-      record {
-        vector = zero_vector u ++ a.vector;
-        axes-are = axes-append (zero_vector u) a.vector ∙ ap₂ (λ x y. x ++ y) (zero-axes u) a.axes-are;
-        small = All-append IsSmall (zero_vector u) a.vector (zero-small u hu) a.small;
-        other = λ l. a.other (all-second IsLevel (zero_vector u) a.vector l);
-        is = omega (arith, up-append (zero_vector u) a.vector, down-append (zero_vector u) a.vector, zero-up u, zero-down u, a.is);
-      }
-  meets-apart (in_both n d f) =
-      let a = distance-apart hu d in
-      let b = distance-apart hv f in
-      record {
-        vector = a.vector ++ opposite b.vector;
-        axes-are = axes-append a.vector (opposite b.vector) ∙ ap₂ (λ x y. x ++ y) a.axes-are (opposite-axes b.vector ∙ b.axes-are);
-        small = All-append IsSmall a.vector (opposite b.vector) a.small (opposite-small b.vector b.small);
-        other = λ l. a.other (all-first IsLevel a.vector (opposite b.vector) l);
-        is = omega (arith, up-append a.vector (opposite b.vector), down-append a.vector (opposite b.vector), opposite-up b.vector, opposite-down b.vector, a.is, b.is);
-      }
-
-  apart-meets : Apart (u ++ v) 0 → Meets u v
-  apart-meets p = go (parted u v p.vector p.axes-are)
-    where
-      go : Parted u v p.vector → Meets u v
-      go s = pick (level? s.front) (level? s.back) (dec_le (down_of s.front) (up_of s.front))
-        where
-          small : All IsSmall (s.front ++ s.back)
-          small = subst (All IsSmall) s.is p.small
-
-          sums : up_of s.front + up_of s.back ≡ down_of s.front + down_of s.back
-          sums = omega (arith, up-append s.front s.back, down-append s.front s.back, ap up_of s.is, ap down_of s.is, p.is)
-
-          in_front : (n : ℕ) → ¬ (All IsLevel s.front) → up_of s.front ≡ down_of s.front + n → Apart u n
-          in_front n o e = record { vector = s.front; axes-are = s.front-axes; small = all-first IsSmall s.front s.back small; other = o; is = e }
-
-          in_back : (n : ℕ) → ¬ (All IsLevel s.back) → up_of s.back ≡ down_of s.back + n → Apart v n
-          in_back n o e = record { vector = s.back; axes-are = s.back-axes; small = all-second IsSmall s.front s.back small; other = o; is = e }
-
-          pick : Dec (All IsLevel s.front) → Dec (All IsLevel s.back) → Dec (down_of s.front ≤ up_of s.front) → Meets u v
-          pick (yes a) (yes b) l = absurd (p.other (subst (All IsLevel) (sym s.is) (All-append IsLevel s.front s.back a b)))
-          pick (yes a) (no b) l = in_second (apart-distance (in_back 0 b (omega (arith, sums, level-sums s.front a))))
-          pick (no a) (yes b) l = in_first (apart-distance (in_front 0 a (omega (arith, sums, level-sums s.back b))))
-          pick (no a) (no b) (yes l) = in_both (up_of s.front - down_of s.front)
-              (apart-distance (in_front (up_of s.front - down_of s.front) a (omega arith)))
-              (apart-distance (turned s.back s.back-axes (all-second IsSmall s.front s.back small) b (omega (arith, sums))))
-          pick (no a) (no b) (no l) = in_both (down_of s.front - up_of s.front)
-              (apart-distance (turned s.front s.front-axes (all-first IsSmall s.front s.back small) a (omega arith)))
-              (apart-distance (in_back (down_of s.front - up_of s.front) b (omega (arith, sums))))
-
--- ---- two index vectors as one vector of differences, and back
-
-pair_vector : List ActiveAxis → List ℕ → List ℕ → List AxisDifference
-pair_vector [] x y = []
-pair_vector (a ∷ r) [] y = []
-pair_vector (a ∷ r) (i ∷ x) [] = []
-pair_vector (a ∷ r) (i ∷ x) (k ∷ y) = record { axis = a; above = i; below = k } ∷ pair_vector r x y
-
-record Paired (l : List ActiveAxis) (x y : List ℕ) (v : List AxisDifference) : Type 0 where
-  axes : axes_of v ≡ l
-  small : All IsSmall v
-  up : up_of v ≡ reach l x
-  down : down_of v ≡ reach l y
-  level : All IsLevel v → x ≡ y
-
-paired : (l : List ActiveAxis) {x y : List ℕ} → IndexVector (lengths l) x → IndexVector (lengths l) y → Paired l x y (pair_vector l x y)
-unfolding pair_vector reach up_of down_of
-paired [] empty empty = record { axes = refl; small = All-nil IsSmall; up = refl; down = refl; level = λ h. refl }
-paired (a ∷ r) (◌and◌ {i = i} {is = x} h b) (◌and◌ {i = k} {is = y} m c) =
-    let t = paired r b c in
-    let d : AxisDifference = record { axis = a; above = i; below = k } in
-    record {
-      axes = ap (λ z. a ∷ z) t.axes;
-      small = All-cons IsSmall d (pair_vector r x y) (h, m) t.small;
-      up = ap (λ (n : ℕ). i * a.stride + n) t.up;
-      down = ap (λ (n : ℕ). k * a.stride + n) t.down;
-      level = λ q. ap₂ (λ (n : ℕ) (z : List ℕ). n ∷ z) (All-head IsLevel d (pair_vector r x y) q) (t.level (All-tail IsLevel d (pair_vector r x y) q));
-    }
-
-pair-apart : (l : List ActiveAxis) → EqualSums l → Apart l 0
-pair-apart l p =
-    let t = paired l p.bx p.by in
-    record { vector = pair_vector l p.x p.y; axes-are = t.axes; small = t.small; other = λ h. p.other (t.level h); is = omega (arith, t.up, t.down, p.same) }
-
-record Pair (v : List AxisDifference) : Type 0 where
-  x : List ℕ
-  y : List ℕ
-  bx : IndexVector (lengths (axes_of v)) x
-  by : IndexVector (lengths (axes_of v)) y
-  up : reach (axes_of v) x ≡ up_of v
-  down : reach (axes_of v) y ≡ down_of v
-  level : x ≡ y → All IsLevel v
-
-pair-of : (v : List AxisDifference) → All IsSmall v → Pair v
-unfolding reach up_of down_of
-pair-of [] h = record { x = []; y = []; bx = empty; by = empty; up = refl; down = refl; level = λ e. All-nil IsLevel }
-pair-of (d ∷ v) h =
-    let t = pair-of v (All-tail IsSmall d v h) in
-    let s = All-head IsSmall d v h in
-    record {
-      x = d.above ∷ t.x;
-      y = d.below ∷ t.y;
-      bx = ◌and◌ s.0 t.bx;
-      by = ◌and◌ s.1 t.by;
-      up = ap (λ (n : ℕ). d.above * d.axis.stride + n) t.up;
-      down = ap (λ (n : ℕ). d.below * d.axis.stride + n) t.down;
-      level = λ e. All-cons IsLevel d v (cc) (t.level (cc));
-    }
-
-apart-pair : {l : List ActiveAxis} → Apart l 0 → EqualSums l
-apart-pair p =
-    let t = pair-of p.vector p.small in
-    subst EqualSums p.axes-are (record { x = t.x; y = t.y; bx = t.bx; by = t.by; other = λ e. p.other (t.level e); same = omega (arith, t.up, t.down, p.is) })
+use Rattle.specification.proofs.Digits.{place, quotient-below, indexAt-within, place-indexAt, indexAt-place, place-lt, place-inj}
+use Rattle.specification.proofs.Differences.{EqualSums, pair-zero, zero-pair}
+use Rattle.specification.proofs.DifferenceWalk.{middle, noDifference-within, widths-positive}
+use Rattle.specification.proofs.SearchLaws.{half_is, same-pair, no_same}
+use Rattle.differences.specs.Differences.{IsDistance, Meets, in_first, in_second, in_both, Walkable, distance_at}
+use Rattle.differences.proofs.BoxLaws.{head-some, positive-extents, some-total, box-append, box-some}
+pub use Rattle.differences.proofs.BoxLaws.{total-append, span-append}
+use Rattle.differences.proofs.ZeroVector.{half-doubled}
+use Rattle.differences.proofs.DistanceLaws.{digit_sum, distance-is}
+use Rattle.differences.proofs.Apart.{half-sum, distance-from, turned, distance-apart}
 
 -- ---- positions of one sum
-
-positive-extents : (l : List ActiveAxis) → 0 < total l → PositiveExtents (lengths l)
-unfolding product
-positive-extents [] h = none
-positive-extents (a ∷ r) h = let s = head-some a.extent (total r) h in more s.0 (positive-extents r s.1)
 
 pair-same : (l : List ActiveAxis) → EqualSums l → SameSum l
 pair-same l p = go (sameSum? l)
@@ -219,39 +27,123 @@ pair-same l p = go (sameSum? l)
     go (yes s) = s
     go (no n) = absurd (p.other (no_same l n p.x p.y p.bx p.by p.same))
 
-pub total-append : (u v : List ActiveAxis) → total (u ++ v) ≡ total u * total v
-unfolding product
-total-append [] v = omega arith
-total-append (a ∷ u) v = let z = ap (λ (n : ℕ). a.extent * n) (total-append u v) in omega arith
-
-pub span-append : (u v : List ActiveAxis) → spanSum (u ++ v) ≡ spanSum u + spanSum v
-unfolding spanSum
-span-append [] v = omega arith
-span-append (a ∷ u) v = omega (arith, span-append u v)
-
-both-some : (u v : List ActiveAxis) → 0 < total (u ++ v) → (0 < total u) × (0 < total v)
-both-some u v h = head-some (total u) (total v) (omega (arith, total-append u v))
-
 -- two positions have one sum exactly if 0 is a distance
 pub clash-distance : (l : List ActiveAxis) → 0 < total l → SameSum l → IsDistance l 0
-clash-distance l h s = apart-distance (pair-apart l (same-pair l (positive-extents l h) s))
+unfolding middle
+clash-distance l h s =
+    let p = positive-extents l h in
+    let z = pair-zero l (same-pair l p s) in
+    distance-from h (place (widths l) z.d) (place-lt z.box)
+    (λ e. z.some (place-inj z.box (noDifference-within l p) (e ∙ half_is l p)))
+    (omega (arith, distance-is l (place (widths l) z.d), ap (reach l) (indexAt-place z.box), z.sum))
 
 pub distance-clash : (l : List ActiveAxis) → IsDistance l 0 → SameSum l
-distance-clash l d = pair-same l (apart-pair (distance-apart (some-total l (omega (arith, d.below))) d))
+unfolding middle
+distance-clash l d =
+    let p = positive-extents l (some-total l (omega (arith, d.below))) in
+    let b = indexAt-within (widths-positive l p) d.number d.below in
+    let k = place-indexAt (widths-positive l p) d.number d.below in
+    pair-same l (zero-pair l (record {
+      d = index_at (widths l) d.number;
+      box = b;
+      some = λ e. omega (arith, d.above, half_is l p, k, ap (place (widths l)) e);
+      sum = omega (arith, distance-is l d.number, d.is);
+    }))
 
--- and 0 is a distance exactly if the distances of two parts meet
-pub meets-whole : (u v : List ActiveAxis) → 0 < total (u ++ v) → Meets u v → IsDistance (u ++ v) 0
-meets-whole u v h m = let b = both-some u v h in apart-distance (meets-apart u v b.0 b.1 m)
+-- ---- two parts
 
-pub whole_meets : (u v : List ActiveAxis) → 0 < total (u ++ v) → IsDistance (u ++ v) 0 → Meets u v
-whole_meets u v h d = let b = both-some u v h in apart-meets u v b.0 b.1 (distance-apart h d)
+-- the vectors of the first part run fastest
+digits-append : (u v : List ActiveAxis) (i k : ℕ) → i < box u → digit_sum (u ++ v) (i + box u * k) ≡ digit_sum u i + digit_sum v k
+unfolding index_at reach product
+digits-append [] v i k h = let e : i + 1 * k ≡ k = omega arith in rw e (omega arith)
+digits-append (a ∷ u) v i k h =
+    let w : ℕ = 2 * a.extent - 1 in
+    let s : 0 < w = (head-some w (box u) (omega (arith, h))).0 in
+    let e : i + w * box u * k ≡ i + w * (box u * k) = omega arith in
+    let rest = digits-append u v (i / w) k (quotient-below i w (box u) s h) in
+    rw (e, add-mul-mod_self_left i w (box u * k), add-mul-div_left i (box u * k) s) (omega (arith, rest))
 
-pub meets-same : (u v : List ActiveAxis) → 0 < total (u ++ v) → Meets u v ↔ SameSum (u ++ v)
-meets-same u v h = (λ m. distance-clash (u ++ v) (meets-whole u v h m), λ s. whole_meets u v h (clash-distance (u ++ v) h s))
+module _ (u v : List ActiveAxis) (h : 0 < total (u ++ v)) where
+  some : (0 < total u) × (0 < total v)
+  some = head-some (total u) (total v) (omega (arith, total-append u v))
 
--- each part of axes that can be walked over can
-pub first-walkable : (u v : List ActiveAxis) → Walkable (u ++ v) → Walkable u
-first-walkable u v w = record { few = omega (arith, w.few, length-append u v); some = (both-some u v w.some).0; fits = omega (arith, w.fits, span-append u v) }
+  half-append : half (u ++ v) ≡ half u + box u * half v
+  half-append =
+      let a = half-doubled u some.0 in
+      let b = half-doubled v some.1 in
+      omega (arith, half-doubled (u ++ v) h, box-append u v, ap₂ (λ (m n : ℕ). m * n) a b, ap (λ (n : ℕ). n * half v) a)
 
-pub second-walkable : (u v : List ActiveAxis) → Walkable (u ++ v) → Walkable v
-second-walkable u v w = record { few = omega (arith, w.few, length-append u v); some = (both-some u v w.some).1; fits = omega (arith, w.fits, span-append u v) }
+  -- a vector of each part, not both zero, whose digits sum to the span together
+  together : (i k : ℕ) → i < box u → k < box v → (i ≡ half u → k ≢ half v) → digit_sum u i + digit_sum v k ≡ spanSum u + spanSum v
+      → IsDistance (u ++ v) 0
+  together i k li lk o e =
+      distance-from h (i + box u * k) (omega (arith, mul-add-lt k (box u) i (box v) lk li, box-append u v))
+      (λ c. let l : half u < box u = omega (arith, half-doubled u some.0) in
+      let s = same_from_place k i (half v) (half u) (box u) li l (omega (arith, c, half-append)) in o s.1 s.0)
+      (omega (arith, distance-is (u ++ v) (i + box u * k), digits-append u v i k li, span-append u v, e))
+
+  -- 0 is a distance exactly if the distances of two parts meet
+  pub meets-whole : Meets u v → IsDistance (u ++ v) 0
+  meets-whole (in_first d) =
+      let a = distance-apart some.0 d in
+      let l : half v < box v = omega (arith, half-doubled v some.1) in
+      together a.number (half v) a.below l (λ e. absurd (a.other e)) (omega (arith, a.is, half-sum v some.1))
+  meets-whole (in_second d) =
+      let a = distance-apart some.1 d in
+      together (half u) a.number (omega (arith, half-doubled u some.0)) a.below (λ e. a.other) (omega (arith, a.is, half-sum u some.0))
+  meets-whole (in_both n d f) =
+      let a = distance-apart some.0 d in
+      let b = turned some.1 (distance-apart some.1 f) in
+      together a.number b.number a.below b.below (λ e. absurd (a.other e)) (omega (arith, a.is, b.is))
+
+  pub whole_meets : IsDistance (u ++ v) 0 → Meets u v
+  whole_meets d = go (ℕ_discrete i (half u)) (ℕ_discrete k (half v))
+    where
+      i : ℕ
+      i = d.number % box u
+
+      k : ℕ
+      k = d.number / box u
+
+      is : i + box u * k ≡ d.number
+      is = mod-add-div d.number (box u)
+
+      li : i < box u
+      li = mod-lt d.number (omega (arith, half-doubled u some.0))
+
+      lk : k < box v
+      lk = quotient-below d.number (box u) (box v) (omega (arith, half-doubled u some.0)) (omega (arith, d.below, box-append u v))
+
+      sums : digit_sum u i + digit_sum v k ≡ spanSum u + spanSum v
+      sums = omega (arith, digits-append u v i k li, ap (digit_sum (u ++ v)) is, span-append u v, distance-is (u ++ v) d.number, d.is)
+
+      go : Dec (i ≡ half u) → Dec (k ≡ half v) → Meets u v
+      go (yes a) (yes b) = absurd (omega (arith, d.above, half-append, is, a, ap (λ (n : ℕ). box u * n) b))
+      go (yes a) (no b) =
+          in_second (distance-from some.1 k lk b (omega (arith, distance-is v k, sums, ap (digit_sum u) a, half-sum u some.0)))
+      go (no a) (yes b) =
+          in_first (distance-from some.0 i li a (omega (arith, distance-is u i, sums, ap (digit_sum v) b, half-sum v some.1)))
+      go (no a) (no b) =
+          let e : distance_at u i ≡ distance_at v k = omega (arith, distance-is u i, distance-is v k, sums) in
+          in_both (distance_at v k) (distance-from some.0 i li a e) (distance-from some.1 k lk b refl)
+
+  pub meets-same : Meets u v ↔ SameSum (u ++ v)
+  meets-same = (λ m. distance-clash (u ++ v) (meets-whole m), λ s. whole_meets (clash-distance (u ++ v) h s))
+
+-- axes that can be walked over, cut anywhere (the first part shows `grind` the call to match)
+pub cut_at : (block : List ActiveAxis) (c : ℕ) → Walkable block
+    → (take c block ≡ take c block) × Walkable (take c block) × Walkable (drop c block) × (0 < box (take c block))
+    × (Meets (take c block) (drop c block) ↔ SameSum block)
+cut_at block c w =
+    let u = take c block in
+    let v = drop c block in
+    let e = take-append-drop c block in
+    let s = some u v (rw e w.some) in
+    let few = length-append u v in
+    let fits = span-append u v in (
+      refl,
+      record { few = omega (arith, w.few, few, ap length e); some = s.0; fits = omega (arith, w.fits, fits, ap spanSum e) },
+      record { few = omega (arith, w.few, few, ap length e); some = s.1; fits = omega (arith, w.fits, fits, ap spanSum e) },
+      box-some u s.0,
+      subst (λ b. Meets u v ↔ SameSum b) e (meets-same u v (rw e w.some)),
+    )

@@ -1,18 +1,15 @@
 -- A difference vector with another difference at one of its axes: its axes, its number and its sums.
-use mathlib.Core.List.{List, [], ◌∷◌}
-use mathlib.Core.Path.{◌≡◌, refl, ap, ◌∙◌}
-use Prim.Native.Nat.{ℕ, zero, suc, ◌+◌, ◌*◌, ◌-◌, ◌<◌, ◌≤◌}
-use native.Mathlib.Nat.{mul-le-mul_left, mul-le-mul_right}
-use native.Mathlib.Omega.{arith}
-use lib.ListN.{length, get_or, set, take}
-use Rattle.std.specs.List.{All}
+use Rattle.std.proofs.Common.{◌≡◌, ◌∙◌, sym, ap, ℕ, zero, suc, ◌+◌, ◌*◌, ◌-◌, ◌<◌, ◌≤◌, List, [], ◌∷◌, All, length, get_or, set, take, arith, mul-le-mul_left, mul-le-mul_right}
+use Rattle.std.proofs.Math.ListN.{get_or-map}
+use Rattle.std.proofs.lemmas.List.{length-map, map-set, set-get_or}
 use Rattle.std.proofs.lemmas.List.Elements.{All-head, All-tail}
 use Rattle.specification.specs.Axis.{product}
 use Rattle.specification.specs.Search.{spanSum, box}
 use Rattle.differences.specs.declared.AxisDifference.{AxisDifference}
+pub use Rattle.differences.specs.AxisDifferences.{digit_of}
 use Rattle.differences.specs.AxisDifferences.{axes_of, number_of, up_of, down_of, IsSmall}
-use Rattle.differences.proofs.AxisLaws.{no_axis}
-use Rattle.differences.proofs.AxisLaws as axes
+use Rattle.differences.proofs.BoxLaws.{no_axis}
+use Rattle.differences.proofs.BoxLaws as axes
 
 -- what is read past the end
 abbrev pub nothing : AxisDifference
@@ -21,22 +18,21 @@ nothing = record { axis = no_axis; above = 0; below = 0 }
 abbrev pub entry : List AxisDifference → ℕ → AxisDifference
 entry ds j = get_or ds j nothing
 
--- the digit of a difference
-abbrev pub digit_of : AxisDifference → ℕ
-digit_of d = d.above + (d.axis.extent - 1) - d.below
-
 -- how many vectors the axes before j have
 abbrev pub box_before : List AxisDifference → ℕ → ℕ
 box_before ds j = box (take j (axes_of ds))
 
 pub axes-length : (ds : List AxisDifference) → length (axes_of ds) ≡ length ds
-axes-length [] = refl
-axes-length (d ∷ ds) = ap suc (axes-length ds)
+axes-length ds = length-map ds (λ d. d.axis)
+
+axis-entry : (ds : List AxisDifference) (j : ℕ) → get_or (axes_of ds) j no_axis ≡ (entry ds j).axis
+axis-entry ds j = get_or-map (λ d. d.axis) ds j nothing
 
 pub axes-set : (ds : List AxisDifference) (j : ℕ) (d : AxisDifference) → d.axis ≡ (entry ds j).axis → axes_of (set ds j d) ≡ axes_of ds
-axes-set [] j d e = refl
-axes-set (c ∷ ds) zero d e = ap (λ a. a ∷ axes_of ds) e
-axes-set (c ∷ ds) (suc j) d e = ap (λ z. c.axis ∷ z) (axes-set ds j d e)
+axes-set ds j d e =
+    map-set (λ (x : AxisDifference). x.axis) ds j d
+    ∙ ap (set (axes_of ds) j) (e ∙ sym (axis-entry ds j))
+    ∙ set-get_or (axes_of ds) j no_axis
 
 pub up-set : (ds : List AxisDifference) (j : ℕ) (d : AxisDifference) → j < length ds
     → up_of (set ds j d) + (entry ds j).above * (entry ds j).axis.stride ≡ up_of ds + d.above * d.axis.stride
@@ -57,32 +53,28 @@ pub number-set : (ds : List AxisDifference) (j : ℕ) (d : AxisDifference) → j
 unfolding number_of product
 number-set [] j d h e = absurd (omega arith)
 number-set (c ∷ ds) zero d h e = omega (arith, ap (λ a. (2 * a.extent - 1) * number_of ds) e)
-number-set (c ∷ ds) (suc j) d h e = let z = ap (λ (n : ℕ). (2 * c.axis.extent - 1) * n) (number-set ds j d (omega arith) e) in omega arith
-
-axis-entry : (ds : List AxisDifference) (j : ℕ) → get_or (axes_of ds) j no_axis ≡ (entry ds j).axis
-axis-entry [] j = refl
-axis-entry (c ∷ ds) zero = refl
-axis-entry (c ∷ ds) (suc j) = axis-entry ds j
+number-set (c ∷ ds) (suc j) d h e = omega (arith, ap (λ (n : ℕ). (2 * c.axis.extent - 1) * n) (number-set ds j d (omega arith) e))
 
 -- one axis more
-pub box-more : (ds : List AxisDifference) (j : ℕ) → j < length ds → box_before ds (j + 1) ≡ box_before ds j * (2 * (entry ds j).axis.extent - 1)
-box-more ds j h = axes.box-more (axes_of ds) j (omega (arith, axes-length ds)) ∙ ap (λ a. box_before ds j * (2 * a.extent - 1)) (axis-entry ds j)
+pub box-more : (ds : List AxisDifference) (j : ℕ) → j < length ds
+    → box_before ds (j + 1) ≡ box_before ds j * (2 * (entry ds j).axis.extent - 1)
+box-more ds j h =
+    axes.box-more (axes_of ds) j (omega (arith, axes-length ds))
+    ∙ ap (λ a. box_before ds j * (2 * a.extent - 1)) (axis-entry ds j)
 
 -- no sum is above the span
 pub up-low : (ds : List AxisDifference) → All IsSmall ds → up_of ds ≤ spanSum (axes_of ds)
 unfolding up_of spanSum
 up-low [] h = omega arith
 up-low (d ∷ ds) h =
-    let s = All-head IsSmall d ds h in
-    let l : d.above ≤ d.axis.extent - 1 = omega arith in
+    let l : d.above ≤ d.axis.extent - 1 = omega (arith, (All-head IsSmall d ds h).0) in
     omega (arith, mul-le-mul_right d.axis.stride l, up-low ds (All-tail IsSmall d ds h))
 
 pub down-low : (ds : List AxisDifference) → All IsSmall ds → down_of ds ≤ spanSum (axes_of ds)
 unfolding down_of spanSum
 down-low [] h = omega arith
 down-low (d ∷ ds) h =
-    let s = All-head IsSmall d ds h in
-    let l : d.below ≤ d.axis.extent - 1 = omega arith in
+    let l : d.below ≤ d.axis.extent - 1 = omega (arith, (All-head IsSmall d ds h).1) in
     omega (arith, mul-le-mul_right d.axis.stride l, down-low ds (All-tail IsSmall d ds h))
 
 -- each number is below the box
@@ -90,7 +82,5 @@ pub number-low : (ds : List AxisDifference) → All IsSmall ds → number_of ds 
 unfolding number_of product
 number-low [] h = omega arith
 number-low (d ∷ ds) h =
-    let s = All-head IsSmall d ds h in
-    let w = mul-le-mul_left (2 * d.axis.extent - 1) (number-low ds (All-tail IsSmall d ds h)) in
-    let l : digit_of d < 2 * d.axis.extent - 1 = omega arith in
-    omega arith
+    let l : digit_of d < 2 * d.axis.extent - 1 = omega (arith, All-head IsSmall d ds h) in
+    omega (arith, mul-le-mul_left (2 * d.axis.extent - 1) (number-low ds (All-tail IsSmall d ds h)))

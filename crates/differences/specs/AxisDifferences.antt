@@ -1,5 +1,5 @@
 -- A difference vector as the code holds it: an axis and a difference of its indices, in two parts.
-use Rattle.std.specs.Prelude.{List, [], ◌∷◌, ℕ, ◌+◌, ◌*◌, ◌-◌, ◌^◌, ◌<◌, ◌≡◌}
+use Rattle.std.specs.Prelude.{List, [], ◌∷◌, ℕ, ◌+◌, ◌*◌, ◌-◌, ◌^◌, ◌<◌, ◌≤◌, ◌≡◌, map}
 use Rattle.std.specs.List.{All}
 use Rattle.specification.specs.Search.{ActiveAxis, spanSum}
 use Rattle.differences.specs.declared.AxisDifference.{AxisDifference}
@@ -7,13 +7,16 @@ use Rattle.differences.specs.declared.Sums.{Sums}
 
 -- the axes alone
 abbrev pub axes_of : List AxisDifference → List ActiveAxis
-axes_of [] = []
-axes_of (d ∷ rest) = d.axis ∷ axes_of rest
+axes_of = map (λ d. d.axis)
 
--- the number of the vector: its digits are difference + extent - 1, that of the first axis the lowest
+-- a difference as a digit: difference + extent - 1
+abbrev pub digit_of : AxisDifference → ℕ
+digit_of d = d.above + (d.axis.extent - 1) - d.below
+
+-- the number of the vector, the digit of the first axis the lowest
 unfoldable pub number_of : List AxisDifference → ℕ
 number_of [] = 0
-number_of (d ∷ rest) = d.above + (d.axis.extent - 1) - d.below + (2 * d.axis.extent - 1) * number_of rest
+number_of (d ∷ rest) = digit_of d + (2 * d.axis.extent - 1) * number_of rest
 
 -- the sum of the parts above 0
 unfoldable pub up_of : List AxisDifference → ℕ
@@ -28,6 +31,14 @@ down_of (d ∷ rest) = d.below * d.axis.stride + down_of rest
 -- each part is below its extent
 abbrev pub IsSmall : AxisDifference → Type 0
 IsSmall d = (d.above < d.axis.extent) × (d.below < d.axis.extent)
+
+-- a difference in the sums of a vector, which fit a word wherever the difference goes on its axis
+pub record IsWithin (d : AxisDifference) (sums : Sums) : Type 0 where
+  pub small : IsSmall d
+  pub up-has : d.above * d.axis.stride ≤ sums.up
+  pub down-has : d.below * d.axis.stride ≤ sums.down
+  pub up-fits : sums.up + (d.axis.extent - 1) * d.axis.stride < d.above * d.axis.stride + 2 ^ 64
+  pub down-fits : sums.down + (d.axis.extent - 1) * d.axis.stride < d.below * d.axis.stride + 2 ^ 64
 
 -- a vector with its sums, which fit a word
 pub record Stands (vector : List AxisDifference) (sums : Sums) : Type 0 where

@@ -1,11 +1,25 @@
 //! How many difference vectors axes have.
-ghost use Rattle.std.specs.Prelude.{◌≡◌, ◌<◌, ◌≤◌, IfSome, IfNone};
+ghost use Rattle.std.specs.Prelude.{◌≡◌, ◌-◌, ◌*◌, ◌<◌, ◌≤◌, IfSome, IfNone};
 ghost use Rattle.specification.specs.Search.{box, total};
 
 use axis::ActiveAxis;
 
+/// `vectors` times as many as an axis of this extent has differences, where that is at most `most`. The product can pass a word.
+pub fn with_axis(vectors: u64, extent: u64, most: u64) -> Option<u64>
+    requires vectors { 0 < vectors }
+    requires some { 0 < extent }
+    ensures within { IfSome result (λ more. (more ≡ vectors * (2 * extent - 1)) × (more ≤ most)) }
+    ensures past { IfNone result (most < vectors * (2 * extent - 1)) }
+{
+    let middle = extent - 1;
+    let width = middle.checked_mul(2)? + 1;
+    let more = vectors.checked_mul(width)?;
+    if more <= most { Some(more) } else { None }
+}
+
 /// How many difference vectors the axes have, where that is at most `most`. It stops at the first product above: the box itself
 /// can pass a word.
+#[tactic(auto, unfolding(specification::specs::Axis::product), using(crate::proofs::BoxLaws::box_next))]
 pub fn box_within(axes: &[ActiveAxis], most: u64) -> Option<u64>
     requires some { 0 < total axes.now }
     requires least { 0 < most }
@@ -14,15 +28,7 @@ pub fn box_within(axes: &[ActiveAxis], most: u64) -> Option<u64>
 {
     let mut vectors: u64 = 1;
     for axis in axes {
-        let middle = axis.extent - 1;
-        if middle > most / 2 {
-            return None;
-        }
-        let width = middle + middle + 1;
-        if width > most / vectors {
-            return None;
-        }
-        vectors *= width;
+        vectors = with_axis(vectors, axis.extent, most)?;
     }
     Some(vectors)
 }

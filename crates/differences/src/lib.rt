@@ -1,21 +1,36 @@
-//! The difference vectors of active axes, one after another, each with the distance of its sum from 0.
+//! Which numbers are distances of active axes: the sum of a difference vector without its sign.
+//!
+//! The enumeration asks it: two positions of a block have one sum exactly if 0 is a distance of its axes, other than of the
+//! zero vector. A vector and its opposite have one distance, so a walk takes the vectors above the zero vector, in the order of
+//! their numbers. A block cut in two is asked by its parts: 0 is a distance of one, or some number is a distance of both. That
+//! takes as many vectors as the parts have, and not as many as their product.
+//!
+//! A step changes the difference of the first axis alone, until that goes around: one addition for most vectors. The sum is kept
+//! in two parts, above 0 and below, which fit a word where the span does; the distance is how far they are apart.
+//!
+//! That a walk tells each distance is the contract of `Differences::next`; that parts may be asked for the whole is the law
+//! `meets-same` in proofs/Meeting.antt, and `Meets` of specs/Differences.antt says what is asked. docs/WHY.md, "Enumeration",
+//! explains it.
 #![tactic(auto)]
 
 pub mod boxes;
 
-ghost use Rattle.std.specs.Prelude.{◌≡◌, ◌+◌, ◌<◌, length, IfSome, IfNone, IsTrue, IsFalse};
+ghost use Rattle.std.specs.Prelude.{◌≡◌, ◌+◌, ◌-◌, ◌*◌, ◌<◌, length, IfSome, IfNone, IsTrue, IsFalse};
 ghost use Rattle.specification.specs.Search.{box, half};
 ghost use Rattle.differences.specs.Differences.{Walkable, distance_at};
-ghost use Rattle.differences.specs.AxisDifferences.{axes_of, number_of, Stands};
+ghost use Rattle.differences.specs.AxisDifferences.{axes_of, number_of, digit_of, IsSmall, IsWithin, Stands};
 
 use axis::ActiveAxis;
 use std::marker::Model;
 
-// A difference of two indices of an axis, in two parts of which one is 0: what is above 0, and what is below it without its sign.
+/// A difference of two indices of an axis, in two parts of which one is 0: what is above 0, and what is below it without its sign.
 #[derive(Clone, Copy, Debug, PartialEq, Eq)]
 pub struct AxisDifference {
+    /// The axis, whose extent is above both parts.
     pub axis: ActiveAxis,
+    /// What the difference is above 0.
     pub above: u64,
+    /// What it is below 0, without its sign.
     pub below: u64,
 }
 
@@ -29,17 +44,49 @@ impl AxisDifference {
         above: 0,
         below: 0,
     };
+
+    // On to the next difference, with the sums that it is in. After the last comes the first, and the answer is false.
+    #[tactic(auto, using(std::proofs::lemmas::Nat::rows))]
+    fn step(&mut self, sums: &mut Sums) -> bool
+        requires within { IsWithin self.old sums.old }
+        ensures small { IsSmall self.new }
+        ensures axis { self.new.axis ≡ self.old.axis }
+        ensures on { IsTrue result → digit_of self.new ≡ digit_of self.old + 1 }
+        ensures last { IsFalse result → (digit_of self.new ≡ 0) × (digit_of self.old + 1 ≡ 2 * self.old.axis.extent - 1) }
+        ensures up { sums.new.up + self.old.above * self.old.axis.stride ≡ sums.old.up + self.new.above * self.old.axis.stride }
+        ensures down { sums.new.down + self.old.below * self.old.axis.stride ≡ sums.old.down + self.new.below * self.old.axis.stride }
+    {
+        let ActiveAxis { extent, stride, .. } = self.axis;
+        if self.below > 0 {
+            self.below -= 1;
+            sums.down -= stride;
+            return true;
+        }
+        let last = extent - 1;
+        if self.above < last {
+            self.above += 1;
+            sums.up += stride;
+            return true;
+        }
+        self.above = 0;
+        self.below = last;
+        let back = stride * last;
+        sums.up -= back;
+        sums.down += back;
+        false
+    }
 }
 
 // The sum of the parts above 0, each times its stride, and that of the parts below. Both fit a word where the span does.
-#[derive(Clone, Copy, Debug, PartialEq, Eq)]
-pub struct Sums {
-    pub up: u64,
-    pub down: u64,
+#[derive(Clone, Copy)]
+struct Sums {
+    up: u64,
+    down: u64,
 }
 
 // On to the next vector, the first axis fastest. After the last comes the first, and the answer is false.
-pub fn advance(differences: &mut [AxisDifference], sums: &mut Sums) -> bool
+#[tactic(auto, using(crate::proofs::Advancing::turns), unfolding(specification::specs::Axis::product))]
+fn advance(differences: &mut [AxisDifference], sums: &mut Sums) -> bool
     requires stands { Stands differences.old sums.old }
     ensures stands { Stands differences.new sums.new }
     ensures axes { axes_of differences.new ≡ axes_of differences.old }
@@ -47,23 +94,9 @@ pub fn advance(differences: &mut [AxisDifference], sums: &mut Sums) -> bool
     ensures last { IsFalse result → number_of differences.old + 1 ≡ box (axes_of differences.old) }
 {
     for difference in differences.iter_mut() {
-        let ActiveAxis { extent, stride, .. } = difference.axis;
-        if difference.below > 0 {
-            difference.below -= 1;
-            sums.down -= stride;
+        if difference.step(sums) {
             return true;
         }
-        let last = extent - 1;
-        if difference.above < last {
-            difference.above += 1;
-            sums.up += stride;
-            return true;
-        }
-        difference.above = 0;
-        difference.below = last;
-        let back = stride * last;
-        sums.up -= back;
-        sums.down += back;
     }
     false
 }
@@ -109,6 +142,7 @@ impl Differences {
     }
 
     /// On to the next vector, and its distance. `None` after the last: the walk is at the first then.
+    #[tactic(auto, using(crate::proofs::Advancing::next))]
     pub fn next(&mut self) -> Option<u64>
         ensures axes { self.new.axes ≡ self.old.axes }
         ensures within { self.new.number < box self.new.axes }

@@ -1,35 +1,37 @@
--- A walk over the vectors above the zero vector: what holds of the distance at each of them holds of every distance.
-use mathlib.Core.List.{List}
-use mathlib.Core.Path.{◌≡◌, refl, sym, ap, ◌∙◌}
-use Prim.Native.Nat.{ℕ, ◌+◌, ◌<◌, ◌≤◌}
-use native.Mathlib.Omega.{arith}
+-- A walk over the vectors above the zero vector: the distance of each is a distance, and what is put into the table so.
+use Rattle.std.proofs.Common.{◌≡◌, ◌≢◌, ◌⊎◌, ◌∙◌, refl, sym, ap, inl, inr, ℕ, ◌<◌, ◌≤◌, List, true, arith}
+use Rattle.std.proofs.Math.Decide.{ℕ_discrete}
+use Rattle.std.specs.FinSet.{FinSet, contains, insert, contains-empty}
+use Rattle.std.specs.Ordering.{nat_cmp}
 use Rattle.specification.specs.Search.{ActiveAxis, box, half}
-use Rattle.differences.specs.Differences.{DifferencesAt, IsDistance, distance_at}
-use Rattle.std.proofs.lemmas.Int.{ints}
+use Rattle.differences.specs.Differences.{IsDistance, distance_at}
+use Rattle.differences.proofs.BoxLaws.{box-some}
+use Rattle.differences.proofs.ZeroVector.{half-doubled}
+use Rattle.enumeration.proofs.TableLaws.{put-has, put-keeps, put-only}
 
--- the walk is at the zero vector or above it, and P holds of the distance of each vector above the zero vector up to where it is
-pub record Visiting (axes : List ActiveAxis) (P : ℕ → Type 0) (w : DifferencesAt) : Type 0 where
-  pub same : w.axes ≡ axes
-  pub middle : half axes ≤ w.number
-  pub each : (k : ℕ) → half axes < k → k ≤ w.number → P (distance_at axes k)
+-- the first part shows `grind` the call to match
+pub visited : (axes : List ActiveAxis) (k : ℕ) → half axes < k → k < box axes
+    → (distance_at axes k ≡ distance_at axes k) × IsDistance axes (distance_at axes k)
+visited axes k l h = (refl, record { number = k; above = l; below = h; is = refl })
 
-pub visiting-start : (axes : List ActiveAxis) (P : ℕ → Type 0) → Visiting axes P (record { axes = axes; number = half axes })
-visiting-start axes P = record { same = refl; middle = omega arith; each = λ k l h. absurd (omega arith) }
+pub ruleset visits = (visited, contains-empty, box-some, half-doubled)
 
-module _ (axes : List ActiveAxis) (P : ℕ → Type 0) (w : DifferencesAt) (f : Visiting axes P w) where
-  -- the next one, and its distance
-  module _ (w' : DifferencesAt) (n : ℕ) (s : w'.axes ≡ w.axes) (e : w'.number ≡ w.number + 1) (l : w'.number < box w'.axes) (d : n ≡ distance_at w'.axes w'.number) where
-    same : w'.axes ≡ axes
-    same = s ∙ f.same
+-- the distance n of vector j is put
+module _ (axes : List ActiveAxis) (s t : FinSet nat_cmp) (n j : ℕ) (put : t ≡ insert s n) (d : n ≡ distance_at axes j) where
+  pub each-more : n ≢ 0 → (k : ℕ) → (k < j → (distance_at axes k ≢ 0) × (contains s (distance_at axes k) ≡ true)) → k ≤ j
+      → (distance_at axes k ≢ 0) × (contains t (distance_at axes k) ≡ true)
+  each-more z k i h = go (ℕ_discrete k j)
+    where
+      go : Dec (k ≡ j) → (distance_at axes k ≢ 0) × (contains t (distance_at axes k) ≡ true)
+      go (yes e) =
+          let f : distance_at axes k ≡ n = ap (distance_at axes) e ∙ sym d in
+          (λ o. z (sym f ∙ o), ap (contains t) f ∙ put-has s t n put)
+      go (no e) = let p = i (omega arith) in (p.0, put-keeps s t n put _ p.1)
 
-    here : n ≡ distance_at axes w'.number
-    here = d ∙ ap (λ z. distance_at z w'.number) same
-
-    pub visiting-below : w'.number < box axes
-    visiting-below = omega (arith, l, ap box same)
-
-    pub visiting-distance : IsDistance axes n
-    visiting-distance = record { number = w'.number; above = omega (arith, f.middle); below = visiting-below; is = sym here }
-
-    pub visiting-more : (Q : ℕ → Type 0) → ((k : ℕ) → P k → Q k) → Q n → Visiting axes Q w'
-    visiting-more Q keep q = grind (arith, ints)
+  pub only-more : half axes < j → j < box axes → (q : ℕ) → (contains s q ≡ true → IsDistance axes q) → contains t q ≡ true
+      → IsDistance axes q
+  only-more l h q i c = go (put-only s t n put q c)
+    where
+      go : (q ≡ n) ⊎ (contains s q ≡ true) → IsDistance axes q
+      go (inl e) = record { number = j; above = l; below = h; is = sym (e ∙ d) }
+      go (inr o) = i o

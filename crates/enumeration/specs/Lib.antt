@@ -1,6 +1,5 @@
-pub mod Words
+-- The definitions that the contracts of step 6 cite.
 pub mod Homes
-pub mod Held
 pub mod Sound
 pub mod Parts
 pub mod Enumeration

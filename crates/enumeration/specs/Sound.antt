@@ -1,6 +1,5 @@
 -- What the fields of a table are to its callers, and what they keep.
-use Rattle.enumeration.specs.Homes.{numbers_in, free_behind, Placed}
-use Rattle.enumeration.specs.Held.{Held}
+use Rattle.enumeration.specs.Homes.{Held, numbers_in, free_behind, Placed}
 use Rattle.enumeration.specs.declared.table.Table.TheInside.{Inside}
 
 -- the words that are not free, and how many are free behind the homes

@@ -1,5 +1,15 @@
-// Step 6 of the verdict: whether two positions of a block have one sum. Only existence is asked, so the positions are not walked one by one:
-// the axes are split into two parts, and two positions have one sum exactly if a distance of the one part is a distance of the other, or 0.
+//! Whether two positions of a block have one sum, settled in words that the caller lends.
+//!
+//! Only existence is asked, so the positions are not walked one by one. The axes are split into two parts; two positions have one sum
+//! exactly if 0 is a distance of one part, or some number is a distance of both. The distances of the first part go into a table in
+//! the scratch that the caller lends, and those of the second are looked up there.
+//!
+//! The cost is a step for each difference vector above zero of either part, and for each a look at a word or a few. Of twelve axes of
+//! extent 4 that is 58,824 for a part, in place of 16,777,216 positions. The words are as many as the definition asks for; more would
+//! only make the first part longer.
+//!
+//! That the answer is the definition's is the contract of `enumerate`. docs/WHY.md, "Enumeration", explains why the parts may be asked
+//! for the whole, with a small case by hand.
 #![tactic(auto)]
 
 mod parts;
@@ -25,6 +35,7 @@ fn words_needed(total: u64, span: u64) -> u64
 
 // Whether two positions have one sum, in lent words whatever they hold: the axes in two parts, whose distances meet. More words
 // only make the first part longer.
+#[tactic(auto, using(differences::proofs::Meeting::cut_at))]
 fn has_equal_sums(block: &[ActiveAxis], words: &mut [u64]) -> bool
     requires walkable { Walkable block.now }
     requires words { 0 < length words.old }
@@ -38,6 +49,7 @@ fn has_equal_sums(block: &[ActiveAxis], words: &mut [u64]) -> bool
 
 /// Step 6 for a block of at most 16 axes with its total and its span: `Ok(true)` where no two positions have one sum, `Ok(false)` where
 /// two have. Only the words needed are lent on, so the others stay as they are; on `Err`, which has their number, all do.
+#[tactic(auto, using(crate::proofs::OutcomeLaws::outcomes), unfolding(specification::specs::Verdict::freedBy))]
 pub fn enumerate(
     block: &[ActiveAxis],
     total: u64,

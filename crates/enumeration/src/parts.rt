@@ -8,7 +8,7 @@ ghost use Rattle.enumeration.specs.Parts.{SplitFor, AreDistances, MeetsNumbers};
 use crate::table::Table;
 use axis::ActiveAxis;
 use differences::Differences;
-use differences::boxes::box_within;
+use differences::boxes::{box_within, with_axis};
 
 // How many axes the first part has, and how many difference vectors.
 #[derive(Clone, Copy)]
@@ -18,7 +18,7 @@ pub struct Split {
 }
 
 // The longest first part that has room in so many words, and no more difference vectors than the rest. Any other would be as right.
-#[tactic(auto, unfolding(specification::specs::Axis::product), using(differences::proofs::BoxLaws::extent_at, differences::proofs::BoxLaws::total_rest))]
+#[tactic(auto, unfolding(specification::specs::Axis::product), using(differences::proofs::BoxLaws::cuts))]
 pub fn split_axes(axes: &[ActiveAxis], words: usize) -> Split
     requires some { 0 < total axes.now }
     requires words { 0 < words }
@@ -27,15 +27,9 @@ pub fn split_axes(axes: &[ActiveAxis], words: usize) -> Split
     let most = (words - words / 2) as u64;
     let mut vectors: u64 = 1;
     for (place, axis) in axes.iter().enumerate() {
-        let middle = axis.extent - 1;
-        if middle >= most {
+        let Some(next) = with_axis(vectors, axis.extent, most) else {
             return Split { place, vectors };
-        }
-        let width = middle + middle + 1;
-        if width > most / vectors {
-            return Split { place, vectors };
-        }
-        let next = vectors * width;
+        };
         if box_within(&axes[place + 1..], next).is_some_and(|rest| rest < next) {
             return Split { place, vectors };
         }
@@ -48,6 +42,7 @@ pub fn split_axes(axes: &[ActiveAxis], words: usize) -> Split
 }
 
 // The distances of the part in a table, in words that hold anything; `None` if one is 0.
+#[tactic(auto, using(crate::proofs::Visits::visits))]
 fn fill<'a>(axes: &[ActiveAxis], words: &'a mut [u64]) -> Option<Table<'a>>
     requires walkable { Walkable axes.now }
     requires room { box axes.now ≤ length words.old }
@@ -66,6 +61,7 @@ fn fill<'a>(axes: &[ActiveAxis], words: &'a mut [u64]) -> Option<Table<'a>>
 }
 
 // Whether some distance of the part is 0, or one that the table holds.
+#[tactic(auto, using(crate::proofs::Visits::visits))]
 fn meets(axes: &[ActiveAxis], table: &Table) -> bool
     requires { Walkable axes.now }
     ensures { IsTrue result ↔ MeetsNumbers axes.now table.now.numbers }

@@ -49,7 +49,7 @@ pub struct Table<'a> {
 }
 
 impl<'a> Model for Table<'a> {
-    ghost use Rattle.enumeration.specs.Held.{Held, held_code};
+    ghost use Rattle.enumeration.specs.Homes.{Held, held_code};
 
     ghost Value = { Held };
 

@@ -1,13 +1,17 @@
--- `meets` meets its contract.
-use Rattle.std.proofs.Common.{◌-◌, IsTrue}
-use mathlib.Core.Logic.{◌≢◌}
+-- No distance so far is 0, or in the table.
+use Rattle.std.proofs.Common.{◌≡◌, ◌≢◌, ◌<◌, ◌≤◌, ◌-◌, ℕ, IsTrue}
 use Rattle.std.specs.FinSet.{contains}
-use Rattle.specification.specs.Search.{box}
-use Rattle.enumeration.proofs.Visits.{Visiting}
+use Rattle.specification.specs.Search.{box, half}
+use Rattle.differences.specs.Differences.{distance_at}
 use Rattle.enumeration.proofs.parts.meets.Given as goal
 
 abbrev pub decreases-loop-distance : goal.decreases-loop-distance
 decreases-loop-distance l = box l.axes - l.differences.number
 
 abbrev pub invariant-loop-distance : goal.invariant-loop-distance
-invariant-loop-distance l = Visiting l.axes (λ n. (n ≢ 0) × ¬ (IsTrue (contains l.table.numbers n))) l.differences
+invariant-loop-distance l = record {
+  same : l.differences.axes ≡ l.axes;
+  middle : half l.axes ≤ l.differences.number;
+  each : (k : ℕ) → half l.axes < k → k ≤ l.differences.number
+      → (distance_at l.axes k ≢ 0) × ¬ (IsTrue (contains l.table.numbers (distance_at l.axes k)));
+}

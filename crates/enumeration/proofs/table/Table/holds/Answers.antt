@@ -1,5 +1,5 @@
 -- `holds` meets its contract: a number above all is not among them, and the look for another tells.
-use mathlib.Core.Path.{ap, ◌∙◌}
+use Rattle.std.proofs.Common.{◌∙◌, sym, ap}
 use Rattle.std.specs.FinSet.{contains}
 use Rattle.std.proofs.lemmas.Bool.{lt-leb}
 use Rattle.enumeration.proofs.TableLaws.{too-large, find-tells}
@@ -12,4 +12,7 @@ returns-then-n-self c =
     ∙ ap (λ v. contains v.numbers c.args.n) c.self.view_is
 
 pub returns-else-n-self : goal.returns-else-n-self
-returns-else-n-self c = lt-leb _ _ c.if-n-self.false ∙ too-large _ _ _ _ c.self.invariant c.if-n-self.false ∙ ap (λ v. contains v.numbers c.args.n) c.self.view_is
+returns-else-n-self c =
+    lt-leb _ _ c.if-n-self.false
+    ∙ sym (too-large _ _ _ _ c.self.invariant c.if-n-self.false)
+    ∙ ap (λ v. contains v.numbers c.args.n) c.self.view_is

@@ -1,17 +1,13 @@
--- `new` meets its contract: words that are all free hold no number.
-use mathlib.Core.Path.{◌≡◌, ap₂, ◌∙◌}
-use Prim.Native.Nat.{ℕ, ◌<◌}
-use native.Mathlib.Omega.{arith}
-use lib.ListN.{length}
-use Rattle.std.proofs.Common.{rules}
-use Rattle.enumeration.specs.Words.{at}
-use Rattle.enumeration.proofs.TableLaws.{clear_at, none-clear, free-clear}
+-- Words that are all free hold no number.
+use Rattle.std.proofs.Common.{◌∙◌, ap, ap₂, arith, length, ◌-◌, ◌/◌}
+use Rattle.enumeration.specs.Homes.{numbers_in, free_behind}
+use Rattle.enumeration.proofs.TableLaws.{none_cleared, free_cleared}
 use Rattle.enumeration.proofs.table.Table.new.Goals as goal
 
 pub returns : goal.returns
 returns c =
-    let zero : (i : ℕ) → i < length c.fill.new.self → at c.fill.new.self i ≡ 0 = search rules in
-    let clear = clear_at c.fill.new.self zero in
+    let e = c.fill.ensures.after (λ y e. e) in
+    let n = length c.args.words.now in
     ap₂ (λ numbers room. record { numbers = numbers; room = room })
-    (none-clear c.fill.new.self clear)
-    (free-clear c.fill.new.self _ clear ∙ omega (arith, c.fill.ensures.len))
+    (ap numbers_in e ∙ none_cleared n)
+    (ap (free_behind (length c.fill.new.self - length c.fill.new.self / 2)) e ∙ free_cleared n _ ∙ omega (arith, c.fill.ensures.len))
