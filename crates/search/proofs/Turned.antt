@@ -2,11 +2,16 @@
 use mathlib.Core.Path.{◌≡◌, refl, ap, ◌∙◌}
 use mathlib.Core.List.{List}
 use Prim.Native.Nat.{ℕ, ◌+◌}
+use mathlib.Core.Logic.{◌⊎◌}
+use native.Mathlib.Omega.{arith}
+use Rattle.std.proofs.lemmas.Int.{ints}
 use lib.IntN.{ℤ, pos, ◌+ℤ◌, ◌*ℤ◌, +ℤ_comm}
 use Rattle.specification.specs.Tests.{is_yes}
 use Rattle.specification.specs.Search.{ActiveAxis, half, differenceSum, differenceAt, Completes}
 use Rattle.specification.specs.Decided.{completes?}
 use Rattle.specification.specs.Verdict.{hit}
+use Rattle.walk.specs.declared.two_axes.TwoAxes.{TwoAxes}
+use Rattle.search.specs.SetUp.{SetFor}
 
 -- two decisions of what comes to the same
 decided-same : {P Q : Type 0} (d : Dec P) (e : Dec Q) → (P → Q) → (Q → P) → is_yes d ≡ is_yes e
@@ -24,8 +29,12 @@ completes-turned a b z w = record {
   to-zero = ap (λ (s : ℤ). s +ℤ z) (+ℤ_comm (w.y *ℤ pos b.stride) (w.x *ℤ pos a.stride)) ∙ w.to-zero;
 }
 
-pub hit-turned : (a b : ActiveAxis) (l : List ActiveAxis) (c : ℕ) → hit b a l c ≡ hit a b l c
+hit-turned : (a b : ActiveAxis) (l : List ActiveAxis) (c : ℕ) → hit b a l c ≡ hit a b l c
 unfolding hit
 hit-turned a b l c =
     let z : ℤ = differenceSum l (differenceAt l (half l + c)) in
     decided-same (completes? b a z) (completes? a b z) (completes-turned b a z) (completes-turned a b z)
+
+-- so the walk's test is that of a and b, whichever is solved for
+pub walks : (a b : ActiveAxis) (t : TwoAxes) → SetFor a b t ⊎ SetFor b a t → hit t.first t.second ≡ hit a b
+walks a b t s = grind (arith, ints, hit-turned)

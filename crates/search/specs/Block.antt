@@ -1,22 +1,22 @@
 -- Step 5 on a block: what it is given, and what its answer stands for.
-use Rattle.std.specs.Prelude.{List, [], ◌∷◌, ℕ, ◌^◌, ◌<◌, ◌≤◌, leb, length, None, Option, Some, if◌then◌else◌}
-use Rattle.specification.specs.Search.{ActiveAxis, spanSum, half}
-use Rattle.specification.specs.Verdict.{Plan, answered, Distinct as isDistinct, Repeated as isRepeated, searched}
+use Rattle.std.specs.Prelude.{List, [], ◌∷◌, ℕ, ◌^◌, ◌<◌, ◌≤◌, length, None, Option, Some}
+use Rattle.specification.specs.Search.{ActiveAxis, spanSum}
+use Rattle.specification.specs.Verdict.{Plan, answered, Distinct as isDistinct, Repeated as isRepeated}
 use Rattle.sorting.specs.Numbered.{Numbered}
 use Rattle.search.specs.declared.Searched.{Searched}
 use Rattle.search.specs.declared.Searched.TheVariants.{Repeated, Distinct}
 
 -- ---- what is answered
 
--- the plan that an answer stands for; `past` is the plan above the budget
+-- the plan that an answer stands for
+abbrev pub searched_plan : Searched → Plan
+searched_plan (Repeated count) = answered isRepeated count
+searched_plan (Distinct count) = answered isDistinct count
+
+-- with `past`, the plan above the budget
 abbrev pub planOf : Option Searched → Plan → Plan
 planOf None past = past
-planOf (Some (Repeated count)) past = answered isRepeated count
-planOf (Some (Distinct count)) past = answered isDistinct count
-
--- step 5 on the two set apart and the others, with `past` above the budget
-abbrev pub searchedOr : Plan → ActiveAxis → ActiveAxis → List ActiveAxis → Plan
-searchedOr past a b others = if leb (half others) 4194304 then searched a b others else past
+planOf (Some searched) past = searched_plan searched
 
 -- ---- what is given
 

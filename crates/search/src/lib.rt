@@ -1,16 +1,25 @@
-// Steps 4 and 5 of the verdict on a block of axes: two axes by a greatest common divisor, three or more by the difference
-// search over all but the two longest.
+//! Do two positions of a block have one sum, where the block has two active axes, or three and more?
+//!
+//! Two axes collide exactly where the smallest solution of x times s1 = y times s2 is in reach of both: a greatest common divisor
+//! and two divisions (docs/WHY.md, section 6).
+//!
+//! Of three and more the two longest are set apart, and the difference vectors of the others are walked (crate `walk`): some
+//! vector is completed by the two, or none is. The work goes by the others alone, at most `half` vectors, and `half` has a budget:
+//! past it nothing is walked, and the answer is `None` (docs/WHY.md, sections 7 and 8).
+//!
+//! `two_axis_block_is_injective` says that it is the definitions' `twoDistinct`, `search_block` that its answer is their plan
+//! `byMany`; that this plan is true of the positions is `VerdictClaims.true-answer` of `specification`.
 #![tactic(auto)]
 
-ghost use Rattle.std.specs.Prelude.{◌≡◌, ◌<◌, length};
+ghost use Rattle.std.specs.Prelude.{◌≡◌, ◌<◌, ◌≤◌, length, IfSome, IfNone};
 ghost use Rattle.std.specs.List.{All};
 ghost use Rattle.integer.specs.Gcd.{gcd};
 ghost use Rattle.specification.specs.Tests.{sortBy};
-ghost use Rattle.specification.specs.Search.{twoDistinct};
-ghost use Rattle.specification.specs.Verdict.{longer, byMany, pastSearch};
-ghost use Rattle.walk.specs.WalkAt.{IsCountable};
-ghost use Rattle.search.specs.Block.{Searchable, planOf};
-ghost use Rattle.search.specs.SetUp.{Budget, Parted, Answers};
+ghost use Rattle.specification.specs.Search.{half, twoDistinct};
+ghost use Rattle.specification.specs.Verdict.{longer, byMany, pastSearch, searched};
+ghost use Rattle.walk.specs.Underway.{IsCountable};
+ghost use Rattle.search.specs.Block.{Searchable, searched_plan, planOf};
+ghost use Rattle.search.specs.SetUp.{Parted};
 
 mod set_up;
 
@@ -22,15 +31,18 @@ use walk::Walk;
 // The largest box that is searched: half is then 4,194,304, the budget.
 const LARGEST_BOX: u64 = 8388609;
 
-// What step 5 answers within its budget: some vector is completed, or none is, with the number of vectors looked at.
+/// What step 5 answers within its budget, with the number of vectors looked at.
 #[derive(Clone, Copy, Debug, PartialEq, Eq)]
 pub enum Searched {
+    /// Some vector is completed: the last that was looked at, or the two set apart collide alone, and the number is 0.
     Repeated(u64),
+    /// None is.
     Distinct(u64),
 }
 
 // Step 4 with the greatest common divisor g of the strides: whether two axes of extents d1, d2 and strides s1, s2 tell their
 // index pairs apart. A collision is a difference of at least s2/g of the one and of s1/g of the other, and takes both.
+#[tactic(auto, using(crate::proofs::Coupling::quotients), unfolding(specification::specs::Search::twoDistinct))]
 fn apart_by_quotients(a: ActiveAxis, b: ActiveAxis, g: u64) -> bool
     requires moves { 0 < a.stride }
     requires divisor { g ≡ gcd a.stride b.stride }
@@ -39,7 +51,7 @@ fn apart_by_quotients(a: ActiveAxis, b: ActiveAxis, g: u64) -> bool
     a.extent <= b.stride / g || b.extent <= a.stride / g
 }
 
-// Step 4.
+/// Step 4: whether two axes tell their index pairs apart.
 pub fn two_axis_block_is_injective(a: ActiveAxis, b: ActiveAxis) -> bool
     requires { 0 < a.stride }
     ensures { result ≡ twoDistinct a b }
@@ -49,18 +61,22 @@ pub fn two_axis_block_is_injective(a: ActiveAxis, b: ActiveAxis) -> bool
 }
 
 // Half, where it is within the budget.
+#[tactic(auto, using(crate::proofs::Coupling::halves))]
 fn half_within(others: &[ActiveAxis]) -> Option<u64>
     requires { All IsCountable others.now }
-    ensures { Budget others.now result }
+    ensures within { IfSome result (λ h. (h ≡ half others.now) × (h ≤ 4194304)) }
+    ensures past { IfNone result (4194304 < half others.now) }
 {
     let boxed = box_within(others, LARGEST_BOX)?;
     Some(boxed / 2)
 }
 
 // Step 5 with the two set apart: the budget, the two alone, then the walk over the others.
+#[tactic(auto, using(crate::proofs::Turned::walks), unfolding(specification::specs::Search::spanSum, specification::specs::Verdict::searched, specification::specs::Verdict::placed))]
 fn search_two(a: ActiveAxis, b: ActiveAxis, others: &[ActiveAxis]) -> Option<Searched>
     requires { Parted a b others.now }
-    ensures { Answers result a b others.now }
+    ensures within { IfSome result (λ s. (half others.now ≤ 4194304) × (searched_plan s ≡ searched a b others.now)) }
+    ensures past { IfNone result (4194304 < half others.now) }
 {
     let half = half_within(others)?;
     let g = integer::gcd(a.stride, b.stride);
@@ -82,8 +98,8 @@ const NO_AXIS: ActiveAxis = ActiveAxis {
     stride: 0,
 };
 
-// Step 5 on a block of two or more axes: the two longest are set apart, ties to the lower axis, and the differences of the
-// others are searched, the lowest axis the lowest digit.
+/// Step 5 on a block of two or more axes: the two longest are set apart, ties to the lower axis, and the differences of the
+/// others are searched, the lowest axis the lowest digit. `None` past the budget.
 pub fn search_block(axes: &[ActiveAxis]) -> Option<Searched>
     requires many { 1 < length axes.now }
     requires searchable { Searchable axes.now }

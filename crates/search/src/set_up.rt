@@ -1,4 +1,4 @@
-// The two axes that are set apart, set up for the walk.
+//! The two axes that are set apart, set up for the walk.
 ghost use Rattle.std.specs.Prelude.{◌≡◌, ◌⊎◌, IsTrue, IsFalse, true, ◌/◌, ◌<◌, ◌≤◌};
 ghost use Rattle.integer.specs.Gcd.{gcd};
 ghost use Rattle.specification.specs.Search.{twoDistinct};
@@ -6,8 +6,7 @@ ghost use Rattle.search.specs.Block.{Side};
 ghost use Rattle.search.specs.SetUp.{SetFor};
 
 use axis::ActiveAxis;
-use integer::modular::{GcdInverse, gcd_and_inverse};
-use walk::two_axes::TwoAxes;
+use walk::TwoAxes;
 
 // Which of two axes of extents d1 and d2 the walk solves for: one whose differences stay below the other's stride over g.
 // Where both do, the one with the fewer differences to that quotient: its window is narrower, and rules out more vectors.
@@ -21,37 +20,18 @@ fn solves_first(d1: u64, s2g: u64, d2: u64, s1g: u64) -> bool
     d1 <= s2g && (s1g < d2 || s2g / (d1 - 1) >= s1g / (d2 - 1))
 }
 
-// The two axes set up for the walk, solved for the first.
-fn in_order(a: ActiveAxis, b: ActiveAxis) -> TwoAxes
-    requires first { Side a.extent a.stride }
-    requires second { Side b.extent b.stride }
-    requires fits { a.extent ≤ b.stride / gcd a.stride b.stride }
-    ensures { SetFor a b result }
-{
-    let GcdInverse { gcd: g, inverse } = gcd_and_inverse(a.stride, b.stride);
-    let x = a.extent - 1;
-    TwoAxes {
-        first: a,
-        second: b,
-        g,
-        part: a.stride / g,
-        inverse,
-        window: g * x,
-    }
-}
-
 // The two axes set up for the walk, solved for one of them; they do not collide by themselves, and g is the greatest common
 // divisor of their strides.
+#[tactic(auto, using(crate::proofs::Coupling::quotients), unfolding(specification::specs::Search::twoDistinct))]
 pub fn couple(a: ActiveAxis, b: ActiveAxis, g: u64) -> TwoAxes
-    requires first { Side a.extent a.stride }
-    requires second { Side b.extent b.stride }
+    requires sides { Side a.extent a.stride × Side b.extent b.stride }
     requires distinct { twoDistinct a b ≡ true }
     requires divisor { g ≡ gcd a.stride b.stride }
     ensures { SetFor a b result ⊎ SetFor b a result }
 {
     if solves_first(a.extent, b.stride / g, b.extent, a.stride / g) {
-        in_order(a, b)
+        TwoAxes::solved_for(a, b)
     } else {
-        in_order(b, a)
+        TwoAxes::solved_for(b, a)
     }
 }

@@ -1,80 +1,65 @@
--- What is asked where a walk stands: `up` and `down` are the two parts of its vector's sum.
-use mathlib.Core.Path.{◌≡◌}
-use mathlib.Core.List.{List}
-use Prim.Native.Nat.{ℕ, ◌+◌, ◌*◌, ◌-◌, ◌^◌, ◌%◌, ◌<◌, ◌≤◌}
-use native.Mathlib.Omega.{arith}
-use native.Mathlib.Decide.{dec_le}
-use lib.IntN.{ℤ}
+-- What is asked where a walk stands: its vector's sum, of which the code holds the two parts, and what the residues tell of it.
+use Rattle.std.proofs.Common.{◌≡◌, ℕ, ◌+◌, ◌*◌, ◌-◌, ◌/◌, ◌%◌, ◌^◌, ◌<◌, ◌≤◌, List, ℤ, pos, ap, arith}
+use lib.IntN.{◌-ℤ◌}
+use native.Mathlib.Nat.{div-add-mod'}
 use Rattle.integer.specs.Congruence.{Congruent}
+use Rattle.integer.specs.Parts.{posPart, negPart}
+use Rattle.integer.proofs.Congruence.{mod-congruent}
+use Rattle.integer.proofs.PartLaws.{parts-ext}
+use Rattle.integer.proofs.SignedEquation.{shifted}
 use Rattle.specification.specs.Search.{Completes, spanSum, differenceAt, differenceSum}
-use Rattle.differences.specs.AxisDifferences.{number_of, up_of, down_of}
-use Rattle.differences.proofs.VectorLaws.{up-low, down-low}
+use Rattle.differences.specs.AxisDifferences.{number_of}
 use Rattle.differences.proofs.DistanceLaws.{parts-at}
-use Rattle.walk.specs.Equation.{Combination}
-use Rattle.walk.specs.Underway.{vector_of, others_of, Stands}
+use Rattle.walk.specs.Underway.{vector_of, others_of, sum_above, sum_below, Stands}
 use Rattle.walk.specs.declared.two_axes.TwoAxes.{TwoAxes}
 use Rattle.walk.specs.declared.difference_axis.Residues.{Residues}
 use Rattle.walk.specs.declared.difference_axis.DifferenceAxis.{DifferenceAxis}
-use Rattle.walk.proofs.Vectors.{small-of}
-use Rattle.walk.proofs.Completing.{high-completes, completes-high, low-completes, completes-low}
-use Rattle.walk.proofs.Residues.{high-needs, low-needs}
-use Rattle.walk.proofs.Residues.{high-residue as residue-high, high-divides as divides-high, low-residue as residue-low, low-divides as divides-low}
+use Rattle.walk.proofs.Vectors.{small-of, above-is, below-is, sums-low}
+use Rattle.walk.proofs.Completing.{balance-of, within-window, none-left}
 
 module _ {t : TwoAxes} {ds : List DifferenceAxis} {r : Residues} (s : Stands t ds r) where
-  abbrev pub up : ℕ
-  up = up_of (vector_of ds)
-
-  abbrev pub down : ℕ
-  down = down_of (vector_of ds)
-
-  abbrev pub sum : ℤ
+  abbrev sum : ℤ
   sum = differenceSum (others_of ds) (differenceAt (others_of ds) (number_of (vector_of ds)))
 
-  abbrev pub Asked : Type 0
-  Asked = Completes t.first t.second sum
-
-  first-some : 0 < t.first.extent
-  first-some = omega (arith, t.long)
-
-  -- an answer of the size is an answer of the sum
-  pub high-as : down ≤ up → Combination t.first t.second (up - down) → Asked
-  high-as = high-completes t.first t.second first-some t.some sum up down (parts-at (vector_of ds) (small-of t ds s.fit))
-
-  pub as-high : down ≤ up → Asked → Combination t.first t.second (up - down)
-  as-high = completes-high t.first t.second first-some t.some sum up down (parts-at (vector_of ds) (small-of t ds s.fit))
-
-  pub low-as : up < down → Combination t.first t.second (down - up) → Asked
-  low-as = low-completes t.first t.second first-some t.some sum up down (parts-at (vector_of ds) (small-of t ds s.fit))
-
-  pub as-low : up < down → Asked → Combination t.first t.second (down - up)
-  as-low = completes-low t.first t.second first-some t.some sum up down (parts-at (vector_of ds) (small-of t ds s.fit))
+  parts : posPart sum + sum_below ds ≡ sum_above ds + negPart sum
+  parts = omega (arith, parts-at (vector_of ds) (small-of t ds s.fit), above-is ds, below-is ds)
 
   -- the residues of a sum that is completed
-  pub needs : Asked → (r.z ≤ 2 * t.window) × (r.q ≡ 0)
-  needs w = go (dec_le down up)
-    where
-      go : Dec (down ≤ up) → (r.z ≤ 2 * t.window) × (r.q ≡ 0)
-      go (yes l) = high-needs t (vector_of ds) r.z r.q s.z s.q l (as-high l w)
-      go (no n) = let l : up < down = omega arith in low-needs t (vector_of ds) r.z r.q s.z s.q l (as-low l w)
+  pub residues-of : Completes t.first t.second sum → (r.z ≤ 2 * t.window) × (r.q ≡ 0)
+  residues-of w =
+      let n = balance-of t sum parts w in
+      let q : Congruent t.g (r.q + sum_below ds * (1 % t.g)) (sum_above ds * (1 % t.g)) =
+      record { p = s.q.so.p; q = s.q.so.q; eq = omega (arith, s.q.so.eq) } in
+      (within-window t n r.z s.z.low s.z.so, none-left t n (1 % t.g) r.q s.q.low q)
 
-  -- the size fits with both spans
-  pub high-fits : (t.first.extent - 1) * t.first.stride + ((t.second.extent - 1) * t.second.stride + (up - down)) < 2 ^ 64
+  -- both parts fit, also with both spans
+  pub sums-fit : (t.first.extent - 1) * t.first.stride + ((t.second.extent - 1) * t.second.stride + (sum_above ds + sum_below ds)) < 2 ^ 64
   unfolding spanSum
-  high-fits = omega (arith, up-low (vector_of ds) (small-of t ds s.fit), s.fits)
+  sums-fit = omega (arith, sums-low t ds s.fit, s.fits)
 
-  pub low-fits : (t.first.extent - 1) * t.first.stride + ((t.second.extent - 1) * t.second.stride + (down - up)) < 2 ^ 64
-  unfolding spanSum
-  low-fits = omega (arith, down-low (vector_of ds) (small-of t ds s.fit), s.fits)
+  module _ (up down : ℕ) (is-up : up ≡ sum_above ds) (is-down : down ≡ sum_below ds) where
+    pub sum-is : sum ≡ pos up -ℤ pos down
+    sum-is = parts-ext (omega (arith, parts, shifted up down))
 
-  module _ (k : ℕ) (ck : Congruent t.second.stride (k + t.window) r.z) where
-    pub high-residue : down ≤ up → Congruent t.second.stride k ((up - down) * t.inverse)
-    high-residue = residue-high t (vector_of ds) r.z r.q s.z s.q k ck
+    -- the residues of it
+    pub residue-of : (k : ℕ) → k ≡ (r.z + (t.second.stride - t.window)) % t.second.stride
+        → Congruent t.second.stride (k + down * t.inverse) (up * t.inverse)
+    residue-of k e =
+        let m = div-add-mod' (r.z + (t.second.stride - t.window)) t.second.stride in
+        let times = λ (x y : ℕ) (e : x ≡ y). ap (λ (n : ℕ). n * t.inverse) e in
+        record {
+          p = (r.z + (t.second.stride - t.window)) / t.second.stride + s.z.so.p;
+          q = 1 + s.z.so.q;
+          eq = omega (arith, e, m, s.z.so.eq, t.apart, times _ _ is-up, times _ _ is-down);
+        }
 
-    pub low-residue : up < down → (j : ℕ) → Congruent t.second.stride (j + k) 0 → Congruent t.second.stride j ((down - up) * t.inverse)
-    low-residue = residue-low t (vector_of ds) r.z r.q s.z s.q k ck
-
-  pub high-divides : down ≤ up → r.q ≡ 0 → (up - down) % t.g ≡ 0
-  high-divides = divides-high t (vector_of ds) r.z r.q s.z s.q
-
-  pub low-divides : up < down → r.q ≡ 0 → (down - up) % t.g ≡ 0
-  low-divides = divides-low t (vector_of ds) r.z r.q s.z s.q
+    pub divided : r.q ≡ 0 → Congruent t.g up down
+    divided none =
+        let o = mod-congruent t.g 1 in
+        let one = λ (n : ℕ). ap (λ (y : ℕ). n * y) o.eq in
+        let times = λ (x y : ℕ) (e : x ≡ y). ap (λ (n : ℕ). n * (1 % t.g)) e in
+        record {
+          p = down * o.p + s.q.so.q + up * o.q;
+          q = down * o.q + s.q.so.p + up * o.p;
+          eq = omega (arith, s.q.so.eq, one up, one down, times _ _ is-up, times _ _ is-down);
+        }

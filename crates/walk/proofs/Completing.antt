@@ -1,100 +1,216 @@
--- A vector is completed exactly if the size of its sum of differences is a combination of differences of the two.
-use mathlib.Core.Path.{◌≡◌, refl, ap}
+-- What some difference of each of two axes completes to 0: what a residue tells of it, and that the two tests settle it.
+use Rattle.std.proofs.Common.{◌≡◌, ◌∙◌, ℕ, zero, suc, ◌+◌, ◌*◌, ◌-◌, ◌/◌, ◌%◌, ◌<◌, ◌≤◌, Bool, true, false, IsTrue, ap, ℤ, pos, arith}
 use mathlib.Core.Logic.{◌↔◌}
-use Rattle.std.specs.Prelude.{IsTrue}
-use mathlib.Core.Bool.{Bool, true, false}
-use Prim.Native.Nat.{ℕ, ◌+◌, ◌*◌, ◌-◌, ◌<◌, ◌≤◌}
-use native.Mathlib.Omega.{arith}
-use lib.IntN.{ℤ, pos, ◌-ℤ◌}
+use lib.IntN.{◌-ℤ◌}
+use native.Mathlib.Decide.{dec_le}
+use native.Mathlib.Nat.{div-add-mod', le_of_mul-le-mul_right, mod-le, mul-le-mul_left, mul-le-mul_right, zero-mod}
+use Rattle.std.proofs.lemmas.Int.{ints}
+use Rattle.integer.specs.Congruence.{Congruent}
 use Rattle.integer.specs.Parts.{posPart, negPart}
-use Rattle.integer.proofs.Polynomial.{◌⊕◌, ◌⊖◌, ◌⊗◌, int, nat, prove-eq}
-use Rattle.integer.proofs.SignedEquation.{natAbs-of-shifted, negPart-of-natAbs, posPart-of-natAbs, shifted, parts-of-equation}
-use Rattle.specification.specs.Search.{ActiveAxis, Completes}
-use Rattle.walk.specs.Equation.{Combination}
+use Rattle.integer.proofs.Congruence.{congruent-of-mod, mod-of-congruent, congruent-sym, equal-of-congruent}
+use Rattle.integer.proofs.PartLaws.{natAbs-parts}
+use Rattle.integer.proofs.SignedEquation.{parts-of-equation, shifted}
+use Rattle.specification.specs.Search.{Completes}
+use Rattle.specification.proofs.TestLaws.{true-not-false}
+use Rattle.walk.specs.declared.two_axes.TwoAxes.{TwoAxes}
 
-clash : {P : Type 0} → false ≡ true → P
-clash e = absurd (let z : ◌≡◌ {A = ℕ} 0 1 = cc in omega arith)
+-- p - p' and q - q' are differences of the two that complete up - down to 0
+pub record Balance (t : TwoAxes) (up down : ℕ) : Type 0 where
+  pub p : ℕ
+  pub p' : ℕ
+  pub q : ℕ
+  pub q' : ℕ
+  pub first-above : p ≤ p' + (t.first.extent - 1)
+  pub first-below : p' ≤ p + (t.first.extent - 1)
+  pub second-above : q ≤ q' + (t.second.extent - 1)
+  pub second-below : q' ≤ q + (t.second.extent - 1)
+  pub sum : p * t.first.stride + q * t.second.stride + up ≡ p' * t.first.stride + q' * t.second.stride + down
 
--- the answer of what holds, and of what does not
-pub true-where : {P : Type 0} → P → IsTrue true ↔ P
-true-where p = (λ e. p, λ q. refl)
+-- k is a multiple of b
+multiple : (b k : ℕ) → Congruent b k 0 → k / b * b ≡ k
+multiple b k c = let z : k % b ≡ 0 = mod-of-congruent b k 0 c ∙ zero-mod b in omega (arith, div-add-mod' k b)
 
-pub false-where : {P : Type 0} → ¬ P → IsTrue false ↔ P
-false-where n = (λ e. clash e, λ q. absurd (n q))
+-- what lies between 0 and 2 b is b
+once : (b k : ℕ) → 0 < k → k < 2 * b → Congruent b k 0 → k ≡ b
+once b k low high c = go (k / b) (multiple b k c)
+  where
+    go : (n : ℕ) → n * b ≡ k → k ≡ b
+    go zero m = absurd (omega arith)
+    go (suc zero) m = omega arith
+    go (suc (suc n)) m = absurd (omega arith)
 
--- an answer of what comes to the same
-pub true-as : {P Q : Type 0} {r : Bool} → IsTrue r ↔ P → (P → Q) → (Q → P) → IsTrue r ↔ Q
-true-as w f g = (λ e. f (w.0 e), λ q. w.1 (g q))
+module _ (t : TwoAxes) where
+  -- the inverse undoes the first stride up to the common divisor
+  inverts : Congruent t.second.stride (t.inverse * t.first.stride) t.g
+  inverts = congruent-of-mod t.second.stride (t.inverse * t.first.stride) t.g t.inverts
 
--- ---- completing a sum z, said of shifted differences u and v
+  module _ {up down : ℕ} where
+    abbrev turned : Balance t up down → Balance t down up
+    turned n = record {
+      p = n.p';
+      p' = n.p;
+      q = n.q';
+      q' = n.q;
+      first-above = n.first-below;
+      first-below = n.first-above;
+      second-above = n.second-below;
+      second-below = n.second-above;
+      sum = omega (arith, n.sum);
+    }
 
-module _ (a b : ActiveAxis) (ha : 0 < a.extent) (hb : 0 < b.extent) (z : ℤ) where
-  record Shifted : Type 0 where
-    u : ℕ
-    v : ℕ
-    u-most : u ≤ 2 * (a.extent - 1)
-    v-most : v ≤ 2 * (b.extent - 1)
-    sum : u * a.stride + v * b.stride + posPart z ≡ (a.extent - 1) * a.stride + (b.extent - 1) * b.stride + negPart z
-
-  shifted-completes : Shifted → Completes a b z
-  shifted-completes s =
-      let X = a.extent - 1 in
-      let Y = b.extent - 1 in
-      record {
-        x = pos s.u -ℤ pos X;
-        y = pos s.v -ℤ pos Y;
-        x_below = omega (arith, natAbs-of-shifted (pos s.u -ℤ pos X) s.u X (shifted s.u X) s.u-most);
-        y-below = omega (arith, natAbs-of-shifted (pos s.v -ℤ pos Y) s.v Y (shifted s.v Y) s.v-most);
-        to-zero = prove-eq (((nat s.u ⊖ nat X) ⊗ nat a.stride ⊕ (nat s.v ⊖ nat Y) ⊗ nat b.stride) ⊕ int z) (nat 0) (omega (arith, s.sum));
+    module _ (z : ℤ) (parts : posPart z + down ≡ up + negPart z) where
+      pub balance-of : Completes t.first t.second z → Balance t up down
+      balance-of w = record {
+        p = posPart w.x;
+        p' = negPart w.x;
+        q = posPart w.y;
+        q' = negPart w.y;
+        first-above = omega (arith, natAbs-parts w.x, w.x_below);
+        first-below = omega (arith, natAbs-parts w.x, w.x_below);
+        second-above = omega (arith, natAbs-parts w.y, w.y-below);
+        second-below = omega (arith, natAbs-parts w.y, w.y-below);
+        sum = omega (arith, parts-of-equation w.x w.y z t.first.stride t.second.stride w.to-zero, parts);
       }
 
-  completes-shifted : Completes a b z → Shifted
-  completes-shifted w =
-      let X = a.extent - 1 in
-      let Y = b.extent - 1 in
-      let bx : negPart w.x ≤ X = negPart-of-natAbs w.x X (omega (arith, w.x_below)) in
-      let by : negPart w.y ≤ Y = negPart-of-natAbs w.y Y (omega (arith, w.y-below)) in
-      let ex : posPart w.x + X - negPart w.x + negPart w.x ≡ posPart w.x + X = omega arith in
-      let ey : posPart w.y + Y - negPart w.y + negPart w.y ≡ posPart w.y + Y = omega arith in
-      record {
-        u = posPart w.x + X - negPart w.x;
-        v = posPart w.y + Y - negPart w.y;
-        u-most = omega (arith, posPart-of-natAbs w.x X (omega (arith, w.x_below)));
-        v-most = omega (arith, posPart-of-natAbs w.y Y (omega (arith, w.y-below)));
-        sum = omega (arith, parts-of-equation w.x w.y z a.stride b.stride w.to-zero, ap (λ (k : ℕ). k * a.stride) ex, ap (λ (k : ℕ). k * b.stride) ey);
+      pub completes-of : Balance t up down → Completes t.first t.second z
+      completes-of n = record {
+        x = pos n.p -ℤ pos n.p';
+        y = pos n.q -ℤ pos n.q';
+        x_below = omega (arith, ints, t.long, n.first-above, n.first-below);
+        y-below = omega (arith, ints, t.some, n.second-above, n.second-below);
+        to-zero = omega (arith, ints, n.sum, parts, ap (λ (k : ℕ). k * t.first.stride) (shifted n.p n.p'), ap (λ (k : ℕ). k * t.second.stride) (shifted n.q n.q'));
       }
 
-  -- ---- where z is up less down, its size is a combination exactly if it is completed
-
-  module _ (up down : ℕ) (parts : posPart z + down ≡ up + negPart z) where
-    pub high-completes : down ≤ up → Combination a b (up - down) → Completes a b z
-    high-completes l c = shifted-completes (record { u = c.u; v = c.v; u-most = c.u-most; v-most = c.v-most; sum = omega (arith, c.sum, parts) })
-
-    pub completes-high : down ≤ up → Completes a b z → Combination a b (up - down)
-    completes-high l w =
-        let d = completes-shifted w in
-        record { u = d.u; v = d.v; u-most = d.u-most; v-most = d.v-most; sum = omega (arith, d.sum, parts) }
-
-    -- the opposite difference
-    opposite : (X u A : ℕ) → u ≤ 2 * X → (2 * X - u) * A + u * A ≡ 2 * (X * A)
-    opposite X u A l = let q : 2 * X - u + u ≡ 2 * X = omega arith in omega (arith, ap (λ (y : ℕ). y * A) q)
-
-    pub low-completes : up < down → Combination a b (down - up) → Completes a b z
-    low-completes l c = shifted-completes (record {
-      u = 2 * (a.extent - 1) - c.u;
-      v = 2 * (b.extent - 1) - c.v;
-      u-most = omega arith;
-      v-most = omega arith;
-      sum = omega (arith, c.sum, parts, opposite (a.extent - 1) c.u a.stride c.u-most, opposite (b.extent - 1) c.v b.stride c.v-most);
-    })
-
-    pub completes-low : up < down → Completes a b z → Combination a b (down - up)
-    completes-low l w =
-        let d = completes-shifted w in
+    -- a residue of the sum times c, where c times the second's stride is 0, is that of the first's part of it
+    balance-residue : (n : Balance t up down) (m c e r w : ℕ) → Congruent m (c * t.first.stride) e → Congruent m (c * t.second.stride) 0
+        → Congruent m (r + down * c) (up * c + w) → Congruent m (r + n.p * e) (n.p' * e + w)
+    balance-residue n m c e r w i o k =
+        let first = λ (x : ℕ). ap (λ (y : ℕ). x * y) i.eq in
+        let second = λ (x : ℕ). ap (λ (y : ℕ). x * y) o.eq in
         record {
-          u = 2 * (a.extent - 1) - d.u;
-          v = 2 * (b.extent - 1) - d.v;
-          u-most = omega arith;
-          v-most = omega arith;
-          sum = omega (arith, d.sum, parts, opposite (a.extent - 1) d.u a.stride d.u-most, opposite (b.extent - 1) d.v b.stride d.v-most);
+          p = k.p + n.p * i.q + n.p' * i.p + n.q * o.q + n.q' * o.p;
+          q = k.q + n.p * i.p + n.p' * i.q + n.q * o.p + n.q' * o.q;
+          eq = omega (arith, k.eq, first n.p, first n.p', second n.q, second n.q', ap (λ (y : ℕ). y * c) n.sum);
         }
+
+    -- modulo the second's stride with the inverse
+    by-inverse : (n : Balance t up down) (r w : ℕ) → Congruent t.second.stride (r + down * t.inverse) (up * t.inverse + w)
+        → Congruent t.second.stride (r + n.p * t.g) (n.p' * t.g + w)
+    by-inverse n r w = balance-residue n t.second.stride t.inverse t.g r w inverts (record { p = 0; q = t.inverse; eq = omega arith })
+
+    -- the residue moved up by the window is at most twice the window
+    pub within-window : Balance t up down → (r : ℕ) → r < t.second.stride
+        → Congruent t.second.stride (r + down * t.inverse) (up * t.inverse + t.window) → r ≤ 2 * t.window
+    within-window n r l k =
+        let c = by-inverse n r t.window k in
+        let h = mul-le-mul_right t.g n.first-above in
+        let h' = mul-le-mul_right t.g n.first-below in
+        let s = n.p' * t.g + t.window - n.p * t.g in
+        let d : Congruent t.second.stride r s = record { p = c.p; q = c.q; eq = omega (arith, c.eq, h, t.window_is) } in
+        omega (arith, equal-of-congruent t.second.stride r s l d, mod-le s t.second.stride, h', t.window_is)
+
+    -- and the rest modulo the common divisor is 0
+    pub none-left : Balance t up down → (c r : ℕ) → r < t.g → Congruent t.g (r + down * c) (up * c) → r ≡ 0
+    none-left n c r l k =
+        let first : Congruent t.g (c * t.first.stride) 0 =
+        record { p = 0; q = c * t.part; eq = omega (arith, ap (λ (y : ℕ). c * y) t.divides_first) } in
+        let second : Congruent t.g (c * t.second.stride) 0 =
+        record { p = 0; q = c * (t.second.stride / t.g); eq = omega (arith, ap (λ (y : ℕ). c * y) t.divides_second) } in
+        let m = balance-residue n t.g c 0 r 0 first second (record { p = k.p; q = k.q; eq = omega (arith, k.eq) }) in
+        equal-of-congruent t.g r 0 l (record { p = m.p; q = m.q; eq = omega (arith, m.eq) }) ∙ zero-mod t.g
+
+  -- ---- the tests of up - down with its residue k
+
+  abbrev span : ℕ
+  span = (t.second.extent - 1) * t.second.stride
+
+  abbrev Near : ℕ → ℕ → ℕ → Type 0
+  Near up down k = (k ≤ t.window) × (up ≤ down + k * t.part + span) × (down + k * t.part ≤ up + span)
+
+  module _ (up down k : ℕ) (residue : Congruent t.second.stride (k + down * t.inverse) (up * t.inverse)) where
+    -- the first's difference is not above 0: it is k / g without its sign
+    near-of : (b : Balance t up down) → b.p ≤ b.p' → k < t.second.stride + (b.p' - b.p) → Near up down k
+    near-of b l low =
+        let c = by-inverse b k 0 (record { p = residue.p; q = residue.q; eq = omega (arith, residue.eq) }) in
+        let d : b.p' - b.p + b.p ≡ b.p' = omega arith in
+        let dg = ap (λ (y : ℕ). y * t.g) d in
+        let m : (b.p' - b.p) * t.g ≤ t.window = omega (arith, dg, mul-le-mul_right t.g b.first-below, t.window_is) in
+        let more : b.p' - b.p ≤ (b.p' - b.p) * t.g = omega (arith, mul-le-mul_left (b.p' - b.p) t.above) in
+        let left = k + (t.second.stride - (b.p' - b.p) * t.g) in
+        let o = once t.second.stride left (omega (arith, m, t.apart)) (omega (arith, m, more, low, t.apart))
+        (record { p = c.p; q = c.q + 1; eq = omega (arith, c.eq, dg, m, t.apart) }) in
+        let e : k ≡ (b.p' - b.p) * t.g = omega (arith, o, m, t.apart) in
+        let a = ap (λ (y : ℕ). y * t.part) e in
+        let f = ap (λ (y : ℕ). (b.p' - b.p) * y) t.divides_first in
+        let g = ap (λ (y : ℕ). y * t.first.stride) d in
+        let above = mul-le-mul_right t.second.stride b.second-above in
+        let below = mul-le-mul_right t.second.stride b.second-below in
+        (omega (arith, e, m), omega (arith, a, f, g, b.sum, above, below), omega (arith, a, f, g, b.sum, above, below))
+
+    -- and back, where the common divisor divides up - down
+    near-balance : Congruent t.g up down → Near up down k → Balance t up down
+    near-balance divides h =
+        let i = inverts in
+        let part-is : Congruent t.second.stride (down + k * t.part) up = record {
+          p = residue.p * t.part + divides.q * i.p + divides.p * i.q;
+          q = residue.q * t.part + divides.q * i.q + divides.p * i.p;
+          eq = omega (
+            arith,
+            ap (λ (y : ℕ). y * t.part) residue.eq,
+            ap (λ (y : ℕ). y * t.inverse * t.part) divides.eq,
+            ap (λ (y : ℕ). divides.p * t.inverse * y) t.divides_first,
+            ap (λ (y : ℕ). divides.q * t.inverse * y) t.divides_first,
+            ap (λ (y : ℕ). divides.p * y) i.eq,
+            ap (λ (y : ℕ). divides.q * y) i.eq,
+            divides.eq,
+          );
+        } in
+        let b-times = λ (x : ℕ). ap (λ (y : ℕ). x * y) t.divides_second in
+        let k-times = multiple t.g k (record {
+          p = residue.p * (t.second.stride / t.g) + divides.p * t.inverse;
+          q = residue.q * (t.second.stride / t.g) + divides.q * t.inverse;
+          eq = omega (arith, residue.eq, ap (λ (y : ℕ). y * t.inverse) divides.eq, b-times residue.p, b-times residue.q);
+        }) in
+        let rest = span + (down + k * t.part) - up in
+        let gone : Congruent t.second.stride rest 0 =
+        record { p = part-is.p; q = part-is.q + (t.second.extent - 1); eq = omega (arith, part-is.eq, h) } in
+        let m = multiple t.second.stride rest gone in
+        record {
+          p = 0;
+          p' = k / t.g;
+          q = rest / t.second.stride;
+          q' = t.second.extent - 1;
+          first-above = omega arith;
+          first-below = le_of_mul-le-mul_right {k = t.g} (omega (arith, k-times, h, t.window_is)) t.above;
+          second-above = le_of_mul-le-mul_right {k = t.second.stride} (omega (arith, m, h)) (omega (arith, t.apart));
+          second-below = omega arith;
+          sum = omega (arith, m, ap (λ (y : ℕ). k / t.g * y) t.divides_first, ap (λ (y : ℕ). y * t.part) k-times, h);
+        }
+
+  module _ (up down k : ℕ) (low : k < t.second.stride) (residue : Congruent t.second.stride (k + down * t.inverse) (up * t.inverse)) where
+    -- the opposite sum has the opposite residue
+    opposite : Congruent t.second.stride (t.second.stride - k + up * t.inverse) (down * t.inverse)
+    opposite = record { p = residue.q; q = 1 + residue.p; eq = omega (arith, residue.eq, low) }
+
+    abbrev Completed : Type 0
+    Completed = Completes t.first t.second (pos up -ℤ pos down)
+
+    module _ (divides : Congruent t.g up down) (y : Bool) (tells : IsTrue y ↔ Near up down k) where
+      -- what is near is completed
+      pub near-tells : y ≡ true → IsTrue y ↔ Completed
+      near-tells e = (λ _. completes-of _ (shifted up down) (near-balance up down k residue divides (tells.0 e)), λ _. e)
+
+      -- else what is completed is far: its opposite is near
+      pub far-tells : y ≡ false → (f : Bool) → IsTrue f ↔ Near down up (t.second.stride - k) → IsTrue f ↔ Completed
+      far-tells e f far = (λ g. to (far.0 g), λ w. let b = balance-of _ (shifted up down) w in far.1 (back b (dec_le b.p b.p')))
+        where
+          to : Near down up (t.second.stride - k) → Completed
+          to h = completes-of _ (shifted up down) (turned (near-balance down up (t.second.stride - k) opposite (congruent-sym divides) h))
+
+          back : (b : Balance t up down) → Dec (b.p ≤ b.p') → Near down up (t.second.stride - k)
+          back b (yes l) = absurd (true-not-false (tells.1 (near-of up down k residue b l (omega (arith, low)))) e)
+          back b (no n) = near-of down up (t.second.stride - k) opposite (turned b) (omega arith) (omega arith)
+
+-- the window's part of the first stride is the first's span
+pub window_part : (t : TwoAxes) → t.window * t.part ≡ (t.first.extent - 1) * t.first.stride
+window_part t = omega (arith, ap (λ (y : ℕ). y * t.part) t.window_is, ap (λ (y : ℕ). (t.first.extent - 1) * y) t.divides_first)

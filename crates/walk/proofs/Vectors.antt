@@ -1,88 +1,112 @@
--- The axes of a walk as a vector of differences: what stands at a place, and another digit there.
-use mathlib.Core.Path.{◌≡◌, sym, ap, ◌∙◌}
-use mathlib.Core.List.{List, [], ◌∷◌}
-use Prim.Native.Nat.{ℕ, ◌+◌, ◌*◌, ◌-◌, ◌<◌}
-use native.Mathlib.Omega.{arith}
-use lib.ListN.{length, get_or, set}
+-- The axes of a walk as a vector of differences: its two sums, and another digit at a place.
+use Rattle.std.proofs.Common.{◌≡◌, ◌∙◌, ℕ, ◌+◌, ◌*◌, ◌-◌, ◌%◌, ◌<◌, ◌≤◌, List, [], ◌∷◌, length, get_or, set, refl, sym, ap, arith}
+use native.Mathlib.Nat.{mul-le-mul_right}
 use Rattle.std.specs.List.{All}
 use Rattle.std.proofs.Math.ListN.{get_or-map}
 use Rattle.std.proofs.lemmas.List.{map-set, length-map}
 use Rattle.std.proofs.lemmas.List.Elements.{All-nil, All-cons, All-head, All-tail}
+use Rattle.std.proofs.lemmas.List.Sums.{sum_by-cons, sum_by-set}
+use Rattle.integer.specs.Congruence.{Congruent}
+use Rattle.integer.proofs.Congruence.{congruent-of-equal}
+use Rattle.specification.specs.Search.{spanSum}
 use Rattle.differences.specs.declared.AxisDifference.{AxisDifference}
 use Rattle.differences.specs.AxisDifferences.{axes_of, number_of, up_of, down_of, IsSmall}
-use Rattle.differences.proofs.VectorLaws.{entry, digit_of, box_before, axes-set, up-set, down-set, number-set}
-use Rattle.walk.specs.Underway.{difference_of, vector_of, others_of, IsFit}
+use Rattle.differences.proofs.VectorLaws.{entry, digit_of, box_before, axes-set, number-set}
+use Rattle.walk.specs.Underway.{difference_of, vector_of, others_of, above, below, sum_above, sum_below, IsFit, IsResidue}
 use Rattle.walk.specs.declared.two_axes.TwoAxes.{TwoAxes}
+use Rattle.walk.specs.declared.difference_axis.Step.{Step}
 use Rattle.walk.specs.declared.difference_axis.DifferenceAxis.{DifferenceAxis}
 
 -- what is read past the end
 abbrev pub nothing : DifferenceAxis
-nothing = record { axis = record { axis = 0; extent = 0; stride = 0 }; digit = 0; z = record { up = 0; back = 0 }; q = record { up = 0; back = 0 } }
+nothing =
+    let none : Step = record { up = 0; back = 0 } in
+    record { axis = record { axis = 0; extent = 0; stride = 0 }; digit = 0; z = none; q = none }
 
 abbrev pub at : List DifferenceAxis → ℕ → DifferenceAxis
 at ds j = get_or ds j nothing
 
-abbrev pub with_digit : DifferenceAxis → ℕ → DifferenceAxis
-with_digit d v = record { axis = d.axis; digit = v; z = d.z; q = d.q }
-
 pub small-of : (t : TwoAxes) (ds : List DifferenceAxis) → All (IsFit t) ds → All IsSmall (vector_of ds)
 small-of t [] h = All-nil IsSmall
 small-of t (d ∷ ds) h =
-    let f = All-head (IsFit t) d ds h in
-    All-cons IsSmall (difference_of d) (vector_of ds) (omega (arith, f.digit_low), omega (arith, f.digit_low)) (small-of t ds (All-tail (IsFit t) d ds h))
+    let l = (All-head (IsFit t) d ds h).digit_low in
+    let rest = small-of t ds (All-tail (IsFit t) d ds h) in
+    All-cons IsSmall (difference_of d) (vector_of ds) (omega (arith, l), omega (arith, l)) rest
 
-pub digit-is : (d : DifferenceAxis) → digit_of (difference_of d) ≡ d.digit
+-- ---- its sums
+
+pub above-is : (ds : List DifferenceAxis) → up_of (vector_of ds) ≡ sum_above ds
+unfolding up_of
+above-is [] = refl
+above-is (d ∷ ds) = omega (arith, above-is ds, sum_by-cons above d ds)
+
+pub below-is : (ds : List DifferenceAxis) → down_of (vector_of ds) ≡ sum_below ds
+unfolding down_of
+below-is [] = refl
+below-is (d ∷ ds) = omega (arith, below-is ds, sum_by-cons below d ds)
+
+-- the two together are at most the span
+pub sums-low : (t : TwoAxes) (ds : List DifferenceAxis) → All (IsFit t) ds → sum_above ds + sum_below ds ≤ spanSum (others_of ds)
+unfolding spanSum
+sums-low t [] f = omega arith
+sums-low t (d ∷ ds) f =
+    let m = d.axis.extent - 1 in
+    let l : d.digit - m + (m - d.digit) ≤ m = omega (arith, (All-head (IsFit t) d ds f).digit_low) in
+    let rest = sums-low t ds (All-tail (IsFit t) d ds f) in
+    omega (arith, sum_by-cons above d ds, sum_by-cons below d ds, mul-le-mul_right d.axis.stride l, rest)
+
+-- ---- digit v at place j
+
+digit-is : (d : DifferenceAxis) → digit_of (difference_of d) ≡ d.digit
 digit-is d = omega arith
 
-module _ (ds : List DifferenceAxis) (j : ℕ) where
-  pub entry-is : entry (vector_of ds) j ≡ difference_of (at ds j)
-  entry-is = get_or-map difference_of ds j nothing
+pub entry-is : (ds : List DifferenceAxis) (j : ℕ) → entry (vector_of ds) j ≡ difference_of (at ds j)
+entry-is ds j = get_or-map difference_of ds j nothing
 
-  -- digit v at place j
-  module _ (v : ℕ) where
-    abbrev pub turned : List DifferenceAxis
-    turned = set ds j (with_digit (at ds j) v)
+module _ (ds : List DifferenceAxis) (j v : ℕ) where
+  abbrev here : DifferenceAxis
+  here = at ds j
 
-    set-vector : vector_of turned ≡ set (vector_of ds) j (difference_of (with_digit (at ds j) v))
-    set-vector = map-set difference_of ds j (with_digit (at ds j) v)
+  abbrev there : DifferenceAxis
+  there = record here { digit = v }
 
-    same_axis : (at ds j).axis ≡ (entry (vector_of ds) j).axis
-    same_axis = ap (λ (d : AxisDifference). d.axis) (sym entry-is)
+  abbrev pub turned : List DifferenceAxis
+  turned = set ds j there
 
-    pub turned-others : others_of turned ≡ others_of ds
-    turned-others = ap axes_of set-vector ∙ axes-set (vector_of ds) j (difference_of (with_digit (at ds j) v)) same_axis
+  set-vector : vector_of turned ≡ set (vector_of ds) j (difference_of there)
+  set-vector = map-set difference_of ds j there
 
-    module _ (h : j < length ds) where
-      inside : j < length (vector_of ds)
-      inside = omega (arith, length-map ds difference_of)
+  same-axis : here.axis ≡ (entry (vector_of ds) j).axis
+  same-axis = ap (λ (d : AxisDifference). d.axis) (sym (entry-is ds j))
 
-      abbrev middle : ℕ
-      middle = (at ds j).axis.extent - 1
+  pub turned-others : others_of turned ≡ others_of ds
+  turned-others = ap axes_of set-vector ∙ axes-set (vector_of ds) j (difference_of there) same-axis
 
-      abbrev stride : ℕ
-      stride = (at ds j).axis.stride
+  module _ (h : j < length ds) where
+    abbrev b : ℕ
+    b = box_before (vector_of ds) j
 
-      -- both sums, and the number
-      turned-up : up_of (vector_of turned) + ((at ds j).digit - middle) * stride ≡ up_of (vector_of ds) + (v - middle) * stride
-      turned-up =
-          let e = ap (λ (d : AxisDifference). d.above * d.axis.stride) entry-is in
-          omega (arith, ap up_of set-vector, e, up-set (vector_of ds) j (difference_of (with_digit (at ds j) v)) inside)
+    pub turned-number : number_of (vector_of turned) + here.digit * b ≡ number_of (vector_of ds) + v * b
+    turned-number =
+        let n = number-set (vector_of ds) j (difference_of there) (omega (arith, length-map ds difference_of)) same-axis in
+        let e = ap (λ (d : AxisDifference). digit_of d * b) (entry-is ds j) in
+        let digit = λ (d : DifferenceAxis). ap (λ (k : ℕ). k * b) (digit-is d) in
+        omega (arith, ap number_of set-vector, n, e, digit here, digit there)
 
-      turned-down : down_of (vector_of turned) + (middle - (at ds j).digit) * stride ≡ down_of (vector_of ds) + (middle - v) * stride
-      turned-down =
-          let e = ap (λ (d : AxisDifference). d.below * d.axis.stride) entry-is in
-          omega (arith, ap down_of set-vector, e, down-set (vector_of ds) j (difference_of (with_digit (at ds j) v)) inside)
+    -- how the sum changes
+    turned-sum : sum_above turned + sum_below ds + here.digit * here.axis.stride ≡ sum_above ds + sum_below turned + v * here.axis.stride
+    turned-sum =
+        let m = here.axis.extent - 1 in
+        let o : here.digit - m + m ≡ here.digit + (m - here.digit) = omega arith in
+        let n : v - m + m ≡ v + (m - v) = omega arith in
+        let times = λ (x y : ℕ) (e : x ≡ y). ap (λ (k : ℕ). k * here.axis.stride) e in
+        omega (arith, sum_by-set above ds j there nothing h, sum_by-set below ds j there nothing h, times _ _ o, times _ _ n)
 
-      pub turned-number : number_of (vector_of turned) + (at ds j).digit * box_before (vector_of ds) j ≡ number_of (vector_of ds) + v * box_before (vector_of ds) j
-      turned-number =
-          let e = ap (λ (d : AxisDifference). digit_of d * box_before (vector_of ds) j) entry-is in
-          let f = ap (λ (n : ℕ). n * box_before (vector_of ds) j) (digit-is (at ds j)) in
-          let g = ap (λ (n : ℕ). n * box_before (vector_of ds) j) (digit-is (with_digit (at ds j) v)) in
-          omega (arith, ap number_of set-vector, e, f, g, number-set (vector_of ds) j (difference_of (with_digit (at ds j) v)) inside same_axis)
-
-      -- how the sum changes
-      pub turned-sum : up_of (vector_of turned) + down_of (vector_of ds) + (at ds j).digit * stride ≡ up_of (vector_of ds) + down_of (vector_of turned) + v * stride
-      turned-sum =
-          let o : (at ds j).digit - middle + middle ≡ (at ds j).digit + (middle - (at ds j).digit) = omega arith in
-          let n : v - middle + middle ≡ v + (middle - v) = omega arith in
-          omega (arith, turned-up, turned-down, ap (λ (k : ℕ). k * stride) o, ap (λ (k : ℕ). k * stride) n)
+    -- and with it a residue, by a step that comes to as much
+    pub turned-residue : (m c w r s r' : ℕ) → IsResidue m c w ds r
+        → Congruent m (s + here.digit * (here.axis.stride * c)) (v * (here.axis.stride * c))
+        → (r' < m) × (r' ≡ (r + s) % m) → IsResidue m c w turned r'
+    turned-residue m c w r s r' i k n =
+        let o = congruent-of-equal m r' (r + s) n.1 in
+        let sum = ap (λ (y : ℕ). y * c) turned-sum in
+        record { low = n.0; so = record { p = o.p + k.p + i.so.p; q = o.q + k.q + i.so.q; eq = omega (arith, o.eq, k.eq, i.so.eq, sum) } }

@@ -1,11 +1,11 @@
-// The axes whose differences are walked over, each with its digit, and the residues of their sum that go along.
-ghost use Rattle.std.specs.Prelude.{◌↔◌, IsTrue, ◌≡◌, ◌+◌, ◌-◌, ◌*◌, ◌%◌, ◌^◌, ◌<◌};
+//! The axes whose differences are walked over, each with its digit, and the residues of their sum that go along.
+ghost use Rattle.std.specs.Prelude.{◌↔◌, IsTrue, ◌≡◌, ◌+◌, ◌-◌, ◌*◌, ◌%◌, ◌^◌, ◌<◌, All};
 ghost use Rattle.integer.specs.Congruence.{Congruent};
 ghost use Rattle.specification.specs.Search.{box, differenceAt, differenceSum, Completes};
-ghost use Rattle.differences.specs.AxisDifferences.{number_of, up_of, down_of};
-ghost use Rattle.walk.specs.Underway.{IsStep, SetUp, vector_of, others_of, Stands};
+ghost use Rattle.differences.specs.AxisDifferences.{number_of};
+ghost use Rattle.walk.specs.Underway.{IsStep, IsFit, IsCountable, vector_of, others_of, sum_above, sum_below, Stands};
 
-use crate::two_axes::{TwoAxes, combines};
+use crate::two_axes::{TwoAxes, completes};
 use axis::ActiveAxis;
 use integer::modular::{add_mod, mul_mod, neg_mod};
 
@@ -18,14 +18,14 @@ struct Sums {
 
 // The residues of a sum of differences that go along with the walk: z of its product with the inverse, moved up by the window,
 // modulo b; q of the sum itself modulo g.
-#[derive(Clone, Copy, Debug, PartialEq, Eq)]
+#[derive(Clone, Copy)]
 pub struct Residues {
     pub z: u64,
     pub q: u64,
 }
 
 // What a step of an axis's digit adds to a residue: up, and from the last digit back to 0.
-#[derive(Clone, Copy, Debug, PartialEq, Eq)]
+#[derive(Clone, Copy)]
 pub struct Step {
     pub up: u64,
     pub back: u64,
@@ -50,7 +50,7 @@ impl Step {
 }
 
 // An axis with its digit, which is the difference + extent - 1, and the steps of both residues.
-#[derive(Clone, Copy, Debug, PartialEq, Eq)]
+#[derive(Clone, Copy)]
 pub struct DifferenceAxis {
     pub axis: ActiveAxis,
     pub digit: u64,
@@ -72,8 +72,10 @@ impl DifferenceAxis {
 
     // The axis at the digit of no difference.
     pub fn at_middle(two: TwoAxes, axis: ActiveAxis) -> DifferenceAxis
-        requires { 0 < axis.extent }
-        ensures { SetUp two axis result }
+        requires { IsCountable axis }
+        ensures axis { result.axis ≡ axis }
+        ensures middle { result.digit ≡ axis.extent - 1 }
+        ensures fit { IsFit two result }
     {
         DifferenceAxis {
             axis,
@@ -85,6 +87,7 @@ impl DifferenceAxis {
 }
 
 // One vector on: the first axis's digit goes up, or goes round and leaves it to the next axis.
+#[tactic(auto, using(crate::proofs::Turning::turns), unfolding(specification::specs::Axis::product))]
 pub fn turn(two: TwoAxes, axes: &mut [DifferenceAxis], residues: Residues) -> Residues
     requires stands { Stands two axes.old residues }
     requires more { number_of (vector_of axes.old) + 1 < box (others_of axes.old) }
@@ -110,11 +113,13 @@ pub fn turn(two: TwoAxes, axes: &mut [DifferenceAxis], residues: Residues) -> Re
     Residues { z, q }
 }
 
-// The sum of differences in its two parts.
-fn parts_of(two: TwoAxes, axes: &[DifferenceAxis], residues: Residues) -> Sums
-    requires { Stands two axes.now residues }
-    ensures up { result.up ≡ up_of (vector_of axes.now) }
-    ensures down { result.down ≡ down_of (vector_of axes.now) }
+// The sum of differences in its two parts. Few vectors ask for it, so it stays out of the walk's loop, which then has the registers.
+#[inline(never)]
+fn parts_of(axes: &[DifferenceAxis]) -> Sums
+    requires some { All (λ d. 0 < d.axis.extent) axes.now }
+    requires fits { sum_above axes.now + sum_below axes.now < 2 ^ 64 }
+    ensures up { result.up ≡ sum_above axes.now }
+    ensures down { result.down ≡ sum_below axes.now }
 {
     let mut up: u64 = 0;
     let mut down: u64 = 0;
@@ -132,18 +137,14 @@ fn parts_of(two: TwoAxes, axes: &[DifferenceAxis], residues: Residues) -> Sums
 // Whether some difference of the two completes the vector where the axes stand. Either residue alone can say no.
 pub fn is_completed(two: TwoAxes, axes: &[DifferenceAxis], residues: Residues) -> bool
     requires { Stands two axes.now residues }
-    ensures { IsTrue result ↔ Completes two.first two.second (differenceSum (others_of axes.now) (differenceAt (others_of axes.now) (number_of (vector_of axes.now)))) }
+    ensures { let others = others_of axes.now in
+        IsTrue result ↔ Completes two.first two.second (differenceSum others (differenceAt others (number_of (vector_of axes.now)))) }
 {
     let Residues { z, q } = residues;
     if z > 2 * two.window || q > 0 {
         return false;
     }
+    let Sums { up, down } = parts_of(axes);
     let b = two.second.stride;
-    let Sums { up, down } = parts_of(two, axes, residues);
-    let k = add_mod(z, b - two.window, b);
-    if down <= up {
-        combines(two, up - down, k)
-    } else {
-        combines(two, down - up, neg_mod(k, b))
-    }
+    completes(two, up, down, add_mod(z, b - two.window, b))
 }

@@ -19,4 +19,6 @@ search_two-requires c =
 pub returns : goal.returns
 returns c =
     let e = c.sort_by_extent.ensures ∙ ap (sortBy longer) c.copy_from_slice.ensures.after in
-    searched-block _ _ e c.requires.many c.requires.searchable c.sort_by_axis.new.axes (rw take_rest at c.sort_by_axis.ensures) c.search_two.result c.search_two.ensures
+    let o = rw take_rest at c.sort_by_axis.ensures in
+    let s = c.search_two.ensures in
+    searched-block _ _ e c.requires.many c.requires.searchable c.sort_by_axis.new.axes o c.search_two.result s.within s.past
