@@ -1,139 +1,85 @@
 -- The sorted axes passed one by one: their total and span, and the block known so far.
-use mathlib.Core.Path.{◌≡◌, sym, ap, ◌∙◌}
-use mathlib.Core.Logic.{◌≢◌}
-use mathlib.Core.List.{List, [], ◌∷◌, ◌++◌, append_assoc}
-use Prim.Native.Nat.{ℕ, zero, suc, ◌+◌, ◌*◌, ◌-◌, ◌^◌, ◌≤◌, ◌<◌}
-use native.Mathlib.Nat.{zero-mul, mul-zero, mul-one, le-mul_of_pos_right}
-use native.Mathlib.Numerals.{add-one}
-use native.Mathlib.Omega.{arith}
-use lib.ListN.{length, take, drop, take-append-drop, drop_of_length-le}
-use lib.Seq.{drop-cons, length-take-le}
-use Rattle.std.proofs.lemmas.List.{take_more}
+use Rattle.std.proofs.Common.{◌≡◌, ℕ, ◌+◌, ◌*◌, ◌-◌, ◌^◌, ◌≤◌, ◌<◌, List, [], ◌∷◌, ◌++◌, length, take, drop, append_assoc, refl, arith}
+use lib.ListN.{drop_of_length-le}
+use Rattle.std.proofs.lemmas.Int.{ints}
+use Rattle.std.proofs.lemmas.List.{take_more, drop_more, length-take-le}
 use Rattle.specification.specs.Axis.{product}
 use Rattle.specification.specs.Search.{ActiveAxis, total, spanSum}
 use Rattle.specification.specs.BlockClaims.{entry_at}
 use Rattle.specification.specs.Verdict.{upToLast}
 use Rattle.differences.proofs.Meeting.{total-append, span-append}
-use Rattle.search.specs.Block.{Searchable}
-use Rattle.injectivity.specs.declared.block.Front.{Front}
-use Rattle.injectivity.proofs.SearchableLaws.{side-at, total-positive, searchable-take}
-use Rattle.std.proofs.lemmas.Int.{ints}
+use Rattle.search.specs.Block.{Sides}
+use Rattle.injectivity.proofs.SearchableLaws.{side-at, total-positive, numbered-take, sides-take, span-take, total-take}
 
--- of a product that is not 0, no factor is 0, and each is at most the whole
-factor-least : (a b : ℕ) → 0 < a * b → (a ≤ a * b) × (0 < a) × (0 < b)
-factor-least zero b h = absurd (omega (arith, zero-mul b))
-factor-least (suc a) zero h = absurd (omega (arith, mul-zero (suc a)))
-factor-least (suc a) (suc b) h = (le-mul_of_pos_right (suc a) (omega arith), omega arith, omega arith)
-
--- ---- the block: what is left says where it ends, or else it is the one found so far
-
-abbrev ending : List ActiveAxis → List ActiveAxis → List ActiveAxis → List ActiveAxis
+-- the block: what is left says where it ends, or else it is the one found so far
+unfoldable pub ending : List ActiveAxis → List ActiveAxis → List ActiveAxis → List ActiveAxis
 ending [] passed found = found
 ending (b ∷ more) passed found = passed ++ (b ∷ more)
 
-module _ (before : ℕ) (a : ActiveAxis) (rest passed : List ActiveAxis) (found : List ActiveAxis) where
-  abbrev after : ℕ
-  after = before + (a.extent - 1) * a.stride
+abbrev none : ActiveAxis
+none = record { axis = 0; extent = 0; stride = 0 }
 
-  ending-near : a.stride ≤ before → ending (upToLast before (a ∷ rest)) passed found ≡ ending (upToLast after rest) (passed ++ (a ∷ [])) (passed ++ (a ∷ []))
-  unfolding upToLast
-  ending-near h = grind (arith, ints, append_assoc)
+-- none are passed
+pub none_ends : (l : List ActiveAxis) → ending (upToLast 0 l) [] [] ≡ upToLast 0 l
+unfolding ending
+none_ends l = grind (arith, ints)
 
-  ending-far : before < a.stride → ending (upToLast before (a ∷ rest)) passed found ≡ ending (upToLast after rest) (passed ++ (a ∷ [])) found
-  unfolding upToLast
-  ending-far h = grind (arith, ints, append_assoc)
+pub none_total : total [] ≡ 1
+unfolding product
+none_total = refl
 
--- ---- the axes passed
+pub none_span : spanSum [] ≡ 0
+unfolding spanSum
+none_span = refl
 
--- the first of sorted axes, as many as it says, with their total and span
-pub record IsFront (sorted : List ActiveAxis) (front : Front) : Type 0 where
-  pub within : front.len ≤ length sorted
-  pub total-is : front.total ≡ total (take front.len sorted)
-  pub span-is : front.span ≡ spanSum (take front.len sorted)
-
--- i axes are passed, with their total and span, and the block is as long as this so far: it never has one axis
-pub record Covering (sorted : List ActiveAxis) (i covered-total covered-span : ℕ) (block : Front) : Type 0 where
-  pub block-is : ending (upToLast covered-span (drop i sorted)) (take i sorted) (take block.len sorted) ≡ upToLast 0 sorted
-  pub total-is : covered-total ≡ total (take i sorted)
-  pub span-is : covered-span ≡ spanSum (take i sorted)
-  pub front : IsFront sorted block
-  pub many : block.len ≢ 1
-
-pub cover-none : (sorted : List ActiveAxis) → Covering sorted 0 1 0 (record { len = 0; total = 1; span = 0 })
-unfolding product spanSum
-cover-none sorted = grind (arith, ints)
-
-module _ {sorted : List ActiveAxis} {i t s : ℕ} {block : Front} (c : Covering sorted i t s block) (h : i < length sorted) where
+module _ (l : List ActiveAxis) (i : ℕ) (h : i < length l) where
   abbrev here : ActiveAxis
-  here = entry_at sorted i
+  here = entry_at l i
 
-  one_more : take (i + 1) sorted ≡ take i sorted ++ here ∷ []
-  one_more = take_more sorted i (record { axis = 0; extent = 0; stride = 0 }) h
-
-  next : drop i sorted ≡ here ∷ drop (i + 1) sorted
-  next = rw add-one (drop-cons sorted i (record { axis = 0; extent = 0; stride = 0 }) h)
-
-  total-more : t * here.extent ≡ total (take (i + 1) sorted)
+  pub total_more : total (take (i + 1) l) ≡ total (take i l) * here.extent
   unfolding product
-  total-more = rw (one_more, total-append (take i sorted) (here ∷ []), c.total-is, mul-one here.extent)
+  total_more = rw (take_more l i none h, total-append (take i l) (here ∷ [])) (omega arith)
 
-  span_more : s + (here.extent - 1) * here.stride ≡ spanSum (take (i + 1) sorted)
+  pub span_more : spanSum (take (i + 1) l) ≡ spanSum (take i l) + (here.extent - 1) * here.stride
   unfolding spanSum
-  span_more = rw (one_more, span-append (take i sorted) (here ∷ [])) (omega (arith, c.span-is))
+  span_more = rw (take_more l i none h, span-append (take i l) (here ∷ [])) (omega arith)
 
-  pub cover-far : s < here.stride → Covering sorted (i + 1) (t * here.extent) (s + (here.extent - 1) * here.stride) block
-  cover-far k = record {
-    block-is = rw one_more
-        (sym (ending-far s here (drop (i + 1) sorted) (take i sorted) (take block.len sorted) k) ∙ ap (λ (l : List ActiveAxis). ending (upToLast s l) (take i sorted) (take block.len sorted)) (sym next) ∙ c.block-is);
-    total-is = total-more;
-    span-is = span_more;
-    front = c.front;
-    many = c.many;
-  }
+  module _ (before : ℕ) (found : List ActiveAxis) where
+    pub near : here.stride ≤ before → ending (upToLast before (drop i l)) (take i l) found
+        ≡ ending (upToLast (before + (here.extent - 1) * here.stride) (drop (i + 1) l)) (take (i + 1) l) (take (i + 1) l)
+    unfolding upToLast ending
+    near k = rw (drop_more l i none h, take_more l i none h) (grind (arith, ints, append_assoc))
 
-  module _ (w : Searchable sorted) where
-    -- the first axis has no span before it, and it moves
-    not_first : here.stride ≤ s → 0 < i
-    unfolding spanSum
-    not_first k = let m = (side-at sorted w.sides i h).moves in grind (arith, ints)
+    pub far : before < here.stride → ending (upToLast before (drop i l)) (take i l) found
+        ≡ ending (upToLast (before + (here.extent - 1) * here.stride) (drop (i + 1) l)) (take (i + 1) l) found
+    unfolding upToLast ending
+    far k = rw (drop_more l i none h, take_more l i none h) (grind (arith, ints, append_assoc))
 
-    pub cover-near : here.stride ≤ s
-        → Covering sorted (i + 1) (t * here.extent) (s + (here.extent - 1) * here.stride) (record { len = i + 1; total = t * here.extent; span = s + (here.extent - 1) * here.stride })
-    cover-near k = record {
-      block-is = rw one_more
-          (sym (ending-near s here (drop (i + 1) sorted) (take i sorted) (take block.len sorted) k) ∙ ap (λ (l : List ActiveAxis). ending (upToLast s l) (take i sorted) (take block.len sorted)) (sym next) ∙ c.block-is);
-      total-is = total-more;
-      span-is = span_more;
-      front = record { within = omega arith; total-is = total-more; span-is = span_more };
-      many = λ e. omega (arith, not_first k);
-    }
+  -- a word holds what is covered next, as it holds the whole
+  pub some_extent : Sides l → 1 ≤ here.extent
+  some_extent s = omega (arith, (side-at l s i h).long)
 
-    -- a word holds what is covered next
-    module _ (fits : total sorted < 2 ^ 64) where
-      split : take (i + 1) sorted ++ drop (i + 1) sorted ≡ sorted
-      split = take-append-drop (i + 1) sorted
+  pub total_within : Sides l → total (take i l) * here.extent ≤ total l
+  total_within s = omega (arith, total_more, total-take (i + 1) l s)
 
-      total-split : (t * here.extent) * total (drop (i + 1) sorted) ≡ total sorted
-      total-split = ap (λ (k : ℕ). k * total (drop (i + 1) sorted)) total-more ∙ sym (total-append (take (i + 1) sorted) (drop (i + 1) sorted)) ∙ ap total split
+  pub span_within : spanSum (take i l) + (here.extent - 1) * here.stride ≤ spanSum l
+  span_within = omega (arith, span_more, span-take (i + 1) l)
 
-      pub cover-fits : (0 < here.extent) × (t * here.extent < 2 ^ 64) × (s + (here.extent - 1) * here.stride < 2 ^ 64)
-      cover-fits =
-          let p : 0 < (t * here.extent) * total (drop (i + 1) sorted) = omega (arith, total-split, total-positive sorted w.sides) in
-          let q = factor-least (t * here.extent) (total (drop (i + 1) sorted)) p in
-          let r = factor-least t here.extent q.1 in
-          (r.2, omega (arith, total-split, fits), omega (arith, span_more, span-append (take (i + 1) sorted) (drop (i + 1) sorted), ap spanSum split, w.fits))
+  -- the first axis has no span before it, and it moves
+  pub not_first : Sides l → here.stride ≤ spanSum (take i l) → 0 < i
+  unfolding spanSum
+  not_first s k = let m = (side-at l s i h).moves in grind (arith, ints)
 
 -- all are passed
-module _ {sorted : List ActiveAxis} {i t s : ℕ} {block : Front} (c : Covering sorted i t s block) (h : length sorted ≤ i) where
-  pub block-found : take block.len sorted ≡ upToLast 0 sorted
-  unfolding upToLast
-  block-found = rw (drop_of_length-le sorted h) at c.block-is
+pub all_passed : (l passed found : List ActiveAxis) (before i : ℕ) → length l ≤ i → ending (upToLast before (drop i l)) passed found ≡ found
+unfolding upToLast ending
+all_passed l passed found before i h = rw (drop_of_length-le l h)
 
-  pub none_found : block.len ≡ 0 → upToLast 0 sorted ≡ []
-  none_found e = sym block-found ∙ ap (λ (n : ℕ). take n sorted) e
+-- the block: the first of the sorted axes
+pub front_positive : (k : ℕ) (l : List ActiveAxis) → Sides l → 0 < total (take k l)
+front_positive k l s = total-positive (take k l) (sides-take k l s)
 
-  pub found-many : block.len ≢ 0 → 1 < length (take block.len sorted)
-  found-many n = omega (arith, c.many, length-take-le block.len sorted c.front.within)
+-- what holds as axes are passed, and of those in front
+pub ruleset passing = (none_ends, none_total, none_span, total_more, span_more, near, far, not_first, all_passed)
 
-  pub found-positive : Searchable sorted → 0 < block.total
-  found-positive w = omega (arith, c.front.total-is, total-positive (take block.len sorted) (searchable-take block.len w).sides)
+pub ruleset in_front = (some_extent, total_within, span_within, front_positive, numbered-take, sides-take, span-take, length-take-le)

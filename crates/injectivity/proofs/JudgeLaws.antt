@@ -1,16 +1,16 @@
 -- What is planned for a block, by its total and span and by how many axes it has.
 use Rattle.std.specs.Prelude.{if◌then◌else◌}
-use mathlib.Core.Path.{◌≡◌}
-use mathlib.Core.List.{List}
-use Prim.Native.Nat.{◌-◌, ◌≤◌, ◌<◌}
-use native.Mathlib.Omega.{arith}
-use lib.ListN.{length}
+use Rattle.std.proofs.Common.{◌≡◌, ◌-◌, ◌≤◌, ◌<◌, List, [], length, refl, arith}
+use Rattle.std.proofs.lemmas.Int.{ints}
 use Rattle.specification.specs.Tests.{sortBy}
 use Rattle.specification.specs.Axis.{product}
 use Rattle.specification.specs.Search.{ActiveAxis, total, spanSum, twoDistinct}
 use Rattle.specification.specs.Verdict.{Distinct, Repeated, answered, longer, byTwo, byMany, by_size, byBlock}
 use Rattle.specification.specs.BlockClaims.{entry_at}
-use Rattle.std.proofs.lemmas.Int.{ints}
+
+pub no_block : byBlock [] ≡ answered Distinct 0
+unfolding byBlock
+no_block = refl
 
 -- more positions than sums
 pub crowded : (l : List ActiveAxis) → ¬ (total l - 1 ≤ spanSum l) → byBlock l ≡ answered Repeated 0

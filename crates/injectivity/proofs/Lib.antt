@@ -7,5 +7,4 @@ pub mod SearchableLaws
 pub mod CoverLaws
 pub mod JudgeLaws
 pub mod ReadyLaws
-pub mod DueLaws
 pub mod MeaningProved

@@ -1,15 +1,12 @@
--- Axes that can be searched: each of them, their total, and those in front.
-use mathlib.Core.Logic.{inl, inr}
-use mathlib.Core.List.{List, [], ◌∷◌}
-use Prim.Native.Nat.{ℕ, zero, suc, ◌≤◌, ◌<◌}
-use native.Mathlib.Omega.{arith}
-use lib.ListN.{length, take}
-use Rattle.std.proofs.Common.{length-take}
+-- Axes that can be searched, of which some in front are taken: these can be searched too, and their total and span are within the whole.
+use Rattle.std.proofs.Common.{ℕ, zero, suc, ◌≤◌, ◌<◌, List, [], ◌∷◌, length, take, arith}
+use native.Mathlib.Nat.{mul-le-mul_left}
+use Rattle.specification.specs.Axis.{product}
 use Rattle.specification.specs.Search.{ActiveAxis, lengths, total, spanSum}
 use Rattle.specification.specs.BlockClaims.{entry_at}
 use Rattle.specification.proofs.Digits.{PositiveExtents, product-positive}
-use Rattle.sorting.specs.Numbered.{In, Numbered}
-use Rattle.search.specs.Block.{Side, Sides, Searchable}
+use Rattle.sorting.specs.Numbered.{IsFree, Numbered}
+use Rattle.search.specs.Block.{Side, Sides}
 
 pub side-at : (l : List ActiveAxis) → Sides l → (i : ℕ) → i < length l → Side (entry_at l i).extent (entry_at l i).stride
 side-at [] s i h = absurd (omega arith)
@@ -25,32 +22,30 @@ total-positive l s = product-positive (lengths-positive l s)
 
 -- ---- those in front
 
-sides-take : (n : ℕ) (l : List ActiveAxis) → Sides l → Sides (take n l)
-sides-take zero l s = tt
-sides-take (suc n) [] s = tt
-sides-take (suc n) (a ∷ l) s = (s.0, sides-take n l s.1)
+module _ (n : ℕ) where
+  free-take : (k : ℕ) (l : List ActiveAxis) → IsFree n l → IsFree n (take k l)
+  free-take zero l f = tt
+  free-take (suc k) [] f = tt
+  free-take (suc k) (a ∷ l) f = (f.0, free-take k l f.1)
 
-in-take : (n : ℕ) (l : List ActiveAxis) (x : ActiveAxis) → In x (take n l) → In x l
-in-take zero l x i = absurd i
-in-take (suc n) [] x i = absurd i
-in-take (suc n) (a ∷ l) x (inl e) = inl e
-in-take (suc n) (a ∷ l) x (inr i) = inr (in-take n l x i)
-
-numbered-take : (n : ℕ) (l : List ActiveAxis) → Numbered l → Numbered (take n l)
+pub numbered-take : (k : ℕ) (l : List ActiveAxis) → Numbered l → Numbered (take k l)
 numbered-take zero l d = tt
-numbered-take (suc n) [] d = tt
-numbered-take (suc n) (a ∷ l) d = (λ x i. d.0 x (in-take n l x i), numbered-take n l d.1)
+numbered-take (suc k) [] d = tt
+numbered-take (suc k) (a ∷ l) d = (free-take a.axis k l d.0, numbered-take k l d.1)
 
-span-take : (n : ℕ) (l : List ActiveAxis) → spanSum (take n l) ≤ spanSum l
+pub sides-take : (k : ℕ) (l : List ActiveAxis) → Sides l → Sides (take k l)
+sides-take zero l s = tt
+sides-take (suc k) [] s = tt
+sides-take (suc k) (a ∷ l) s = (s.0, sides-take k l s.1)
+
+pub span-take : (k : ℕ) (l : List ActiveAxis) → spanSum (take k l) ≤ spanSum l
 unfolding spanSum
 span-take zero l = omega arith
-span-take (suc n) [] = omega arith
-span-take (suc n) (a ∷ l) = omega (arith, span-take n l)
+span-take (suc k) [] = omega arith
+span-take (suc k) (a ∷ l) = omega (arith, span-take k l)
 
-pub searchable-take : (n : ℕ) {l : List ActiveAxis} → Searchable l → Searchable (take n l)
-searchable-take n {l} w = record {
-  few = omega (arith, length-take n l, w.few);
-  numbered = numbered-take n l w.numbered;
-  sides = sides-take n l w.sides;
-  fits = omega (arith, span-take n l, w.fits);
-}
+pub total-take : (k : ℕ) (l : List ActiveAxis) → Sides l → total (take k l) ≤ total l
+unfolding product
+total-take zero l s = total-positive l s
+total-take (suc k) [] s = omega arith
+total-take (suc k) (a ∷ l) s = mul-le-mul_left a.extent (total-take k l s.1)

@@ -1,4 +1,4 @@
--- What the answers of the call say of the layout, for whoever calls it: each of them exactly where 01 has it.
+-- What the answers of the call say of the layout, for whoever calls it: each of them exactly where the rules have it.
 use Rattle.std.specs.Prelude.{true, false, List, [], ◌∷◌, ◌≢◌, ◌⊎◌, ◌↔◌, ◌≡◌, ℕ, ◌<◌, ◌≤◌, ℤ, length, drop, Result}
 use Rattle.specification.specs.Tests.{some}
 use Rattle.specification.specs.Axis.{axesOf, is_empty, Shared}
@@ -36,7 +36,7 @@ pub record NoneDue (extents : List ℕ) (strides : List ℤ) (words : ℕ) : Typ
   pub enough : wordsNeeded (axesOf extents strides) ≤ words
 
 -- the answer, by the layout
-pub record Means (extents : List ℕ) (strides : List ℤ) (before after : List ℕ) (r : Result Judgement Refusal) : Type 0 where
+pub record MeaningOf (extents : List ℕ) (strides : List ℤ) (before after : List ℕ) (r : Result Judgement Refusal) : Type 0 where
   pub distinct : Answers r Distinct
       ↔ NoneDue extents strides (length before) × ¬ (BothBudgetsPassed (axesOf extents strides)) × ¬ (Shared (axesOf extents strides))
   pub repeated : Answers r Repeated
@@ -49,10 +49,15 @@ pub record Means (extents : List ℕ) (strides : List ℤ) (before after : List 
   pub nine : (words : ℕ) → RefusedWith r 9 (words ∷ [])
       ↔ Fitting extents strides × (length before < wordsNeeded (axesOf extents strides)) × (words ≡ wordsNeeded (axesOf extents strides))
   -- there is no other answer
-  pub no_other : (number : ℕ) (values : List ℕ) → RefusedWith r number values → (number ≡ 1) ⊎ ((number ≡ 2) ⊎ ((number ≡ 8) ⊎ ((number ≡ 3) ⊎ (number ≡ 9))))
+  pub no_other : (number : ℕ) (values : List ℕ) → RefusedWith r number values
+      → (number ≡ 1) ⊎ ((number ≡ 2) ⊎ ((number ≡ 8) ⊎ ((number ≡ 3) ⊎ (number ≡ 9))))
   -- after a refusal the scratch is as it was; else the words past those needed are
   pub unchanged : (number : ℕ) (values : List ℕ) → RefusedWith r number values → after ≡ before
   pub past-needed : drop (wordsNeeded (axesOf extents strides)) after ≡ drop (wordsNeeded (axesOf extents strides)) before
+
+-- the same as one word: a proof that does not ask for the parts does not read them
+unfoldable pub Means : List ℕ → List ℤ → List ℕ → List ℕ → Result Judgement Refusal → Type 0
+Means = MeaningOf
 
 -- so of every call, whatever the lists and the scratch hold
 pub record JudgementClaims : Type 0 where

@@ -118,6 +118,7 @@ struct Front {
 
 /// Of sorted axes, those up to the last whose absolute stride is at most the sum of absolute spans
 /// before it; none, where every axis is separated.
+#[tactic(auto, using(crate::proofs::CoverLaws::passing, crate::proofs::CoverLaws::in_front))]
 pub fn interleaved_block(sorted: &[ActiveAxis]) -> Option<InterleavedBlock<'_>>
     requires searchable { Searchable sorted.now }
     requires total_fits { total_of sorted.now < 2 ^ 64 }

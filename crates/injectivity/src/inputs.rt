@@ -17,7 +17,7 @@ const MOST_UP: u64 = i64::MAX as u64;
 const MOST_DOWN: u64 = MOST_UP + 1;
 
 /// Whether an axis is active with stride 0.
-#[tactic(auto, using(crate::proofs::InputsLaws::axis_tests), unfolding(integer::specs::Multiple::eqZ))]
+#[tactic(auto, using(crate::proofs::InputsLaws::axis_tests))]
 fn is_still(axis: &Axis) -> bool
     ensures { result ≡ still axis.now }
 {
@@ -32,7 +32,7 @@ fn some_still(axes: &[Axis]) -> bool
 }
 
 /// Whether an axis is active, and its extent minus 1 is above 2^63 - 1 or its stride is -2^63.
-#[tactic(auto, using(crate::proofs::InputsLaws::axis_tests), unfolding(integer::specs::Multiple::eqZ))]
+#[tactic(auto, using(crate::proofs::InputsLaws::axis_tests))]
 fn is_unfit(axis: &Axis) -> bool
     ensures { result ≡ unfit axis.now }
 {
@@ -57,6 +57,7 @@ fn out_of_range(axes: &[Axis]) -> bool
 
 /// What is answered before the block is looked for; nothing, where the block decides. The errors
 /// are 8, more than 2^64 - 1 positions, and 3.
+#[tactic(auto, using(crate::proofs::PlanLaws::planning))]
 pub fn validate_injective_layout_inputs(axes: &[Axis]) -> Result<Option<Judgement>, Refusal>
     requires { length axes.now ≤ 16 }
     ensures { Validated axes.now result }

@@ -1,4 +1,17 @@
 //! Whether no two positions of a layout share an offset, said of its extents and strides.
+//!
+//! The axes are sorted by absolute stride. An axis whose stride is above all spans before it is
+//! separated: no step along it is undone by those. Behind the last that is not, all drop out; what
+//! is left is the block, and it alone decides. More positions than sums is Repeated; two axes are
+//! settled by their greatest common divisor; more are searched for a difference that adds up to 0,
+//! or enumerated in the caller's scratch; past both budgets the answer is Undecided.
+//!
+//! Nothing is allocated. A search looks at no more than 2^22 differences; an enumeration is of no
+//! more than 2^24 positions and asks for no more than 2^24 + 1 words.
+//!
+//! Both calls promise the theorem: `means` says exactly when each answer is given (`Means`, in
+//! specs/Meaning.antt), and `judged` that answer, count and scratch are those of the definitions'
+//! `verdict`. Why it is right: docs/WHY.md, sections 1 to 9 and 11.
 #![tactic(auto)]
 
 mod active;
@@ -11,6 +24,7 @@ ghost use Rattle.specification.specs.Verdict.{judge as judged, verdict};
 ghost use Rattle.injectivity.specs.Claims.{Claims};
 ghost use Rattle.injectivity.specs.Inputs.{LeftToBlock};
 ghost use Rattle.injectivity.specs.Judgement.{JudgedAs};
+ghost use Rattle.injectivity.specs.Meaning.{Means};
 
 use active::{NO_ACTIVE_AXIS, gather_active};
 use axis::Axis;
@@ -72,8 +86,55 @@ impl From<Searched> for Judgement {
     }
 }
 
+/// The verdict of two lists: refusal 1 for more than 16 entries, 2 for lengths that differ, then
+/// the verdict of the axes that they are.
+#[tactic(auto, using(crate::proofs::PlanLaws::lists, view::proofs::ListsLaws::stored_taken, crate::proofs::MeaningProved::told_means))]
+pub fn is_injective_layout(
+    extents: &[u64],
+    strides: &[i64],
+    scratch: &mut [u64],
+) -> Result<Judgement, Refusal>
+    ensures judged { JudgedAs (verdict extents.now strides.now (length scratch.old))
+        scratch.old scratch.new result }
+    ensures means { Means extents.now strides.now scratch.old scratch.new result }
+{
+    let lists = Lists::new(extents, strides)?;
+    let mut room = [NO_AXIS; 16];
+    lists.store(&mut room);
+    judge_axes(&room[..extents.len()], scratch)
+}
+
+/// The verdict of axes that are lent: what `is_injective_layout` answers of their extents and
+/// strides. Refusal 1 is more than 16 axes, 8 more than 2^64 - 1 positions, 3 an extent, a stride,
+/// a span or a sum of spans out of range, 9 a scratch of fewer words than the enumeration needs.
+/// Only the enumeration works in the scratch; the words past those that it needs stay, and a
+/// refusal leaves them all.
+#[tactic(auto, using(crate::proofs::PlanLaws::lent, crate::proofs::MeaningProved::told_means))]
+pub fn is_injective_axes(axes: &[Axis], scratch: &mut [u64]) -> Result<Judgement, Refusal>
+    ensures judged { JudgedAs (verdict (extents axes.now) (strides axes.now) (length scratch.old))
+        scratch.old scratch.new result }
+    ensures means { Means (extents axes.now) (strides axes.now) scratch.old scratch.new result }
+{
+    if MOST_AXES < axes.len() {
+        return Err(Refusal::TooManyAxes);
+    }
+    judge_axes(axes, scratch)
+}
+
+/// The verdict of at most 16 axes.
+#[tactic(auto, using(crate::proofs::PlanLaws::settled, crate::proofs::PlanLaws::turned_down))]
+fn judge_axes(axes: &[Axis], scratch: &mut [u64]) -> Result<Judgement, Refusal>
+    requires { length axes.now ≤ 16 }
+    ensures { JudgedAs (judged axes.now (length scratch.old)) scratch.old scratch.new result }
+{
+    match validate_injective_layout_inputs(axes)? {
+        Some(judgement) => Ok(judgement),
+        None => judge_active_axes(axes, scratch),
+    }
+}
+
 /// The verdict where the block decides. No block is Distinct: every axis is separated.
-#[tactic(auto, using(crate::proofs::ReadyLaws::sorted_axes, crate::proofs::PlanLaws::by_block), unfolding(specification::specs::Verdict::byBlock, specification::specs::Verdict::carryOut))]
+#[tactic(auto, using(crate::proofs::ReadyLaws::sorted_axes), unfolding(specification::specs::Verdict::carryOut))]
 fn judge_active_axes(axes: &[Axis], scratch: &mut [u64]) -> Result<Judgement, Refusal>
     requires few { length axes.now ≤ 16 }
     requires left { LeftToBlock axes.now }
@@ -87,50 +148,6 @@ fn judge_active_axes(axes: &[Axis], scratch: &mut [u64]) -> Result<Judgement, Re
         return Ok(Judgement::Distinct(0));
     };
     block.judge(scratch)
-}
-
-/// The verdict of at most 16 axes.
-fn judge_axes(axes: &[Axis], scratch: &mut [u64]) -> Result<Judgement, Refusal>
-    requires { length axes.now ≤ 16 }
-    ensures { JudgedAs (judged axes.now (length scratch.old)) scratch.old scratch.new result }
-{
-    match validate_injective_layout_inputs(axes)? {
-        Some(judgement) => Ok(judgement),
-        None => judge_active_axes(axes, scratch),
-    }
-}
-
-/// The verdict of axes that are lent: what `is_injective_layout` answers of their extents and
-/// strides. Refusal 1 is more than 16 axes, 8 more than 2^64 - 1 positions, 3 an extent, a stride,
-/// a span or a sum of spans out of range, 9 a scratch of fewer words than the enumeration needs.
-/// Only the enumeration works in the scratch; the words past those that it needs stay, and a
-/// refusal leaves them all.
-#[tactic(auto, using(crate::proofs::PlanLaws::lent))]
-pub fn is_injective_axes(axes: &[Axis], scratch: &mut [u64]) -> Result<Judgement, Refusal>
-    ensures { JudgedAs (verdict (extents axes.now) (strides axes.now) (length scratch.old))
-        scratch.old scratch.new result }
-{
-    if MOST_AXES < axes.len() {
-        return Err(Refusal::TooManyAxes);
-    }
-    judge_axes(axes, scratch)
-}
-
-/// The verdict of two lists: refusal 1 for more than 16 entries, 2 for lengths that differ, then
-/// the verdict of the axes that they are.
-#[tactic(auto, using(crate::proofs::PlanLaws::lists))]
-pub fn is_injective_layout(
-    extents: &[u64],
-    strides: &[i64],
-    scratch: &mut [u64],
-) -> Result<Judgement, Refusal>
-    ensures { JudgedAs (verdict extents.now strides.now (length scratch.old))
-        scratch.old scratch.new result }
-{
-    let lists = Lists::new(extents, strides)?;
-    let mut room = [NO_AXIS; 16];
-    lists.store(&mut room);
-    judge_axes(&room[..extents.len()], scratch)
 }
 
 /// Does nothing, and promises what the answers of a verdict say of the layout: the check refuses

@@ -1,6 +1,11 @@
--- `gather_active`: the active ones of the axes passed stand in front.
-use Rattle.injectivity.proofs.ActiveLaws.{Gathered}
+-- `gather_active`: those gathered, and the active ones of the axes that are left, are all of them.
+use Rattle.std.proofs.Common.{◌≡◌, ◌≤◌, ◌++◌, length, take, drop}
+use Rattle.specification.specs.Verdict.{activeFrom}
 use Rattle.injectivity.proofs.active.gather_active.Given as goal
 
 abbrev pub invariant-loop-axis : goal.invariant-loop-axis
-invariant-loop-axis l = Gathered l.axes l.axis l.active l.count
+invariant-loop-axis l = record {
+  places : length l.active ≡ 16;
+  few : l.count ≤ l.axis;
+  front : take l.count l.active ++ activeFrom l.axis (drop l.axis l.axes) ≡ activeFrom 0 l.axes;
+}
