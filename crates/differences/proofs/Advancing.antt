@@ -3,9 +3,9 @@ use Rattle.std.proofs.Common.{◌≡◌, refl, ap, ℕ, ◌+◌, ◌*◌, ◌-�
 use Rattle.std.proofs.lemmas.List.Elements.{All-set, All-get_or}
 use Rattle.specification.specs.Search.{spanSum, box}
 use Rattle.differences.specs.declared.AxisDifference.{AxisDifference}
-use Rattle.differences.specs.AxisDifferences.{axes_of, number_of, digit_of, up_of, down_of, IsSmall}
+use Rattle.differences.specs.AxisDifferences.{axes_of, number_of, digit_of, above, below, up_of, down_of, IsSmall}
 use Rattle.differences.proofs.DistanceLaws.{distance-of}
-use Rattle.differences.proofs.VectorLaws.{nothing, entry, box_before, axes-length, axes-set, up-set, down-set, number-set, box-more, up-low, down-low, number-low}
+use Rattle.differences.proofs.VectorLaws.{nothing, entry, box_before, axes-length, axes-set, sum-set, number-set, box-more, sum-low, number-low}
 
 -- with its highest difference above 0, or below, the sums still fit (the first part shows `grind` the call to match)
 pub entry_within : (ds : List AxisDifference) (j : ℕ) → j < length ds → All IsSmall ds
@@ -23,13 +23,13 @@ entry_within ds j h all =
     let with = λ (d : AxisDifference) (s : IsSmall d). All-set IsSmall ds j d s all in (
       refl,
       m,
-      omega (arith, up-set ds j down h),
-      omega (arith, down-set ds j up h),
-      omega (arith, up-set ds j up h, up-low (set ds j up) (with up (omega arith, omega arith)), ap spanSum (axes-set ds j up refl)),
+      omega (arith, sum-set above ds j down h),
+      omega (arith, sum-set below ds j up h),
+      omega (arith, sum-set above ds j up h, sum-low above (λ d s. s.0) (set ds j up) (with up (omega arith, omega arith)), ap spanSum (axes-set ds j up refl)),
       omega (
         arith,
-        down-set ds j down h,
-        down-low (set ds j down) (with down (omega arith, omega arith)),
+        sum-set below ds j down h,
+        sum-low below (λ d s. s.1) (set ds j down) (with down (omega arith, omega arith)),
         ap spanSum (axes-set ds j down refl),
       ),
     )
@@ -43,8 +43,8 @@ module _ (ds : List AxisDifference) (j : ℕ) (d : AxisDifference) where
     refl,
     All-set IsSmall ds j d small all,
     ap spanSum (axes-set ds j d a),
-    omega (arith, up-set ds j d h, ap (λ z. d.above * z.stride) a),
-    omega (arith, down-set ds j d h, ap (λ z. d.below * z.stride) a),
+    omega (arith, sum-set above ds j d h, ap (λ z. d.above * z.stride) a),
+    omega (arith, sum-set below ds j d h, ap (λ z. d.below * z.stride) a),
   )
 
   pub number_on : j < length ds → d.axis ≡ (entry ds j).axis → digit_of d ≡ digit_of (entry ds j) + 1

@@ -10,7 +10,8 @@ use Rattle.specification.specs.Axis.{index_at}
 use Rattle.specification.specs.Search.{ActiveAxis, reach, spanSum, widths, differenceSum, differenceAt, fromDigits}
 use Rattle.differences.specs.declared.AxisDifference.{AxisDifference}
 use Rattle.differences.specs.Differences.{distance_at}
-use Rattle.differences.specs.AxisDifferences.{axes_of, number_of, up_of, down_of, digit_of, IsSmall}
+use Rattle.differences.specs.AxisDifferences.{axes_of, number_of, above, below, up_of, down_of, digit_of, IsSmall}
+use Rattle.differences.proofs.VectorLaws.{sum-cons}
 
 -- the sum of the digits of vector number k
 abbrev pub digit_sum : List ActiveAxis → ℕ → ℕ
@@ -44,7 +45,7 @@ distance-is axes k = gap-of _ _ _ (digit-parts axes k)
 -- the code's vector: its parts above 0 and the span are its parts below and its digits
 digits-of-vector : (ds : List AxisDifference) → All IsSmall ds
     → digit_sum (axes_of ds) (number_of ds) + down_of ds ≡ spanSum (axes_of ds) + up_of ds
-unfolding index_at number_of reach spanSum up_of down_of
+unfolding index_at number_of reach spanSum
 digits-of-vector [] h = omega arith
 digits-of-vector (d ∷ ds) h =
     let s = All-head IsSmall d ds h in
@@ -54,7 +55,7 @@ digits-of-vector (d ∷ ds) h =
     let m = add-mul-mod_self_left (digit_of d) (2 * d.axis.extent - 1) (number_of ds) in
     let q = add-mul-div_left (digit_of d) (number_of ds) w in
     rw (m, mod-eq_of_lt l, q, div-eq_of_lt l, zero-add (number_of ds))
-    (omega (arith, digits-of-vector ds (All-tail IsSmall d ds h), ap (λ (n : ℕ). n * d.axis.stride) e))
+    (omega (arith, digits-of-vector ds (All-tail IsSmall d ds h), sum-cons above d ds, sum-cons below d ds, ap (λ (n : ℕ). n * d.axis.stride) e))
 
 -- the sum of the vector with this number, in its two parts
 pub parts-at : (ds : List AxisDifference) → All IsSmall ds

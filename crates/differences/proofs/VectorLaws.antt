@@ -3,11 +3,12 @@ use Rattle.std.proofs.Common.{◌≡◌, ◌∙◌, sym, ap, ℕ, zero, suc, ◌
 use Rattle.std.proofs.Math.ListN.{get_or-map}
 use Rattle.std.proofs.lemmas.List.{length-map, map-set, set-get_or}
 use Rattle.std.proofs.lemmas.List.Elements.{All-head, All-tail}
+use Rattle.std.proofs.lemmas.List.Sums.{sum_by-cons, sum_by-set}
 use Rattle.specification.specs.Axis.{product}
 use Rattle.specification.specs.Search.{spanSum, box}
 use Rattle.differences.specs.declared.AxisDifference.{AxisDifference}
 pub use Rattle.differences.specs.AxisDifferences.{digit_of}
-use Rattle.differences.specs.AxisDifferences.{axes_of, number_of, up_of, down_of, IsSmall}
+use Rattle.differences.specs.AxisDifferences.{axes_of, number_of, sum_of, IsSmall}
 use Rattle.differences.proofs.BoxLaws.{no_axis}
 use Rattle.differences.proofs.BoxLaws as axes
 
@@ -34,19 +35,13 @@ axes-set ds j d e =
     ∙ ap (set (axes_of ds) j) (e ∙ sym (axis-entry ds j))
     ∙ set-get_or (axes_of ds) j no_axis
 
-pub up-set : (ds : List AxisDifference) (j : ℕ) (d : AxisDifference) → j < length ds
-    → up_of (set ds j d) + (entry ds j).above * (entry ds j).axis.stride ≡ up_of ds + d.above * d.axis.stride
-unfolding up_of
-up-set [] j d h = absurd (omega arith)
-up-set (c ∷ ds) zero d h = omega arith
-up-set (c ∷ ds) (suc j) d h = omega (arith, up-set ds j d (omega arith))
+pub sum-cons : (part : AxisDifference → ℕ) (d : AxisDifference) (ds : List AxisDifference) → sum_of part (d ∷ ds) ≡ part d * d.axis.stride + sum_of part ds
+sum-cons part = sum_by-cons (λ d. part d * d.axis.stride)
 
-pub down-set : (ds : List AxisDifference) (j : ℕ) (d : AxisDifference) → j < length ds
-    → down_of (set ds j d) + (entry ds j).below * (entry ds j).axis.stride ≡ down_of ds + d.below * d.axis.stride
-unfolding down_of
-down-set [] j d h = absurd (omega arith)
-down-set (c ∷ ds) zero d h = omega arith
-down-set (c ∷ ds) (suc j) d h = omega (arith, down-set ds j d (omega arith))
+-- a sum with another difference at place j
+pub sum-set : (part : AxisDifference → ℕ) (ds : List AxisDifference) (j : ℕ) (d : AxisDifference) → j < length ds
+    → sum_of part (set ds j d) + part (entry ds j) * (entry ds j).axis.stride ≡ sum_of part ds + part d * d.axis.stride
+sum-set part ds j d h = sum_by-set (λ x. part x * x.axis.stride) ds j d nothing h
 
 pub number-set : (ds : List AxisDifference) (j : ℕ) (d : AxisDifference) → j < length ds → d.axis ≡ (entry ds j).axis
     → number_of (set ds j d) + digit_of (entry ds j) * box_before ds j ≡ number_of ds + digit_of d * box_before ds j
@@ -62,20 +57,14 @@ box-more ds j h =
     axes.box-more (axes_of ds) j (omega (arith, axes-length ds))
     ∙ ap (λ a. box_before ds j * (2 * a.extent - 1)) (axis-entry ds j)
 
--- no sum is above the span
-pub up-low : (ds : List AxisDifference) → All IsSmall ds → up_of ds ≤ spanSum (axes_of ds)
-unfolding up_of spanSum
-up-low [] h = omega arith
-up-low (d ∷ ds) h =
-    let l : d.above ≤ d.axis.extent - 1 = omega (arith, (All-head IsSmall d ds h).0) in
-    omega (arith, mul-le-mul_right d.axis.stride l, up-low ds (All-tail IsSmall d ds h))
-
-pub down-low : (ds : List AxisDifference) → All IsSmall ds → down_of ds ≤ spanSum (axes_of ds)
-unfolding down_of spanSum
-down-low [] h = omega arith
-down-low (d ∷ ds) h =
-    let l : d.below ≤ d.axis.extent - 1 = omega (arith, (All-head IsSmall d ds h).1) in
-    omega (arith, mul-le-mul_right d.axis.stride l, down-low ds (All-tail IsSmall d ds h))
+-- no sum is above the span, where its part is below the extent
+pub sum-low : (part : AxisDifference → ℕ) → ((d : AxisDifference) → IsSmall d → part d < d.axis.extent)
+    → (ds : List AxisDifference) → All IsSmall ds → sum_of part ds ≤ spanSum (axes_of ds)
+unfolding spanSum
+sum-low part low [] h = omega arith
+sum-low part low (d ∷ ds) h =
+    let l : part d ≤ d.axis.extent - 1 = omega (arith, low d (All-head IsSmall d ds h)) in
+    omega (arith, sum-cons part d ds, mul-le-mul_right d.axis.stride l, sum-low part low ds (All-tail IsSmall d ds h))
 
 -- each number is below the box
 pub number-low : (ds : List AxisDifference) → All IsSmall ds → number_of ds < box (axes_of ds)

@@ -8,8 +8,9 @@ use Rattle.specification.proofs.DifferenceWalk.{middle, half-half}
 use Rattle.specification.proofs.SearchLaws.{half_is}
 use Rattle.differences.specs.declared.AxisDifference.{AxisDifference}
 use Rattle.differences.specs.Differences.{Walkable}
-use Rattle.differences.specs.AxisDifferences.{axes_of, number_of, up_of, down_of, IsSmall, Stands}
+use Rattle.differences.specs.AxisDifferences.{axes_of, number_of, above, below, sum_of, IsSmall, Stands}
 use Rattle.differences.proofs.BoxLaws.{head-some, positive-extents}
+use Rattle.differences.proofs.VectorLaws.{sum-cons}
 
 -- no difference of an axis, and of axes
 abbrev pub zero_on : ActiveAxis → AxisDifference
@@ -29,15 +30,9 @@ zero-small (a ∷ rest) h =
     let s = head-some a.extent (total rest) h in
     All-cons IsSmall (zero_on a) (zero_vector rest) (s.0, s.0) (zero-small rest s.1)
 
-pub zero-up : (axes : List ActiveAxis) → up_of (zero_vector axes) ≡ 0
-unfolding up_of
-zero-up [] = refl
-zero-up (a ∷ rest) = omega (arith, zero-up rest)
-
-pub zero-down : (axes : List ActiveAxis) → down_of (zero_vector axes) ≡ 0
-unfolding down_of
-zero-down [] = refl
-zero-down (a ∷ rest) = omega (arith, zero-down rest)
+pub zero-sum : (part : AxisDifference → ℕ) → ((a : ActiveAxis) → part (zero_on a) ≡ 0) → (axes : List ActiveAxis) → sum_of part (zero_vector axes) ≡ 0
+zero-sum part z [] = refl
+zero-sum part z (a ∷ rest) = omega (arith, sum-cons part (zero_on a) (zero_vector rest), ap (λ (n : ℕ). n * a.stride) (z a), zero-sum part z rest)
 
 zero-middle : (axes : List ActiveAxis) → number_of (zero_vector axes) ≡ middle axes
 unfolding number_of place middle
@@ -55,8 +50,8 @@ pub zero-stands : (axes : List ActiveAxis) → Walkable axes → Stands (zero_ve
 zero-stands axes w = record {
   small = zero-small axes w.some;
   fits = rw (zero-axes axes) w.fits;
-  up-is = sym (zero-up axes);
-  down-is = sym (zero-down axes);
+  up-is = sym (zero-sum above (λ a. refl) axes);
+  down-is = sym (zero-sum below (λ a. refl) axes);
 }
 
 -- where as many axes as there are were set up

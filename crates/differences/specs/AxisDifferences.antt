@@ -1,5 +1,5 @@
 -- A difference vector as the code holds it: an axis and a difference of its indices, in two parts.
-use Rattle.std.specs.Prelude.{List, [], ◌∷◌, ℕ, ◌+◌, ◌*◌, ◌-◌, ◌^◌, ◌<◌, ◌≤◌, ◌≡◌, map}
+use Rattle.std.specs.Prelude.{List, [], ◌∷◌, ℕ, ◌+◌, ◌*◌, ◌-◌, ◌^◌, ◌<◌, ◌≤◌, ◌≡◌, map, sum_by}
 use Rattle.std.specs.List.{All}
 use Rattle.specification.specs.Search.{ActiveAxis, spanSum}
 use Rattle.differences.specs.declared.AxisDifference.{AxisDifference}
@@ -18,15 +18,22 @@ unfoldable pub number_of : List AxisDifference → ℕ
 number_of [] = 0
 number_of (d ∷ rest) = digit_of d + (2 * d.axis.extent - 1) * number_of rest
 
--- the sum of the parts above 0
-unfoldable pub up_of : List AxisDifference → ℕ
-up_of [] = 0
-up_of (d ∷ rest) = d.above * d.axis.stride + up_of rest
+-- the two parts
+abbrev pub above : AxisDifference → ℕ
+above d = d.above
 
--- the sum of the parts below 0
-unfoldable pub down_of : List AxisDifference → ℕ
-down_of [] = 0
-down_of (d ∷ rest) = d.below * d.axis.stride + down_of rest
+abbrev pub below : AxisDifference → ℕ
+below d = d.below
+
+-- the sum of a part, each times its stride
+abbrev pub sum_of : (AxisDifference → ℕ) → List AxisDifference → ℕ
+sum_of part = sum_by (λ d. part d * d.axis.stride)
+
+abbrev pub up_of : List AxisDifference → ℕ
+up_of = sum_of above
+
+abbrev pub down_of : List AxisDifference → ℕ
+down_of = sum_of below
 
 -- each part is below its extent
 abbrev pub IsSmall : AxisDifference → Type 0

@@ -9,7 +9,7 @@ use Rattle.std.proofs.lemmas.Int.{ints}
 use Rattle.specification.specs.Axis.{product}
 use Rattle.specification.specs.Search.{ActiveAxis, spanSum, total, half}
 use Rattle.differences.specs.AxisDifferences.{axes_of, number_of}
-use Rattle.differences.proofs.ZeroVector.{zero_on, zero_vector, zero-axes, zero-number, zero-up, zero-down}
+use Rattle.differences.proofs.ZeroVector.{zero_on, zero_vector, zero-axes, zero-number, zero-sum}
 use Rattle.walk.specs.Underway.{IsCountable, difference_of, vector_of, others_of, IsFit, IsResidue}
 use Rattle.walk.specs.WalkAt.{At, WalkAt, walk_at}
 use Rattle.walk.specs.declared.Place.{Place}
@@ -67,7 +67,7 @@ module _ (t : TwoAxes) (others : List ActiveAxis) (ds : List DifferenceAxis) (j 
   start-residue : (m x r : ℕ) → r < m → IsResidue m x r front r
   start-residue m x r h = record {
     low = h;
-    so = rw (← above-is front, ← below-is front, is-zero, zero-up others, zero-down others) (record { p = 0; q = 0; eq = omega arith });
+    so = rw (← above-is front, ← below-is front, is-zero, zero-sum (λ d. d.above) (λ a. refl) others, zero-sum (λ d. d.below) (λ a. refl) others) (record { p = 0; q = 0; eq = omega arith });
   }
 
   pub start : All IsCountable others → spanSum (t.first ∷ t.second ∷ others) < 2 ^ 64 → At t front none

@@ -1,4 +1,5 @@
 -- The axes of a walk as a vector of differences: its two sums, and another digit at a place.
+use Rattle.std.specs.Prelude.{sum_by}
 use Rattle.std.proofs.Common.{◌≡◌, ◌∙◌, ℕ, ◌+◌, ◌*◌, ◌-◌, ◌%◌, ◌<◌, ◌≤◌, List, [], ◌∷◌, length, get_or, set, refl, sym, ap, arith}
 use native.Mathlib.Nat.{mul-le-mul_right}
 use Rattle.std.specs.List.{All}
@@ -10,8 +11,8 @@ use Rattle.integer.specs.Congruence.{Congruent}
 use Rattle.integer.proofs.Congruence.{congruent-of-equal}
 use Rattle.specification.specs.Search.{spanSum}
 use Rattle.differences.specs.declared.AxisDifference.{AxisDifference}
-use Rattle.differences.specs.AxisDifferences.{axes_of, number_of, up_of, down_of, IsSmall}
-use Rattle.differences.proofs.VectorLaws.{entry, digit_of, box_before, axes-set, number-set}
+use Rattle.differences.specs.AxisDifferences.{axes_of, number_of, sum_of, up_of, down_of, IsSmall}
+use Rattle.differences.proofs.VectorLaws.{entry, digit_of, box_before, axes-set, number-set, sum-cons}
 use Rattle.walk.specs.Underway.{difference_of, vector_of, others_of, above, below, sum_above, sum_below, IsFit, IsResidue}
 use Rattle.walk.specs.declared.two_axes.TwoAxes.{TwoAxes}
 use Rattle.walk.specs.declared.difference_axis.Step.{Step}
@@ -35,15 +36,16 @@ small-of t (d ∷ ds) h =
 
 -- ---- its sums
 
+pub sum-is : (part : AxisDifference → ℕ) (ds : List DifferenceAxis) → sum_of part (vector_of ds) ≡ sum_by (λ d. part (difference_of d) * d.axis.stride) ds
+sum-is part [] = refl
+sum-is part (d ∷ ds) =
+    omega (arith, sum-is part ds, sum-cons part (difference_of d) (vector_of ds), sum_by-cons (λ x. part (difference_of x) * x.axis.stride) d ds)
+
 pub above-is : (ds : List DifferenceAxis) → up_of (vector_of ds) ≡ sum_above ds
-unfolding up_of
-above-is [] = refl
-above-is (d ∷ ds) = omega (arith, above-is ds, sum_by-cons above d ds)
+above-is = sum-is (λ d. d.above)
 
 pub below-is : (ds : List DifferenceAxis) → down_of (vector_of ds) ≡ sum_below ds
-unfolding down_of
-below-is [] = refl
-below-is (d ∷ ds) = omega (arith, below-is ds, sum_by-cons below d ds)
+below-is = sum-is (λ d. d.below)
 
 -- the two together are at most the span
 pub sums-low : (t : TwoAxes) (ds : List DifferenceAxis) → All (IsFit t) ds → sum_above ds + sum_below ds ≤ spanSum (others_of ds)

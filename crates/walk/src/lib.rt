@@ -108,7 +108,7 @@ impl Walk {
     }
 
     /// One vector on. Its place is counted in a word.
-    pub fn advance(&mut self)
+    pub(crate) fn advance(&mut self)
         requires more { self.old.count < half self.old.others }
         requires counted { self.old.count + 1 < 2 ^ 64 }
         ensures { self.new ≡ record self.old { count = self.old.count + 1 } }
@@ -122,7 +122,7 @@ impl Walk {
     }
 
     /// Whether some difference of the two completes the vector where the walk stands.
-    pub fn is_completed(&self) -> bool
+    pub(crate) fn is_completed(&self) -> bool
         ensures { result ≡ hit self.now.first self.now.second self.now.others self.now.count }
     {
         is_completed(self.two, &self.axes[..self.len], self.place.residues)
