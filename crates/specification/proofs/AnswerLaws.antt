@@ -25,8 +25,8 @@ left l (permuting order) e = left-old _ _ _ e
 left l (diagonal pairs) e = left-old _ _ _ e
 left l (broadcasting targets) e = left-old _ _ _ e
 
-pub answer-claims : AnswerClaims
-answer-claims = record {
+pub answer_claims : AnswerClaims
+answer_claims = record {
   passes = λ l c. (call-answers l c).passes;
   refuses = λ l c. (call-answers l c).refuses;
   left = λ l c number values. left l c;

@@ -60,9 +60,9 @@ behind-unbounded before (a ∷ r) front b behind e h = go (upToLast (past before
     go (c ∷ more) t [] k ih e h = absurd (omega arith)
     go (c ∷ more) t (x ∷ f) k ih e h = let q : a ≡ x = cc in omega (arith, ih f (cc) (omega arith), ap (λ (z : ActiveAxis). (z.extent - 1) * z.stride) q)
 
-pub block-claims : BlockClaims
+pub block_claims : BlockClaims
 unfolding block_of
-block-claims = record {
+block_claims = record {
   listed = active-listed;
   ascending = λ axes i h. each-two-at (λ a b. a.axis < b.axis) (activeFrom 0 axes) (active-ascend 0 axes) i (record { axis = 0; extent = 0; stride = 0 }) h;
   sorted = sorted_entries;

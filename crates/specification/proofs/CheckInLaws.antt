@@ -157,8 +157,8 @@ module _ (buffer : ℕ) (offset : ℤ) (extents : List ℕ) (strides : List ℤ)
   unfolding checkIn
   chained = sym (then-assoc first (second >> bounds l) (done l) ∙ rw (then-assoc second (bounds l) (done l)))
 
-pub check-in-claims : CheckInClaims
-check-in-claims = record {
+pub check_in_claims : CheckInClaims
+check_in_claims = record {
   passes = λ b o es ss x.
       let w = done-passes (first b o es ss >> second b o es ss >> bounds (l b o es ss)) (l b o es ss) x in
       (λ e. let v = w.0 (sym (chained b o es ss) ∙ e) in ((tell b o es ss).passes.0 v.0, v.1), λ v. chained b o es ss ∙ w.1 ((tell b o es ss).passes.1 v.0, v.1));
@@ -194,8 +194,8 @@ module _ (l : LayoutM) where
   unfolding normalForm
   normal-chained = sym (then-assoc (handed l 0) eighth (done (normalOf l)))
 
-pub normal-call-claims : NormalCallClaims
-normal-call-claims = record {
+pub normal_call_claims : NormalCallClaims
+normal_call_claims = record {
   passes = λ l x.
       let w = done-passes (handed l 0 >> eighth l) (normalOf l) x in
       (λ e. let v = w.0 (sym (normal-chained l) ∙ e) in ((normal-tells l).passes.0 v.0, v.1), λ v. normal-chained l ∙ w.1 ((normal-tells l).passes.1 v.0, v.1));

@@ -187,9 +187,9 @@ pairs-are [] = refl
 pairs-are (a ∷ []) = refl
 pairs-are (a ∷ b ∷ rest) = omega (arith, pairs-are rest)
 
-pub class-claims : ClassClaims
+pub class_claims : ClassClaims
 unfolding class_of kept
-class-claims = record {
+class_claims = record {
   class-ascends = λ pairs n a. ascends (λ b. is_yes (tied? pairs a b)) 0 n;
   class-is = class-is;
   kept-ascends = λ pairs n. ascends (λ a. not (some (λ b. ltb b a) (class_of pairs n a))) 0 n;

@@ -15,7 +15,7 @@ use Rattle.specification.specs.Normal.{mergeInto, merge, normalAxes, normalOf, o
 use Rattle.specification.specs.Search.{reach, spanSum, twoDistinct, half, fromDigits, differenceSum, first_of, wordsFor}
 use Rattle.specification.specs.Decided.{completes?}
 use Rattle.specification.specs.Verdict.{activeFrom, upToLast, block_of, byTwo, othersOf, hit, placed, searched, pastSearch, byMany, by_size, byBlock, outOfRange, plan_of, carryOut, judge, verdict}
-use Rattle.specification.specs.Record.{bigEndian, axisBytes, recordBytes, written}
+use Rattle.specification.specs.Record.{axisBytes, recordBytes, written}
 use Rattle.specification.specs.Beside.{nextStep, running, colMajor, rowMajor, orderAmong, indexOrder, sumIndexed, indexedOffset}
 
 -- a name for the list
@@ -36,6 +36,6 @@ unfolding gcd gcdWithin
     reach spanSum twoDistinct half fromDigits differenceSum first_of wordsFor
     completes?
     activeFrom upToLast block_of byTwo othersOf hit placed searched pastSearch byMany by_size byBlock outOfRange plan_of carryOut judge verdict
-    bigEndian axisBytes recordBytes written
+    axisBytes recordBytes written
     nextStep running colMajor rowMajor orderAmong indexOrder sumIndexed indexedOffset
 computing = tt

@@ -98,8 +98,8 @@ count-elsewhere axes words j n e = let b = judged-by axes words j e in ap (λ (k
 
 -- ---- the claims
 
-pub count-claims : CountClaims
-count-claims = record {
+pub count_claims : CountClaims
+count_claims = record {
   alone = λ axes a b words s t. let l = set-apart-live axes a b s t in
       rw (judge-searched axes a b words s t) (end-alone words l.0.moves l.1.0.moves (search-end a b (othersOf (block_of axes))));
   place = λ axes a b words c s t n. let l = set-apart-live axes a b s t in

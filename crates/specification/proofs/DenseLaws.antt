@@ -275,5 +275,5 @@ row-refuses extents number values =
     from (too_large h p) = too_large (rw (length-reverse extents) h) (rw (product-reverse extents) p)
 
 -- all that is claimed of dense strides
-pub dense-claims : DenseClaims
-dense-claims = record { column-refuses = column-refuses; row-refuses = row-refuses; by-column = by-column; at_offset = at_offset; by_row = by_row }
+pub dense_claims : DenseClaims
+dense_claims = record { column-refuses = column-refuses; row-refuses = row-refuses; by-column = by-column; at_offset = at_offset; by_row = by_row }

@@ -196,5 +196,5 @@ module _ (l : LayoutM) (pairs : List (ℕ × ℕ)) (index : List ℕ) where
         ap (λ (m : LayoutM). offsetSum m.axes (map y (kept pairs (rank l)))) s.becomes
         ∙ omega (arith, ints, diagonal-parts (kept pairs (rank l)), all-classes posPart n, all-classes negPart n, parts l.axes index)
 
-pub view-claims : ViewClaims
-view-claims = record { permuted = permuted; stretched = stretched; fused = λ l pairs index e n alike. fused-offset l pairs index alike e n }
+pub view_claims : ViewClaims
+view_claims = record { permuted = permuted; stretched = stretched; fused = λ l pairs index e n alike. fused-offset l pairs index alike e n }

@@ -102,8 +102,8 @@ half-is-zero others h = ap (λ (k : ℕ). differenceAt others k) (half_is others
 
 -- ---- the claims
 
-pub digit-claims : DigitClaims
-digit-claims = record {
+pub digit_claims : DigitClaims
+digit_claims = record {
   small = λ others k n h. differences-small others (indexAt-within (widths-positive others (none-empty others n)) k h);
   number = λ others k n h. let p = widths-positive others (none-empty others n) in
       number-is-place others (differenceAt others k) ∙ ap (place (widths others)) (digits-of-digits others (indexAt-within p k h)) ∙ place-indexAt p k h;

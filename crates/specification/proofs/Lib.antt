@@ -17,7 +17,6 @@ pub mod Digits
 pub mod Differences
 pub mod DifferenceWalk
 pub mod Collisions
-pub mod NormalScan
 pub mod NormalLaws
 pub mod Sorting
 pub mod BlockLaws
@@ -49,8 +48,9 @@ pub mod JudgeLaws
 pub mod WriterAnswers
 pub mod VerdictByte
 pub mod EqualRecords
-pub mod Demand3Whole
+pub mod RecordsAgreeProved
 pub mod ReaderLaws
+pub mod ByteLaws
 pub mod ReaderAnswers
 pub mod SteppingOver
 pub mod RoundTripLaws
@@ -66,4 +66,3 @@ pub mod CheckInLaws
 pub mod RangeLaws
 pub mod ClassLaws
 pub mod NewLayoutLaws
-pub mod Proved

@@ -119,5 +119,5 @@ diagonal-is l pairs f = of-new (Diagonal l pairs) l _ _ ((diagonal-answers l pai
     as_many : length (diagonalAxes l pairs) ≡ length (kept pairs (rank l))
     as_many = length-map (kept pairs (rank l)) (fused l pairs)
 
-pub new-layout-claims : NewLayoutClaims
-new-layout-claims = record { permuted = permuted; diagonal-is = diagonal-is; stretched = stretched }
+pub new_layout_claims : NewLayoutClaims
+new_layout_claims = record { permuted = permuted; diagonal-is = diagonal-is; stretched = stretched }

@@ -130,5 +130,5 @@ buffer-stays l = go (is_empty l.axes) refl
     go false e = ap (λ (x : LayoutM). x.buffer) (normal_of_full l e)
 
 -- all that is claimed of the normal form
-pub normal-claims : NormalClaims
-normal-claims = record { same = normal-same; same-buffer = buffer-stays; canonical = canonical-iff; any_order = λ l m e s. any_order (full-pos l e) s }
+pub normal_claims : NormalClaims
+normal_claims = record { same = normal-same; same-buffer = buffer-stays; canonical = canonical-iff; any_order = λ l m e s. any_order (full-pos l e) s }

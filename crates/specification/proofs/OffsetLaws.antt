@@ -192,8 +192,8 @@ room l accepted full =
     }
 
 -- all that is claimed of the indexed offset
-pub offset-claims : OffsetClaims
-offset-claims = record {
+pub offset_claims : OffsetClaims
+offset_claims = record {
   refuses = refuses;
   offset-is = offset-is;
   in-full-layout = λ l index i a e n h f x. let w = fits-at l.offset l.axes index i (room l a e) n h f in record { index-fits = x; product-fits = w.0; sum_fits = w.1 };

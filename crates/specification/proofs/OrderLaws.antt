@@ -147,5 +147,5 @@ as_long strides before = rw (order-checked strides (length before)) (go (refuseI
     go (refused n vs) a = refl
 
 -- all that is claimed of the index order
-pub order-claims : OrderClaims
-order-claims = record { zero-is-one = zero-is-one; rises = rises; from_one = from_one; least-is-one = least-is-one; output = output; as_long = as_long; refuses = refuses; left = left }
+pub order_claims : OrderClaims
+order_claims = record { zero-is-one = zero-is-one; rises = rises; from_one = from_one; least-is-one = least-is-one; output = output; as_long = as_long; refuses = refuses; left = left }

@@ -159,5 +159,5 @@ normal-ranges l r o = go (is_empty l.axes) refl o
     go false e o = with-ranges l r (counted-ranges (normal-positive (normal-is-normal (full-pos l.axes e))) strides
         (omega (arith, ltb-false mostUnsigned (positions l.axes) o, positions-of-normal l.axes)))
 
-pub range-claims : RangeClaims
-range-claims = record { view-ranges = view-ranges; normal-ranges = normal-ranges }
+pub range_claims : RangeClaims
+range_claims = record { view-ranges = view-ranges; normal-ranges = normal-ranges }

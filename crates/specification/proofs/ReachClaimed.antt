@@ -119,8 +119,8 @@ bounds-answers l = record { passes = (λ e. e, λ e. e); refuses = λ n vs. (λ 
         let q : bounds l ≡ refused 3 [] = cc in
         rw (← w.0, ← w.1) (out-of-bounds q)
 
-pub reach-claims : ReachClaims
-reach-claims = record {
+pub reach_claims : ReachClaims
+reach_claims = record {
   reach = reach_of;
   empty-is = λ l. (empty-none l.axes, none-empty l.axes);
   tested = λ l. (λ a. (a.few, tested-yes l a), λ w. tested-no l w.0 w.1);

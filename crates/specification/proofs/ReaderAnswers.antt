@@ -133,8 +133,8 @@ module _ (bytes : List ℕ) (words : ℕ) where
   frees-none (inl n) = frees-no-record n
   frees-none (inr h) = frees-too-short h (whole? bytes)
 
-pub reader-claims : ReaderClaims
-reader-claims = record {
+pub reader_claims : ReaderClaims
+reader_claims = record {
   fields_told = λ bytes. (fields_tested bytes, fields-pass bytes);
   normal-tested = normal-tested;
   refuses = λ bytes words number values. (refuses-forth bytes words, refuses-back bytes words);

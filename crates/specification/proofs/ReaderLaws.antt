@@ -15,7 +15,7 @@ use Rattle.specification.specs.Axis.{positions, is_empty}
 use Rattle.specification.specs.Outcome.{done}
 use Rattle.specification.specs.Layout.{LayoutM, rank, offsetAt, Accepted, highest}
 use Rattle.specification.specs.Verdict.{Judged, judge}
-use Rattle.specification.specs.Record.{recordLength, verdictByte, numberFrom, signedFrom, axesFrom, fieldsRight, isNormal, withBuffer, layoutFrom, WasRead, read_of}
+use Rattle.specification.specs.Record.{recordLength, verdictByte, length_field, offset_field, axesFrom, fieldsRight, isNormal, withBuffer, layoutFrom, WasRead, read_of}
 use Rattle.specification.specs.ViewClaims.{AcceptedClaims}
 use Rattle.specification.specs.RecordClaims.{Fields, WholeRecord, BufferToHighest}
 use Rattle.specification.proofs.NormalLaws.{full-pos, positions-pos, empty-none}
@@ -30,7 +30,7 @@ use Rattle.std.proofs.lemmas.Int.{ints}
 
 -- test by test
 each-field : (bytes : List ℕ) → (fieldsRight bytes ≡ true)
-    ↔ (((((((13 ≤ length bytes) × (get_or bytes 2 0 ≡ 1)) × (1 ≤ get_or bytes 3 0)) × (get_or bytes 3 0 ≤ 3)) × (get_or bytes 4 0 ≤ 16)) × (numberFrom bytes 0 2 ≡ recordLength (get_or bytes 4 0))) × (recordLength (get_or bytes 4 0) ≤ length bytes))
+    ↔ (((((((13 ≤ length bytes) × (get_or bytes 2 0 ≡ 1)) × (1 ≤ get_or bytes 3 0)) × (get_or bytes 3 0 ≤ 3)) × (get_or bytes 4 0 ≤ 16)) × (length_field bytes ≡ recordLength (get_or bytes 4 0))) × (recordLength (get_or bytes 4 0) ≤ length bytes))
 unfolding fieldsRight
 each-field bytes =
     and-holds _ _ (and-holds _ _ (and-holds _ _ (and-holds _ _ (and-holds _ _ (and-holds _ _ (leb-holds _ _) (eqb-holds _ _)) (leb-holds _ _)) (leb-holds _ _)) (leb-holds _ _)) (eqb-holds _ _)) (leb-holds _ _)
@@ -132,7 +132,7 @@ whole-accepted bytes w = record {
   offsets = λ k h. record {
     from_zero = (w.form.within k h).0;
     to-most = (w.form.within k h).1;
-    in_buffer = below-buffer (record { buffer = 0; offset = signedFrom bytes 5; axes = axesFrom bytes 13 (get_or bytes 4 0) }) k h;
+    in_buffer = below-buffer (record { buffer = 0; offset = offset_field bytes; axes = axesFrom bytes 13 (get_or bytes 4 0) }) k h;
   };
 }
 
@@ -146,7 +146,7 @@ unfolding layoutFrom withBuffer
 buffer-read bytes words w e =
     let r = reads bytes words w e in
     subst (λ (x : WasRead). BufferToHighest x.layout) (sym r.is)
-    (buffer-to-highest (record { buffer = 0; offset = signedFrom bytes 5; axes = axesFrom bytes 13 (get_or bytes 4 0) }) (λ k h. (r.whole.form.within k h).0))
+    (buffer-to-highest (record { buffer = 0; offset = offset_field bytes; axes = axesFrom bytes 13 (get_or bytes 4 0) }) (λ k h. (r.whole.form.within k h).0))
 
-pub accepted-claims : AcceptedClaims
-accepted-claims = record { views = views-keep; ends = ends-keep; checked-in = checked-in; was_read = was_read }
+pub accepted_claims : AcceptedClaims
+accepted_claims = record { views = views-keep; ends = ends-keep; checked-in = checked-in; was_read = was_read }

@@ -6,18 +6,19 @@ use Prim.Native.Nat.{ℕ, suc, ◌*◌, ◌≤◌}
 use native.Mathlib.Omega.{arith}
 use lib.ListN.{length, get_or, take, drop}
 use lib.Seq.{drop-cons}
+use Rattle.std.specs.Int.{w16, to_be_bytes}
 use Rattle.specification.specs.Axis.{Axis}
 use Rattle.specification.specs.Outcome.{done}
 use Rattle.specification.specs.Layout.{LayoutM, rank, Accepted}
 use Rattle.specification.specs.Normal.{normalOf, overfull}
 use Rattle.specification.specs.Verdict.{Verdict, Judged, judge, wordsNeeded}
-use Rattle.specification.specs.Record.{bigEndian, twos, verdictByte, recordLength, axisBytes, recordBytes, Made, written, numberFrom, withBuffer, layoutFrom, WasRead, read_of, rest_of}
+use Rattle.specification.specs.Record.{signed_bytes, verdictByte, recordLength, axisBytes, recordBytes, Made, written, length_field, withBuffer, layoutFrom, WasRead, read_of, rest_of}
 use Rattle.specification.specs.RecordClaims.{Fields, NormalRecord, WholeRecord, Bytes, RoundTrip}
 use Rattle.specification.proofs.NormalLaws.{normal-same, canonical-iff}
 use Rattle.specification.proofs.PlanCases.{judged-with}
 use Rattle.specification.proofs.WriterLaws.{normal-accepted, normal-few}
 use Rattle.specification.proofs.FieldsFit.{fields_fit}
-use Rattle.specification.proofs.RecordFields.{bigEndian-numberFrom, twos-signedFrom, axisBytes-axesFrom, join-parts}
+use Rattle.specification.proofs.RecordFields.{bytes-length_field, bytes-signed_at, bytes-axesFrom, join-parts}
 use Rattle.specification.proofs.RecordFront.{recordThen, verdict-byte, layout-told, fields-right, rest-behind}
 use Rattle.specification.proofs.WriterAnswers.{recordOf, Writes, writes, written-made}
 use Rattle.specification.proofs.EqualRecords.{same-form-bytes}
@@ -65,8 +66,8 @@ write_read l room words words' m behind a e h =
 
 -- each field of the layout told is written as the bytes that it was read from
 module _ (bytes : List ℕ) (b : Bytes bytes) (f : Fields bytes) where
-  length-bytes : bigEndian 2 (recordLength (rank (layoutFrom bytes))) ≡ take 2 (drop 0 bytes)
-  length-bytes = ap (λ (k : ℕ). bigEndian 2 k) (ap recordLength (rank-told bytes) ∙ sym f.length-is) ∙ bigEndian-numberFrom bytes 0 2 b (omega (arith, f.front-there))
+  length-bytes : to_be_bytes w16 (recordLength (rank (layoutFrom bytes))) ≡ take 2 bytes
+  length-bytes = ap (to_be_bytes w16) (ap recordLength (rank-told bytes) ∙ sym f.length-is) ∙ bytes-length_field bytes b (omega (arith, f.front-there))
 
   byte-then : (i : ℕ) → i ≤ 12 → drop i bytes ≡ get_or bytes i 0 ∷ drop (suc i) bytes
   byte-then i h = drop-cons bytes i 0 (omega (arith, f.front-there))
@@ -75,16 +76,16 @@ module _ (bytes : List ℕ) (b : Bytes bytes) (f : Fields bytes) where
   three-bytes v e = (λ i. sym f.version-is i ∷ e i ∷ rank-told bytes i ∷ []) ∙ sym (ap (λ (l : List ℕ). take 3 l)
       (byte-then 2 (omega arith) ∙ ap (λ (l : List ℕ). get_or bytes 2 0 ∷ l) (byte-then 3 (omega arith) ∙ ap (λ (l : List ℕ). get_or bytes 3 0 ∷ l) (byte-then 4 (omega arith)))))
 
-  offset-bytes : bigEndian 8 (twos (layoutFrom bytes).offset) ≡ take 8 (drop 5 bytes)
+  offset-bytes : signed_bytes (layoutFrom bytes).offset ≡ take 8 (drop 5 bytes)
   unfolding layoutFrom withBuffer
-  offset-bytes = ap (λ (k : ℕ). bigEndian 8 k) (twos-signedFrom bytes 5 b) ∙ bigEndian-numberFrom bytes 5 8 b (omega (arith, f.front-there))
+  offset-bytes = bytes-signed_at bytes 5 b (omega (arith, f.front-there))
 
   axes-bytes : axisBytes (layoutFrom bytes).axes ≡ take (16 * get_or bytes 4 0) (drop 13 bytes)
   unfolding layoutFrom withBuffer
-  axes-bytes = axisBytes-axesFrom bytes 13 (get_or bytes 4 0) b (omega (arith, f.whole-there))
+  axes-bytes = bytes-axesFrom bytes 13 (get_or bytes 4 0) b (omega (arith, f.whole-there))
 
   -- together: the bytes that the length field counts
-  front_bytes : (v : Verdict) → verdictByte v ≡ get_or bytes 3 0 → recordBytes (layoutFrom bytes) v ≡ take (numberFrom bytes 0 2) bytes
+  front_bytes : (v : Verdict) → verdictByte v ≡ get_or bytes 3 0 → recordBytes (layoutFrom bytes) v ≡ take (length_field bytes) bytes
   unfolding recordBytes
   front_bytes v e =
       ap₂ join (ap₂ join (ap₂ join length-bytes (three-bytes v e) ∙ join-parts bytes 0 2 3) offset-bytes ∙ join-parts bytes 0 5 8) axes-bytes
@@ -98,19 +99,19 @@ module _ (bytes : List ℕ) (w : WholeRecord bytes) (room words : ℕ) (j : Judg
   own-judged : judge (normalOf (layoutFrom bytes)).axes words ≡ done j
   own-judged = ap (λ (axes : List Axis). judge axes words) w.form.normal.same-axes ∙ judged
 
-  own-length : recordLength (rank (normalOf (layoutFrom bytes))) ≡ numberFrom bytes 0 2
+  own-length : recordLength (rank (normalOf (layoutFrom bytes))) ≡ length_field bytes
   own-length = ap (λ (axes : List Axis). recordLength (length axes)) w.form.normal.same-axes ∙ ap recordLength (rank-told bytes) ∙ sym w.fields.length-is
 
-  written-again : numberFrom bytes 0 2 ≤ room → written (layoutFrom bytes) room words ≡ done (recordOf (normalOf (layoutFrom bytes)) j)
+  written-again : length_field bytes ≤ room → written (layoutFrom bytes) room words ≡ done (recordOf (normalOf (layoutFrom bytes)) j)
   written-again h = written-made (layoutFrom bytes) room words (whole-accepted bytes w) w.form.few (omega (arith, own-length)) j own-judged
 
-  bytes-again : Bytes bytes → verdictByte j.answer ≡ get_or bytes 3 0 → recordBytes (normalOf (layoutFrom bytes)) j.answer ≡ take (numberFrom bytes 0 2) bytes
+  bytes-again : Bytes bytes → verdictByte j.answer ≡ get_or bytes 3 0 → recordBytes (normalOf (layoutFrom bytes)) j.answer ≡ take (length_field bytes) bytes
   bytes-again b e =
       same-form-bytes (normalOf (layoutFrom bytes)) (layoutFrom bytes) j.answer j.answer w.form.normal refl
       ∙ front_bytes bytes b w.fields j.answer e
 
-read-write : (bytes : List ℕ) (room words words' : ℕ) (w : WasRead) → Bytes bytes → read_of bytes words ≡ done w → numberFrom bytes 0 2 ≤ room → wordsNeeded w.layout.axes ≤ words'
-    → (m : Made) × (written w.layout room words' ≡ done m) × (m.bytes ≡ take (numberFrom bytes 0 2) bytes)
+read-write : (bytes : List ℕ) (room words words' : ℕ) (w : WasRead) → Bytes bytes → read_of bytes words ≡ done w → length_field bytes ≤ room → wordsNeeded w.layout.axes ≤ words'
+    → (m : Made) × (written w.layout room words' ≡ done m) × (m.bytes ≡ take (length_field bytes) bytes)
 read-write bytes room words words' w b e h enough =
     let r = reads bytes words w e in
     let enough' : wordsNeeded (layoutFrom bytes).axes ≤ words' = subst (λ (x : WasRead). wordsNeeded x.layout.axes ≤ words') r.is enough in

@@ -128,8 +128,8 @@ module _ (axes : List Axis) where
       of-cause (downward-out h) = inl (inr h)
       of-cause (least-stride s) = inr s
 
-pub test-claims : TestClaims
-test-claims = record {
+pub test_claims : TestClaims
+test_claims = record {
   in-range = in-range;
   empty = empty;
   over = over;

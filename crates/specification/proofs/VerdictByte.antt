@@ -10,7 +10,7 @@ use Rattle.specification.specs.Verdict.{Verdict, Distinct, Repeated, Undecided, 
 use Rattle.specification.specs.Record.{verdictByte}
 use Rattle.specification.specs.NormalClaims.{SameOffsets}
 use Rattle.specification.specs.VerdictClaims.{Says}
-use Rattle.specification.specs.Demand3.{TrueByte}
+use Rattle.specification.specs.RecordsAgree.{TrueByte}
 use Rattle.specification.proofs.NormalLaws.{normal-same, same-sym}
 use Rattle.specification.proofs.VerdictLaws.{true-answer, only-undecided}
 use Rattle.std.proofs.lemmas.Int.{ints}

@@ -19,7 +19,7 @@ use Rattle.specification.proofs.OutcomeLaws.{bind-refused, refuse-yes}
 pub use Rattle.specification.proofs.VerdictTruth.{true-answer, only-undecided}
 pub use Rattle.specification.proofs.VerdictRefusals.{needed-no}
 use Rattle.specification.proofs.VerdictRefusals.{Refusal, plan-eight, plan-three, judge-refused}
-pub use Rattle.specification.proofs.VerdictWords.{words-claims}
+pub use Rattle.specification.proofs.VerdictWords.{words_claims}
 use Rattle.specification.proofs.VerdictWords.{freed-are}
 use Rattle.std.proofs.lemmas.Int.{ints}
 
@@ -52,8 +52,8 @@ module _ (axes : List Axis) (words : ℕ) where
   judge-nine : (vs : List ℕ) → (judge axes words ≡ refused 9 vs) ↔ (words < wordsNeeded axes) × (vs ≡ wordsNeeded axes ∷ [])
   judge-nine vs = (λ e. is-nine (judge-refused axes words e) refl, λ w. with_values (needed-no axes words (wordsNeeded axes) refl w.0) w.1)
 
-pub verdict-claims : VerdictClaims
-verdict-claims = record {
+pub verdict_claims : VerdictClaims
+verdict_claims = record {
   true-answer = true-answer;
   only-undecided = only-undecided;
   eight = judge-eight;
@@ -84,5 +84,5 @@ call-judged : (extents : List ℕ) (strides : List ℤ) (words : ℕ) → length
 unfolding verdict refuseIf ◌>>◌
 call-judged extents strides words h e = rw (le-ltb 16 (length extents) h, le-ltb 16 (length strides) (omega arith), eq-eqb (length extents) (length strides) e)
 
-pub verdict-call-claims : VerdictCallClaims
-verdict-call-claims = record { one = call-one; two = call-two; then-judged = call-judged }
+pub verdict_call_claims : VerdictCallClaims
+verdict_call_claims = record { one = call-one; two = call-two; then-judged = call-judged }

@@ -53,8 +53,8 @@ no_words axes n = go (plan_of axes) (plan-case axes)
     go _ (by-block t (large m h (enumerating k l))) = absurd (n (record { comes = comes-to-search t m h; past-search = k; within = l }))
     go _ (by-block t (large m h (past-both k l))) = refl
 
-pub words-claims : WordsClaims
-words-claims = record {
+pub words_claims : WordsClaims
+words_claims = record {
   bitmap = λ axes e h. words-enumerated axes e ∙ words-of-bitmap (total (block_of axes)) (spanSum (block_of axes)) h;
   list = λ axes e h. words-enumerated axes e ∙ words-of-list (total (block_of axes)) (spanSum (block_of axes)) h;
   none = no_words;

@@ -12,7 +12,7 @@ use Rattle.specification.specs.Normal.{normalOf, overfull, normalForm}
 use Rattle.specification.specs.Verdict.{Judged, judge, wordsNeeded}
 use Rattle.specification.specs.Record.{recordLength, recordBytes, Made, written, writeFrees, writeAnswer}
 use Rattle.specification.specs.RecordClaims.{WriterClaims}
-use Rattle.specification.specs.Demand3.{AnsweredExactly}
+use Rattle.specification.specs.RecordsAgree.{AnsweredExactly}
 use Rattle.specification.proofs.ReachClaimed.{handed-answers}
 use Rattle.specification.proofs.RecordFields.{length-recordBytes}
 use Rattle.specification.proofs.WriterLaws.{normal-accepted, form-done, form-eight, normal-few}
@@ -51,7 +51,7 @@ module _ (x : LayoutM) (room words : ℕ) (a : Accepted x) where
   judging-form : overfull x.axes ≡ false → Judging (wordsNeeded (normalOf x).axes) words (judge (normalOf x).axes words)
   judging-form o = judging (normalOf x) (normal-accepted x a) (normal-few x o) words
 
-  -- the answer is the one that demand 3 asks for
+  -- the answer is the one that `AnsweredExactly` says
   pub answered-exactly : AnsweredExactly x room words (writeAnswer (written x room words))
   unfolding writeAnswer
   answered-exactly = record {
@@ -106,9 +106,9 @@ written-handed : (x : LayoutM) (room words number : ℕ) (values : List ℕ) →
 unfolding written normalForm ◌>>◌
 written-handed x room words number values e = bind-refused _ (rw e)
 
-pub writer-claims : WriterClaims
+pub writer_claims : WriterClaims
 unfolding writeFrees
-writer-claims = record {
+writer_claims = record {
   handed_in = λ l room words number values h. written-handed l room words number values (((handed-answers l 0).refuses number values).1 h);
   frees = λ l room words m a e. ap writeFrees e ∙ (writes l room words m a e).frees;
   frees-none = λ l room words number values e. ap writeFrees e;

@@ -1,4 +1,4 @@
--- Call lists: the calls of demand 3, what each answers, and the layout at the end.
+-- Call lists: the calls of the views, what each answers, and the layout at the end.
 use Rattle.std.specs.Prelude.{List, [], ◌∷◌, ℕ}
 use Rattle.specification.specs.Outcome.{Check}
 use Rattle.specification.specs.Layout.{LayoutM}

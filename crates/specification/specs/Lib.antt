@@ -11,6 +11,7 @@ pub mod Search
 pub mod Decided
 pub mod Verdict
 pub mod Record
+pub mod ByteClaims
 pub mod Beside
 pub mod Calls
 pub mod ViewRules
@@ -24,7 +25,6 @@ pub mod CountClaims
 pub mod BlockClaims
 pub mod RecordClaims
 pub mod BesideClaims
-pub mod Demand3
+pub mod RecordsAgree
 pub mod Starred
 pub mod Cases
-pub mod Claims

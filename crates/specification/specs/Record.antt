@@ -1,5 +1,6 @@
 -- The record of a layout (added): its bytes, the writer, the reader, and stepping over.
-use Rattle.std.specs.Prelude.{Bool, true, false, not, ◌&&◌, ◌||◌, List, [], ◌∷◌, ◌++◌, ◌≡◌, ℕ, zero, suc, ◌+◌, ◌-◌, ◌*◌, ◌/◌, ◌%◌, ◌^◌, eqb, ltb, leb, ℤ, pos, negsuc, length, drop, get_or, if◌then◌else◌}
+use Rattle.std.specs.Prelude.{Bool, true, false, not, ◌&&◌, ◌||◌, List, [], ◌∷◌, ◌++◌, ◌≡◌, ℕ, zero, suc, ◌+◌, ◌*◌, eqb, ltb, leb, ℤ, pos, length, take, drop, get_or, if◌then◌else◌}
+use Rattle.std.specs.Int.{w16, w64, to_be_bytes, from_be_bytes, cast_unsigned, cast_signed}
 use Rattle.std.specs.Int.Signed.{le_z}
 use Rattle.std.specs.Ordering.{int_eq}
 use Rattle.integer.specs.Parts.{posPart}
@@ -10,17 +11,11 @@ use Rattle.specification.specs.Layout.{LayoutM, rank, lowest, highest}
 use Rattle.specification.specs.Normal.{continues, overfull, normalForm}
 use Rattle.specification.specs.Verdict.{Verdict, Distinct, Repeated, Undecided, judge, freedBy, ScratchAfter}
 
--- ---- the bytes
+-- ---- the bytes: numbers in 2 or 8 bytes, the highest first, as std's `to_be_bytes` has them
 
--- the lowest n bytes of x, big-endian
-unfoldable pub bigEndian : ℕ → ℕ → List ℕ
-bigEndian zero x = []
-bigEndian (suc n) x = x / 256 ^ n % 256 ∷ bigEndian n x
-
--- two's complement in 64 bits
-abbrev pub twos : ℤ → ℕ
-twos (pos n) = n
-twos (negsuc n) = 2 ^ 64 - suc n
+-- a signed number in 8 bytes: two's complement
+abbrev pub signed_bytes : ℤ → List ℕ
+signed_bytes z = to_be_bytes w64 (cast_unsigned w64 z)
 
 -- 1 Distinct, 2 Repeated, 3 Undecided
 abbrev pub verdictByte : Verdict → ℕ
@@ -28,20 +23,27 @@ verdictByte Distinct = 1
 verdictByte Repeated = 2
 verdictByte Undecided = 3
 
+-- the bytes before the axes, and those of an axis
+abbrev pub head_length : ℕ
+head_length = 13
+
+abbrev pub axis_length : ℕ
+axis_length = 16
+
 -- the length of a record: 13 + 16 × rank
 abbrev pub recordLength : ℕ → ℕ
-recordLength rank = 13 + 16 * rank
+recordLength rank = head_length + axis_length * rank
 
 -- per axis extent (8), stride (8, two's complement)
 unfoldable pub axisBytes : List Axis → List ℕ
 axisBytes [] = []
-axisBytes (a ∷ rest) = bigEndian 8 a.extent ++ bigEndian 8 (twos a.stride) ++ axisBytes rest
+axisBytes (a ∷ rest) = to_be_bytes w64 a.extent ++ signed_bytes a.stride ++ axisBytes rest
 
 -- length of the whole (2), version 1 (1), verdict (1), rank (1), offset (8), then the axes
 unfoldable pub recordBytes : LayoutM → Verdict → List ℕ
 recordBytes l v =
-    bigEndian 2 (recordLength (rank l)) ++ (1 ∷ verdictByte v ∷ rank l ∷ [])
-    ++ bigEndian 8 (twos l.offset) ++ axisBytes l.axes
+    to_be_bytes w16 (recordLength (rank l)) ++ (1 ∷ verdictByte v ∷ rank l ∷ [])
+    ++ signed_bytes l.offset ++ axisBytes l.axes
 
 -- ---- the writer
 
@@ -82,29 +84,44 @@ pub record Writing (l : LayoutM) (output scratch : List ℕ) (answer : Outcome �
 
 -- ---- the reader
 
--- the number that n bytes from place i on hold
-unfoldable pub numberFrom : List ℕ → ℕ → ℕ → ℕ
-numberFrom bytes i zero = 0
-numberFrom bytes i (suc n) = get_or bytes i 0 * 256 ^ n + numberFrom bytes (suc i) n
+-- the fields before the offset, each at its place; the length is the number that the first 2 bytes hold
+unfoldable pub length_field : List ℕ → ℕ
+length_field bytes = from_be_bytes w16 (take 2 bytes)
 
--- the number that 8 bytes from place i on hold as two's complement
-abbrev pub signedFrom : List ℕ → ℕ → ℤ
-signedFrom bytes i = let n = numberFrom bytes i 8 in if ltb n (2 ^ 63) then pos n else negsuc (2 ^ 64 - suc n)
+abbrev pub version_field : List ℕ → ℕ
+version_field bytes = get_or bytes 2 0
+
+abbrev pub verdict_field : List ℕ → ℕ
+verdict_field bytes = get_or bytes 3 0
+
+abbrev pub rank_field : List ℕ → ℕ
+rank_field bytes = get_or bytes 4 0
+
+-- the number that 8 bytes from place i on hold, and the signed one whose two's complement it is
+unfoldable pub number_at : List ℕ → ℕ → ℕ
+number_at bytes i = from_be_bytes w64 (take 8 (drop i bytes))
+
+abbrev pub signed_at : List ℕ → ℕ → ℤ
+signed_at bytes i = cast_signed w64 (number_at bytes i)
+
+-- the offset stands behind the rank
+abbrev pub offset_field : List ℕ → ℤ
+offset_field bytes = signed_at bytes 5
 
 -- so many axes from place i on
 unfoldable pub axesFrom : List ℕ → ℕ → ℕ → List Axis
 axesFrom bytes i zero = []
-axesFrom bytes i (suc n) = record { extent = numberFrom bytes i 8; stride = signedFrom bytes (i + 8) } ∷ axesFrom bytes (i + 16) n
+axesFrom bytes i (suc n) = record { extent = number_at bytes i; stride = signed_at bytes (i + 8) } ∷ axesFrom bytes (i + axis_length) n
 
 -- the front bytes hold every field: length, version, verdict and rank
 unfoldable pub fieldsRight : List ℕ → Bool
 fieldsRight bytes =
-    leb 13 (length bytes)
-    && eqb (get_or bytes 2 0) 1
-    && leb 1 (get_or bytes 3 0) && leb (get_or bytes 3 0) 3
-    && leb (get_or bytes 4 0) 16
-    && eqb (numberFrom bytes 0 2) (recordLength (get_or bytes 4 0))
-    && leb (recordLength (get_or bytes 4 0)) (length bytes)
+    leb head_length (length bytes)
+    && eqb (version_field bytes) 1
+    && leb 1 (verdict_field bytes) && leb (verdict_field bytes) 3
+    && leb (rank_field bytes) 16
+    && eqb (length_field bytes) (recordLength (rank_field bytes))
+    && leb (recordLength (rank_field bytes)) (length bytes)
 
 -- no axis of extent 1 or less, and none that continues the one before it
 unfoldable pub isMerged : List Axis → Bool
@@ -131,7 +148,7 @@ withBuffer l = record { buffer = if is_empty l.axes then 0 else posPart (highest
 
 -- the layout that the fields tell
 unfoldable pub layoutFrom : List ℕ → LayoutM
-layoutFrom bytes = withBuffer (record { buffer = 0; offset = signedFrom bytes 5; axes = axesFrom bytes 13 (get_or bytes 4 0) })
+layoutFrom bytes = withBuffer (record { buffer = 0; offset = offset_field bytes; axes = axesFrom bytes head_length (rank_field bytes) })
 
 -- what is read: the layout and its verdict
 pub record WasRead : Type 0 where
@@ -145,7 +162,7 @@ read_of bytes words = do
   let l = layoutFrom bytes
   refuseIf (not (isNormal l)) 11 []
   j ← judge l.axes words
-  refuseIf (not (eqb (verdictByte j.answer) (get_or bytes 3 0))) 11 []
+  refuseIf (not (eqb (verdictByte j.answer) (verdict_field bytes))) 11 []
   done (record { layout = l; answer = j.answer })
 
 -- how many of the first scratch words are free to hold anything afterwards, also where the verdict was false
@@ -157,5 +174,5 @@ readFrees bytes words = if fieldsRight bytes && isNormal (layoutFrom bytes) then
 -- the bytes behind the record; none if fewer than 2 bytes, or the length is below 13 or longer than the bytes
 unfoldable pub rest_of : List ℕ → List ℕ
 rest_of bytes =
-    if ltb (length bytes) 2 || ltb (numberFrom bytes 0 2) 13 || ltb (length bytes) (numberFrom bytes 0 2) then []
-    else drop (numberFrom bytes 0 2) bytes
+    if ltb (length bytes) 2 || ltb (length_field bytes) head_length || ltb (length bytes) (length_field bytes) then []
+    else drop (length_field bytes) bytes

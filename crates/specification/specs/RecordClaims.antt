@@ -6,10 +6,10 @@ use Rattle.specification.specs.Outcome.{done, refused}
 use Rattle.specification.specs.Layout.{LayoutM, offsetAt, Accepted, HandedRefused}
 use Rattle.specification.specs.Normal.{normalOf, overfull}
 use Rattle.specification.specs.Verdict.{Judged, judge, wordsNeeded}
-use Rattle.specification.specs.Record.{Made, verdictByte, written, writeFrees, fieldsRight, isNormal, layoutFrom, WasRead, read_of, readFrees, withBuffer, numberFrom, rest_of}
+use Rattle.specification.specs.Record.{Made, verdictByte, written, writeFrees, fieldsRight, isNormal, layoutFrom, WasRead, read_of, readFrees, withBuffer, length_field, rest_of}
 use Rattle.specification.specs.NormalClaims.{SameForm}
 
--- the writer's refusals before those of demand 3, and what it leaves in the scratch
+-- the writer's refusals before those of `AnsweredExactly`, and what it leaves in the scratch
 pub record WriterClaims : Type 0 where
   pub handed_in : (l : LayoutM) (room words number : ℕ) (values : List ℕ) → HandedRefused l 0 number values → written l room words ≡ refused number values
   -- the words needed for the normal form are free afterwards where a record gets made; a refusal frees none
@@ -19,7 +19,7 @@ pub record WriterClaims : Type 0 where
 -- every field of a record: the first 13 bytes, length of the whole (2 bytes), version 1 (1), verdict 1 to 3 (1), rank at most 16 (1), and all bytes that the rank asks for
 pub record Fields (bytes : List ℕ) : Type 0 where
   pub front-there : 13 ≤ length bytes
-  pub length-is : numberFrom bytes 0 2 ≡ 13 + 16 * get_or bytes 4 0
+  pub length-is : length_field bytes ≡ 13 + 16 * get_or bytes 4 0
   pub version-is : get_or bytes 2 0 ≡ 1
   pub verdict-from : 1 ≤ get_or bytes 3 0
   pub verdict-to : get_or bytes 3 0 ≤ 3
@@ -71,10 +71,10 @@ pub record RoundTrip : Type 0 where
   pub write_read : (l : LayoutM) (room words words' : ℕ) (m : Made) (behind : List ℕ) → Accepted l → written l room words ≡ done m → wordsNeeded (normalOf l).axes ≤ words'
       → (w : WasRead) × (read_of (m.bytes ++ behind) words' ≡ done w) × (w.layout ≡ withBuffer (normalOf l)) × (rest_of (m.bytes ++ behind) ≡ behind)
   -- read then write: the bytes of the front again
-  pub read-write : (bytes : List ℕ) (room words words' : ℕ) (w : WasRead) → Bytes bytes → read_of bytes words ≡ done w → numberFrom bytes 0 2 ≤ room → wordsNeeded w.layout.axes ≤ words'
-      → (m : Made) × (written w.layout room words' ≡ done m) × (m.bytes ≡ take (numberFrom bytes 0 2) bytes)
+  pub read-write : (bytes : List ℕ) (room words words' : ℕ) (w : WasRead) → Bytes bytes → read_of bytes words ≡ done w → length_field bytes ≤ room → wordsNeeded w.layout.axes ≤ words'
+      → (m : Made) × (written w.layout room words' ≡ done m) × (m.bytes ≡ take (length_field bytes) bytes)
 
 -- stepping over gives a part at the end of the caller's bytes: behind the length field's count, or the empty part
 pub record SteppingClaims : Type 0 where
-  pub over : (bytes : List ℕ) → 2 ≤ length bytes → 13 ≤ numberFrom bytes 0 2 → numberFrom bytes 0 2 ≤ length bytes → rest_of bytes ≡ drop (numberFrom bytes 0 2) bytes
-  pub at-end : (bytes : List ℕ) → (length bytes < 2) ⊎ ((numberFrom bytes 0 2 < 13) ⊎ (length bytes < numberFrom bytes 0 2)) → rest_of bytes ≡ drop (length bytes) bytes
+  pub over : (bytes : List ℕ) → 2 ≤ length bytes → 13 ≤ length_field bytes → length_field bytes ≤ length bytes → rest_of bytes ≡ drop (length_field bytes) bytes
+  pub at-end : (bytes : List ℕ) → (length bytes < 2) ⊎ ((length_field bytes < 13) ⊎ (length bytes < length_field bytes)) → rest_of bytes ≡ drop (length bytes) bytes

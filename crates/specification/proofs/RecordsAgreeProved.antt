@@ -1,4 +1,4 @@
--- Demand 3, whole, from the claim on the answers of the views: each list runs as the rules say, and the writer puts into the output
+-- When records agree, from the claim on the answers of the views: each list runs as the rules say, and the writer puts into the output
 -- the record of the end layout's normal form, which is canonical.
 use mathlib.Core.Path.{◌≡◌, refl, sym, ap, subst, ◌∙◌}
 use mathlib.Core.List.{List, [], ◌∷◌, ◌++◌}
@@ -10,10 +10,11 @@ use Rattle.specification.specs.Outcome.{Outcome, Check, done, refused}
 use Rattle.specification.specs.Layout.{LayoutM, rank, Accepted}
 use Rattle.specification.specs.Normal.{normalOf}
 use Rattle.specification.specs.Verdict.{ScratchAfter}
-use Rattle.specification.specs.Record.{recordLength, numberFrom, Made, written, writeFrees, outputAfter, writeAnswer, Writing}
+use Rattle.specification.specs.Record.{recordLength, length_field, Made, written, writeFrees, outputAfter, writeAnswer, Writing}
 use Rattle.specification.specs.Calls.{Call, after_call, answersOf, end_of}
 use Rattle.specification.specs.ViewClaims.{AnswerClaims}
-use Rattle.specification.specs.Demand3.{Run, ended, passed, turned-away, recordIn, AnsweredExactly, TrueByte, RecordMade, Side, Demand3Claim}
+use Rattle.specification.specs.RecordsAgree.{Run, ended, passed, turned-away, recordIn, AnsweredExactly, TrueByte, RecordMade, Side, RecordsAgreeClaim}
+use Rattle.specification.proofs.AnswerLaws.{answer_claims}
 use Rattle.specification.proofs.AcceptedLaws.{ends-keep}
 use Rattle.specification.proofs.RecordFields.{length-recordBytes}
 use Rattle.specification.proofs.WriterLaws.{normal-accepted}
@@ -54,8 +55,8 @@ module _ (x : LayoutM) (a : Accepted x) (output scratch : List ℕ) {m : Made} (
   bytes-length : length m.bytes ≡ recordLength (rank (normalOf x))
   bytes-length = ap (λ (r : Made). length r.bytes) w.is ∙ length-recordBytes (normalOf x) w.j.answer
 
-  counted : numberFrom (outputAfter (done m) output) 0 2 ≡ recordLength (rank (normalOf x))
-  counted = ap (λ (b : List ℕ). numberFrom b 0 2) record-then ∙ length-field (normalOf x) w.j.answer (drop (length m.bytes) output) (normal-accepted x a).few
+  counted : length_field (outputAfter (done m) output) ≡ recordLength (rank (normalOf x))
+  counted = ap (λ (b : List ℕ). length_field b) record-then ∙ length-field (normalOf x) w.j.answer (drop (length m.bytes) output) (normal-accepted x a).few
 
   -- the record in the output is the record made
   record-in-output : recordIn (outputAfter (done m) output) ≡ m.bytes
@@ -128,8 +129,8 @@ side-of claims start s calls output scratch output-then scratch-then answer w =
 
 -- ---- both
 
-pub demand3-from : AnswerClaims → Demand3Claim
-demand3-from claims a b ha hb cs ds output scratch output-then scratch-then output' scratch' output-then' scratch-then' answer answer' w w' = record {
+agree_from : AnswerClaims → RecordsAgreeClaim
+agree_from claims a b ha hb cs ds output scratch output-then scratch-then output' scratch' output-then' scratch-then' answer answer' w w' = record {
   first = side-of claims a ha cs output scratch output-then scratch-then answer w;
   second = side-of claims b hb ds output' scratch' output-then' scratch-then' answer' w';
   equal-records = λ n n' e e'.
@@ -142,3 +143,6 @@ demand3-from claims a b ha hb cs ds output scratch output-then scratch-then outp
       let r = equal-exactly (end_of a cs) (end_of b ds) x y u.writes-it v.writes-it in
       (λ h. r.0 (sym p ∙ h ∙ q), λ s. p ∙ r.1 s ∙ sym q);
 }
+
+pub records_agree : RecordsAgreeClaim
+records_agree = agree_from answer_claims

@@ -1,12 +1,12 @@
--- Demand 3 of 01, whole: two accepted layouts, two call lists, and the two records that the writer puts into lent output.
--- `Demand3Claim` at the end is the statement; what stands before it are the words that it is said with.
+-- When records agree: two accepted layouts, two lists of calls, and the two records that the writer puts into lent output.
+-- `RecordsAgreeClaim` at the end is the statement; what stands before it are the words that it is said with.
 use Rattle.std.specs.Prelude.{true, false, List, [], ◌∷◌, ◌↔◌, ◌≡◌, ℕ, ◌<◌, ◌≤◌, length, take, drop, get_or}
 use Rattle.specification.specs.Axis.{Shared}
 use Rattle.specification.specs.Outcome.{Outcome, Check, done, refused, pass}
 use Rattle.specification.specs.Layout.{LayoutM, rank, Accepted}
 use Rattle.specification.specs.Normal.{normalOf, overfull}
 use Rattle.specification.specs.Verdict.{wordsNeeded, BothBudgetsPassed}
-use Rattle.specification.specs.Record.{recordLength, numberFrom, Writing}
+use Rattle.specification.specs.Record.{recordLength, length_field, Writing}
 use Rattle.specification.specs.Calls.{Call, after_call, answersOf, end_of}
 use Rattle.specification.specs.ViewRules.{Passes, Refuses}
 use Rattle.specification.specs.NormalClaims.{SameOffsets}
@@ -20,7 +20,7 @@ pub data Run : LayoutM → List Call → List Check → LayoutM → Type 0 where
 
 -- the record in an output: the bytes that its length field counts
 abbrev pub recordIn : List ℕ → List ℕ
-recordIn output = take (numberFrom output 0 2) output
+recordIn output = take (length_field output) output
 
 -- the writer's answer on the end layout x: refused 8, then 10, then 9, exactly as 01 says; else the length of the record
 pub record AnsweredExactly (x : LayoutM) (room words : ℕ) (answer : Outcome ℕ) : Type 0 where
@@ -40,7 +40,7 @@ pub record TrueByte (x : LayoutM) (byte : ℕ) : Type 0 where
 
 -- a record of x was made: its length field counts it, its verdict is true, and nothing past it or past the words needed was changed
 pub record RecordMade (x : LayoutM) (output scratch output-then scratch-then : List ℕ) : Type 0 where
-  pub counted : numberFrom output-then 0 2 ≡ recordLength (rank (normalOf x))
+  pub counted : length_field output-then ≡ recordLength (rank (normalOf x))
   pub verdict : TrueByte x (get_or output-then 3 0)
   pub as_long : length output-then ≡ length output
   pub behind : drop (recordLength (rank (normalOf x))) output-then ≡ drop (recordLength (rank (normalOf x))) output
@@ -56,15 +56,15 @@ pub record Side (start : LayoutM) (calls : List Call) (output scratch : List ℕ
   pub made : (n : ℕ) → answer ≡ done n → RecordMade (end_of start calls) output scratch output-then scratch-then
 
 -- both, and the two records: equal exactly if the end layouts have equally many positions and the same offset at each
-pub record Demand3 (a b : LayoutM) (cs ds : List Call) (output scratch output-then scratch-then output' scratch' output-then' scratch-then' : List ℕ) (answer answer' : Outcome ℕ) : Type 0 where
+pub record RecordsAgree (a b : LayoutM) (cs ds : List Call) (output scratch output-then scratch-then output' scratch' output-then' scratch-then' : List ℕ) (answer answer' : Outcome ℕ) : Type 0 where
   pub first : Side a cs output scratch answer output-then scratch-then
   pub second : Side b ds output' scratch' answer' output-then' scratch-then'
   pub equal-records : (n n' : ℕ) → answer ≡ done n → answer' ≡ done n' → (recordIn output-then ≡ recordIn output-then') ↔ SameOffsets (end_of a cs) (end_of b ds)
 
 -- for every two accepted layouts, every two call lists, and every lent memory
-abbrev pub Demand3Claim : Type 0
-Demand3Claim = (a b : LayoutM) → Accepted a → Accepted b → (cs ds : List Call)
+abbrev pub RecordsAgreeClaim : Type 0
+RecordsAgreeClaim = (a b : LayoutM) → Accepted a → Accepted b → (cs ds : List Call)
     (output scratch output-then scratch-then output' scratch' output-then' scratch-then' : List ℕ) (answer answer' : Outcome ℕ)
     → Writing (end_of a cs) output scratch answer output-then scratch-then
     → Writing (end_of b ds) output' scratch' answer' output-then' scratch-then'
-    → Demand3 a b cs ds output scratch output-then scratch-then output' scratch' output-then' scratch-then' answer answer'
+    → RecordsAgree a b cs ds output scratch output-then scratch-then output' scratch' output-then' scratch-then' answer answer'
