@@ -3,6 +3,7 @@
 
 ghost use Rattle.std.specs.Prelude.{◌≡◌, ◌≤◌, ◌<◌, List, ℤ, take, length, IfOk};
 ghost use Rattle.specification.specs.Beside.{nextStep, colMajor, rowMajor};
+ghost use Rattle.specification.specs.BesideClaims.{DenseClaims};
 ghost use Rattle.view.specs.Answers.{outcomeOf};
 ghost use Rattle.dense.specs.Dense.{fitting_step, dense_by, axis_after};
 
@@ -119,3 +120,10 @@ pub fn checked_row_major_strides(extents: &[u64]) -> Result<DenseStrides, Refusa
 {
     running_products(extents, Major::Row)
 }
+
+/// Does nothing, and promises what is claimed of dense strides: when they are refused, the running products, that position k
+/// stands at offset k, and that by row they are those by column of the reversed extents. The check wants the proof.
+#[tactic(auto, using(specification::proofs::DenseLaws::dense_claims))]
+pub fn dense_strides_hold()
+    ensures dense { DenseClaims }
+{}

@@ -8,7 +8,7 @@ use Rattle.specification.specs.Axis.{Axis, axesOf}
 use Rattle.specification.specs.Outcome.{Outcome, done, refused}
 use Rattle.specification.specs.Normal.{overfull}
 use Rattle.specification.specs.Verdict.{Verdict, Judged, judge, verdict, freedBy, ScratchAfter, wordsNeeded}
-use Rattle.specification.proofs.VerdictLaws.{verdict-claims, verdict-call-claims}
+use Rattle.specification.proofs.VerdictLaws.{verdict_claims, verdict_call_claims}
 use Rattle.injectivity.specs.Judgement.{Told, judgedOf, toldOf, JudgedAs}
 use Rattle.injectivity.specs.Meaning.{Fitting, DueThree, MeaningOf, Means, JudgementClaims}
 use Rattle.injectivity.specs.declared.Judgement.{Judgement}
@@ -35,10 +35,10 @@ module _ (es : List ℕ) (ss : List ℤ) (before after : List ℕ) (r : Result J
   refusing e = (c.told ∙ ap toldOf e, rw e at c.scratch.1)
 
   too-long : (16 < length es) ⊎ (16 < length ss) → MeaningOf es ss before after r
-  too-long h = let w = refusing (verdict-call-claims.one es ss words h) in grind (arith, ints)
+  too-long h = let w = refusing (verdict_call_claims.one es ss words h) in grind (arith, ints)
 
   different : length es ≤ 16 → length ss ≤ 16 → length es ≢ length ss → MeaningOf es ss before after r
-  different h k n = let w = refusing (verdict-call-claims.two es ss words h k n) in grind (arith, ints)
+  different h k n = let w = refusing (verdict_call_claims.two es ss words h k n) in grind (arith, ints)
 
   -- ---- lists that are axes
 
@@ -47,31 +47,31 @@ module _ (es : List ℕ) (ss : List ℤ) (before after : List ℕ) (r : Result J
 
   module _ (f : Fitting es ss) where
     judged : verdict es ss words ≡ judge axes words
-    judged = verdict-call-claims.then-judged es ss words f.0 f.1
+    judged = verdict_call_claims.then-judged es ss words f.0 f.1
 
     -- each refusal of the axes where it is due
     eight : overfull axes ≡ true → judge axes words ≡ refused 8 []
-    eight o = (verdict-claims.eight axes words []).1 (o, refl)
+    eight o = (verdict_claims.eight axes words []).1 (o, refl)
 
     three : DueThree es ss → judge axes words ≡ refused 3 []
-    three d = (verdict-claims.three axes words []).1 (d.no-zero-extent, d.not_eight, d.no-still-axis, d.out, refl)
+    three d = (verdict_claims.three axes words []).1 (d.no-zero-extent, d.not_eight, d.no-still-axis, d.out, refl)
 
     nine : words < wordsNeeded axes → judge axes words ≡ refused 9 (wordsNeeded axes ∷ [])
-    nine h = (verdict-claims.needed axes words (wordsNeeded axes ∷ [])).1 (h, refl)
+    nine h = (verdict_claims.needed axes words (wordsNeeded axes ∷ [])).1 (h, refl)
 
     turned-down : {n : ℕ} {vs : List ℕ} → judge axes words ≡ refused n vs → MeaningOf es ss before after r
     turned-down {n} {vs} e =
-        let w = refusing (judged ∙ e) in let which = verdict-claims.no_other axes words n vs e in
-        let is-eight = (verdict-claims.eight axes words vs).0 in let is-three = (verdict-claims.three axes words vs).0 in
-        let is-nine = (verdict-claims.needed axes words vs).0 in
+        let w = refusing (judged ∙ e) in let which = verdict_claims.no_other axes words n vs e in
+        let is-eight = (verdict_claims.eight axes words vs).0 in let is-three = (verdict_claims.three axes words vs).0 in
+        let is-nine = (verdict_claims.needed axes words vs).0 in
         grind (arith, ints, eight, three, nine)
 
     answered : (j : Judged) → judge axes words ≡ done j → MeaningOf es ss before after r
     unfolding freedBy
     answered j e =
         let t = c.told ∙ ap toldOf (judged ∙ e) in
-        let says = verdict-claims.true-answer axes words j e in let both = verdict-claims.only-undecided axes words j e in
-        let kept = rw (judged ∙ e, verdict-claims.freed-are axes words j e) at c.scratch.1 in
+        let says = verdict_claims.true-answer axes words j e in let both = verdict_claims.only-undecided axes words j e in
+        let kept = rw (judged ∙ e, verdict_claims.freed-are axes words j e) at c.scratch.1 in
         grind (arith, ints, eight, three, nine)
 
   meaning : MeaningOf es ss before after r

@@ -13,7 +13,7 @@ use Rattle.specification.specs.Verdict.{upToLast, Verdict, Distinct, Repeated, a
 use Rattle.specification.specs.Verdict.{plan_of, carryOut, judge, verdict}
 use Rattle.specification.proofs.NormalAxes.{positions-pos}
 use Rattle.specification.proofs.NormalLaws.{empty-none, full-pos}
-use Rattle.specification.proofs.VerdictLaws.{verdict-call-claims}
+use Rattle.specification.proofs.VerdictLaws.{verdict_call_claims}
 use Rattle.view.specs.Lists.{paired}
 use Rattle.view.specs.Count.{elementCount, count_of}
 use Rattle.view.proofs.CountLaws.{length-extents, element-count-of-axes}
@@ -111,11 +111,11 @@ parts_of_axes [] = refl
 parts_of_axes (a ∷ axes) = ap (λ (rest : List Axis). a ∷ rest) (parts_of_axes axes)
 
 pub crowd : (axes : List Axis) (words : ℕ) → 16 < length axes → verdict (extents axes) (strides axes) words ≡ refused 1 []
-crowd axes words h = verdict-call-claims.one (extents axes) (strides axes) words (inl (omega (arith, length-extents axes)))
+crowd axes words h = verdict_call_claims.one (extents axes) (strides axes) words (inl (omega (arith, length-extents axes)))
 
 pub few_axes : (axes : List Axis) (words : ℕ) → length axes ≤ 16 → verdict (extents axes) (strides axes) words ≡ judge axes words
 few_axes axes words h =
-    verdict-call-claims.then-judged (extents axes) (strides axes) words (omega (arith, length-extents axes))
+    verdict_call_claims.then-judged (extents axes) (strides axes) words (omega (arith, length-extents axes))
     (length-extents axes ∙ sym (length-strides axes))
     ∙ ap (λ (l : List Axis). judge l words) (parts_of_axes axes)
 

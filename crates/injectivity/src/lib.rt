@@ -21,10 +21,9 @@ mod inputs;
 ghost use Rattle.std.specs.Prelude.{◌≤◌, length};
 ghost use Rattle.specification.specs.Axis.{extents, strides};
 ghost use Rattle.specification.specs.Verdict.{judge as judged, verdict};
-ghost use Rattle.injectivity.specs.Claims.{Claims};
 ghost use Rattle.injectivity.specs.Inputs.{LeftToBlock};
 ghost use Rattle.injectivity.specs.Judgement.{JudgedAs};
-ghost use Rattle.injectivity.specs.Meaning.{Means};
+ghost use Rattle.injectivity.specs.Meaning.{Means, JudgementClaims};
 
 use active::{NO_ACTIVE_AXIS, gather_active};
 use axis::Axis;
@@ -150,9 +149,9 @@ fn judge_active_axes(axes: &[Axis], scratch: &mut [u64]) -> Result<Judgement, Re
     block.judge(scratch)
 }
 
-/// Does nothing, and promises what the answers of a verdict say of the layout: the check refuses
-/// it unless each claim has its proof.
+/// Does nothing, and promises what the answers of a verdict say of the layout: the check wants the
+/// proof.
 #[tactic(auto, using(crate::proofs::MeaningProved::judgement_claims))]
-pub fn claims_hold()
-    ensures { Claims }
+pub fn judgements_hold()
+    ensures judgement { JudgementClaims }
 {}

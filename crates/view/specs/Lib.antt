@@ -8,5 +8,4 @@ pub mod Refusals
 pub mod Ties
 pub mod Count
 pub mod AnswerClaims
-pub mod Claims
 pub mod Indexed

@@ -1,7 +1,8 @@
 //! Layouts of strided readings: check-in, views, indexed offsets.
 #![tactic(auto)]
 
-ghost use Rattle.view.specs.Claims.{Claims};
+ghost use Rattle.specification.specs.BesideClaims.{OffsetClaims};
+ghost use Rattle.view.specs.AnswerClaims.{ReachAnswerClaims, ElementCountClaims};
 
 pub mod axes;
 pub mod bounded;
@@ -15,9 +16,11 @@ pub mod offset;
 pub mod permute;
 pub mod values;
 
-/// Does nothing, and promises what the reach and the number of positions say of a layout: the check refuses it unless each claim
-/// has its proof.
-#[tactic(auto, using(crate::proofs::AnswersClaimed::claims))]
-pub fn claims_hold()
-    ensures { Claims }
+/// Does nothing, and promises what the reach, the number of positions and the offset of an index vector say of a layout: the
+/// check wants the proof of each.
+#[tactic(auto, using(crate::proofs::AnswersClaimed::reach_answer_claims, crate::proofs::AnswersClaimed::element_count_claims, specification::proofs::OffsetLaws::offset_claims))]
+pub fn answers_hold()
+    ensures reach { ReachAnswerClaims }
+    ensures count { ElementCountClaims }
+    ensures offsets { OffsetClaims }
 {}
