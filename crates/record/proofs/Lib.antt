@@ -1,16 +1,8 @@
-pub mod FieldLaws
 pub mod NormalAnswers
 pub mod MergeLaws
 pub mod FormLaws
 pub mod FrontLaws
-pub mod JudgedLaws
-pub mod ReadLaws
 pub mod WriterLaws
-pub mod CallListLaws
-pub mod CallsInNumbers
-pub mod ChainThere
 pub mod ChainLaws
+pub mod SameLaws
 pub mod RunningLaws
-pub mod Ends
-pub mod Proved
-pub mod CallMadeLaws

@@ -1,165 +1,151 @@
--- The pass from the left over the axes of an array: what the axes stored so far and those that are left come to, turn by turn.
+-- An axis more at the end of axes: what it does to their normal form, and to the array that holds it; and the pass over all axes.
 use Rattle.std.specs.Prelude.{Some}
 use Rattle.std.specs.Option.{option_eq}
 use Rattle.std.specs.Ordering.{int_eq}
+use Rattle.std.proofs.lemmas.Int.{ints}
+use Rattle.std.proofs.lemmas.List.{take_all, take_more, take_more_set, take-append-drop}
 use mathlib.Core.Path.{◌≡◌, refl, sym, ap, subst, ◌∙◌}
-use mathlib.Core.Bool.{Bool, true, false, not, ◌&&◌}
+use mathlib.Core.Bool.{true, false}
 use mathlib.Core.List.{List, [], ◌∷◌, ◌++◌, append_assoc}
 use Prim.Native.Nat.{ℕ, zero, suc, ◌+◌, ◌*◌, ◌-◌, ◌≤◌, ◌<◌, ◌^◌}
-use native.Mathlib.Nat.{one-mul, mul_assoc, mul_left_comm, mul-zero, mul-suc}
+use native.Mathlib.Nat.{mul_assoc, mul_comm, one-mul, zero-mul, mul-zero, mul-suc, mul-le-mul_right}
+use native.Mathlib.Numerals.{add-one, unary_clauses}
 use native.Mathlib.Omega.{arith}
-use native.Mathlib.Numerals.{add-one}
-use lib.Dec.{T, eqb}
+use lib.Dec.{T}
 use lib.IntN.{ℤ, pos}
-use lib.ListN.{length, take, set}
-use lib.Seq.{get_or-set_same, get_or-take, take-suc, length-take-le}
-use Rattle.std.proofs.lemmas.List.{take-set}
-use borrow.Author.Tests.{eq-eqb, ne_eqb, eqb-true}
+use lib.ListN.{length, take, drop, set, length-set}
+use borrow.Author.Tests.{ne_eqb}
 use mir.Syntax.{w64}
 use mir.Val.{SFits}
 use Rattle.integer.specs.Multiple.{◌·◌}
 use Rattle.integer.specs.Range.{checkedOf}
-use Rattle.std.proofs.lemmas.Int.{ints}
-use Rattle.specification.specs.Axis.{Axis, positions, product, is_empty}
-use Rattle.specification.specs.Normal.{both, continues, overfull}
-use Rattle.specification.specs.Views.{axisAt}
-use Rattle.specification.proofs.NormalScan.{scan, start, scan-is-normal}
+use Rattle.integer.proofs.MultipleLaws.{int_eq-yes, ·-mul}
+use Rattle.specification.specs.Tests.{those}
+use Rattle.specification.specs.Axis.{Axis, extents, positions, product, is_empty}
+use Rattle.specification.specs.Layout.{LayoutM}
+use Rattle.specification.specs.Normal.{both, continues, mergeInto, merge, normalAxes, normalOf}
+use Rattle.specification.specs.Views.{axisAt, withAxes}
 use Rattle.specification.proofs.NormalAxes.{positions-of-normal}
-use Rattle.specification.proofs.NormalLaws.{full-pos, positions-pos}
-use Rattle.record.specs.Normal.{continues_last}
-use Rattle.record.proofs.NormalAnswers.{few-positions}
-
-abbrev no_axis : Axis
-no_axis = record { extent = 0; stride = pos 0 }
+use Rattle.specification.proofs.NormalLaws.{emptyAxes, empty-none, normal-of-empty, normal_of_full}
+use Rattle.specification.proofs.OutcomeLaws.{false-unless}
+use Rattle.view.specs.Model.{first_axes}
+use Rattle.view.specs.Table.{table}
+use Rattle.view.proofs.AxesLaws.{first_axes_take}
+use Rattle.view.proofs.CountLaws.{empty_extents, product-above}
+use Rattle.record.specs.Normal.{with_last, with_axis}
 
 -- a product in range is compared; one out of range equals no stride
 pub continues_tested : (s z : ℤ) → SFits w64 s → option_eq int_eq (checkedOf z) (Some s) ≡ int_eq s z
 continues_tested s z f = grind (arith, ints)
 
--- what is continued is there
-pub continued_some : (stored : List Axis) (a : Axis) → continues_last stored a ≡ true → 0 < length stored
-continued_some [] a e = absurd (subst T (sym e) tt)
-continued_some (b ∷ stored) a e = omega arith
+-- ---- the normal form of one axis more
 
--- ---- one turn
+-- what continues two axes in one continues the second
+continues-both : (a c b : Axis) → continues a c ≡ true → continues (both a c) b ≡ continues c b
+continues-both a c b e =
+    ap (int_eq b.stride) (ap (λ (n : ℕ). n · a.stride) (mul_comm a.extent c.extent) ∙ sym (·-mul c.extent a.extent a.stride)
+    ∙ ap (λ (z : ℤ). c.extent · z) (sym (int_eq-yes c.stride (a.extent · a.stride) (subst T (sym e) tt))))
 
-module _ (a b : Axis) (rest : List Axis) where
-  -- the turn by its two tests
-  abbrev turn : Bool → Bool → List Axis
-  turn t u = elim t [ true ↦ scan a rest | false ↦ elim u [ true ↦ scan (both a b) rest | false ↦ a ∷ scan b rest ] ]
+-- an axis in front and one behind: which is taken first makes no difference
+into-with_last : (a : Axis) (axes : List Axis) (b : Axis) → mergeInto a (with_last axes b) ≡ with_last (mergeInto a axes) b
+unfolding mergeInto with_last
+into-with_last a [] b = refl
+into-with_last a (c ∷ []) b = grind (arith, continues-both a c b, mul_assoc a.extent c.extent b.extent)
+into-with_last a (c ∷ d ∷ rest) b = grind arith
 
-  scan-turn : {t u : Bool} → eqb b.extent 1 ≡ t → int_eq b.stride (a.extent · a.stride) ≡ u → scan a (b ∷ rest) ≡ turn t u
-  unfolding scan
-  scan-turn e f = λ i. turn (e i) (f i)
+-- one axis more at the end: the pass from the left makes what the definition makes from the right
+normal-last : (axes : List Axis) (b : Axis) → normalAxes (axes ++ b ∷ []) ≡ with_axis (normalAxes axes) b
+unfolding normalAxes merge mergeInto those with_last
+normal-last [] b = grind arith
+normal-last (a ∷ axes) b = let rest = normal-last axes b in grind (arith, into-with_last a (normalAxes axes) b)
 
-start-turn : (b : Axis) (rest : List Axis) {t : Bool} → eqb b.extent 1 ≡ t → start (b ∷ rest) ≡ elim t [ true ↦ start rest | false ↦ scan b rest ]
-unfolding start
-start-turn b rest e = ap (λ (t : Bool). elim t [ true ↦ start rest | false ↦ scan b rest ]) e
+-- ---- the array that holds it
 
--- ---- the positions of what a pass makes
+-- behind axes of which the last is known
+with_last-append : (front : List Axis) (a b : Axis) → with_last (front ++ a ∷ []) b ≡ front ++ mergeInto a (b ∷ [])
+unfolding with_last
+with_last-append [] a b = refl
+with_last-append (c ∷ []) a b = refl
+with_last-append (c ∷ d ∷ rest) a b = ap (λ (l : List Axis). c ∷ l) (with_last-append (d ∷ rest) a b)
+
+-- the first axes where one was stored behind them
+first-set : (axes : List Axis) (n : ℕ) (v : Axis) → n < length axes → first_axes (set axes n v) (n + 1) ≡ first_axes axes n ++ v ∷ []
+first-set axes n v h =
+    first_axes_take (set axes n v) (n + 1) (omega (arith, length-set {A = Axis})) ∙ take_more_set axes n v h
+    ∙ ap (λ (l : List Axis). l ++ v ∷ []) (sym (first_axes_take axes n (omega arith)))
+
+module _ (axes : List Axis) (b : Axis) (long : ¬ (b.extent ≡ 1)) where
+  -- an axis that continues the last one is merged into it
+  pub merged_into : (n m : ℕ) → n ≡ m + 1 → m < length axes → continues (axisAt axes m) b ≡ true
+      → first_axes (set axes m (both (axisAt axes m) b)) n ≡ with_axis (first_axes axes n) b
+  unfolding mergeInto table
+  merged_into n m e h c =
+      rw (e, first-set axes m (both (axisAt axes m) b) h, add-one, ne_eqb b.extent 1 long, with_last-append (first_axes axes m) (axisAt axes m) b, c)
+
+  -- another is stored behind it
+  pub stored_behind : (n : ℕ) → n < length axes → (0 < n → continues (axisAt axes (n - 1)) b ≡ false)
+      → first_axes (set axes n b) (n + 1) ≡ with_axis (first_axes axes n) b
+  unfolding mergeInto table with_last
+  stored_behind zero h c = rw (first-set axes 0 b h, ne_eqb b.extent 1 long)
+  stored_behind (suc m) h c =
+      let f : continues (axisAt axes m) b ≡ false = simp unary_clauses at (c (omega arith)) in
+      rw (first-set axes (suc m) b h, ne_eqb b.extent 1 long, with_last-append (first_axes axes m) (axisAt axes m) b, f) (append_assoc (first_axes axes m) (axisAt axes m ∷ []) (b ∷ []))
+
+-- ---- the extents fit
 
 positions-append : (xs ys : List Axis) → positions (xs ++ ys) ≡ positions xs * positions ys
 unfolding product
 positions-append [] ys = sym (one-mul (positions ys))
 positions-append (a ∷ xs) ys = rw (positions-append xs ys) (sym (mul_assoc a.extent (positions xs) (positions ys)))
 
-positions-scan : (a : Axis) (rest : List Axis) → positions (scan a rest) ≡ a.extent * positions rest
-unfolding product scan
-positions-scan a [] = refl
-positions-scan a (b ∷ rest) = by (eqb b.extent 1) (int_eq b.stride (a.extent · a.stride)) (eqb-true b.extent 1) (positions-scan a rest) (positions-scan (both a b) rest) (positions-scan b rest)
-  where
-    by : (t u : Bool) → (t ≡ true → b.extent ≡ 1) → positions (scan a rest) ≡ a.extent * positions rest
-        → positions (scan (both a b) rest) ≡ a.extent * b.extent * positions rest → positions (scan b rest) ≡ b.extent * positions rest
-        → positions (turn a b rest t u) ≡ a.extent * (b.extent * positions rest)
-    by true u e p q r = rw (e refl, one-mul) p
-    by false true e p q r = q ∙ mul_assoc a.extent b.extent (positions rest)
-    by false false e p q r = rw r
+-- the factors of a product that is not 0 are not 0, and at most the product
+factor-within : (factor rest whole : ℕ) → factor * rest ≡ whole → 0 < whole → (0 < factor) × (factor ≤ whole)
+factor-within zero rest whole e h = absurd (omega (arith, zero-mul rest))
+factor-within factor zero whole e h = absurd (omega (arith, mul-zero factor))
+factor-within (suc factor) (suc rest) whole e h = (omega arith, omega (arith, mul-suc (suc factor) rest))
 
--- a factor is at most a product that is not 0
-factor-within : (factor rest whole : ℕ) → factor * rest ≡ whole → 0 < whole → factor ≤ whole
-factor-within factor zero whole e h = omega (arith, mul-zero factor)
-factor-within factor (suc rest) whole e h = omega (arith, mul-suc factor rest)
+-- an extent into which another is merged
+pub last_fits : (axes : List Axis) (n extent : ℕ) → 0 < n → 0 < positions (first_axes axes n) → positions (first_axes axes n) * extent < 2 ^ 64
+    → (axisAt axes (n - 1)).extent * extent < 2 ^ 64
+unfolding product table
+last_fits axes zero extent h k l = absurd (omega arith)
+last_fits axes (suc m) extent h k l =
+    let w = factor-within (axisAt axes m).extent (positions (first_axes axes m)) (positions (first_axes axes (suc m))) (rw positions-append (omega (arith, mul_comm (axisAt axes m).extent (positions (first_axes axes m))))) k in
+    let one_less : suc m - 1 ≡ m = omega arith in
+    rw one_less (omega (arith, mul-le-mul_right extent w.1))
+
+pub ruleset appended = (merged_into, stored_behind, last_fits)
+
+-- ---- the normal form by the number of positions
+
+module _ (l : LayoutM) where
+  pub no_position : positions l.axes ≡ 0 → normalOf l ≡ record { buffer = l.buffer; offset = pos 0; axes = emptyAxes }
+  no_position e = normal-of-empty l (grind (arith, ints, empty_extents l.axes, product-above (extents l.axes)))
+
+  pub some_position : 0 < positions l.axes → normalOf l ≡ withAxes l (normalAxes l.axes)
+  some_position h = normal_of_full l (false-unless (is_empty l.axes) (empty-none l.axes) (λ e. omega arith))
 
 -- ---- the pass
 
--- so many axes are stored in the first places, the last of them in hand, and these are left
-unfoldable pub resume : List Axis → ℕ → List Axis → List Axis
-resume axes zero rest = start rest
-resume axes (suc last) rest = take last axes ++ scan (axisAt axes last) rest
+-- nothing is passed yet
+pub none_passed : (axes : List Axis) → first_axes axes 0 ≡ normalAxes []
+unfolding table normalAxes merge those
+none_passed axes = refl
 
--- the last of the first axes
-last_tested : (axes : List Axis) (b : Axis) (last : ℕ) {t : Bool} → suc last ≤ length axes → continues_last (take (suc last) axes) b ≡ t → continues (axisAt axes last) b ≡ t
-last_tested axes b last {t} h e =
-    let n : length (take (suc last) axes) ≡ suc last = length-take-le (suc last) axes h in
-    let one_less : suc last - 1 ≡ last = omega arith in
-    let front = take (suc last) axes in
-    let k : continues_last front b ≡ (not (eqb (suc last) 0) && continues (axisAt front (suc last - 1)) b) = ap (λ (m : ℕ). not (eqb m 0) && continues (axisAt front (m - 1)) b) n in
-    let m : (not (eqb (suc last) 0) && continues (axisAt front (suc last - 1)) b) ≡ continues (axisAt front last) b
-    = rw (ne_eqb (suc last) 0 (λ q. absurd (omega arith)), one_less) in
-    let g : axisAt (take (suc last) axes) last ≡ axisAt axes last = get_or-take (suc last) axes last no_axis (omega arith) in
-    ap (λ (x : Axis). continues x b) (sym g) ∙ sym m ∙ sym k ∙ e
+module _ (axes : List Axis) (i : ℕ) (h : i < length axes) where
+  -- one axis more
+  pub axis_passed : normalAxes (take (i + 1) axes) ≡ with_axis (normalAxes (take i axes)) (axisAt axes i)
+  axis_passed = ap normalAxes (take_more axes i _ h) ∙ normal-last (take i axes) (axisAt axes i)
 
-module _ (axes : List Axis) (b : Axis) (rest : List Axis) where
-  -- an axis of extent 1 is dropped
-  pub resume-dropped : (stored : ℕ) → b.extent ≡ 1 → resume axes stored (b ∷ rest) ≡ resume axes stored rest
-  unfolding resume
-  resume-dropped zero e = start-turn b rest (eq-eqb b.extent 1 e)
-  resume-dropped (suc last) e = rw (scan-turn (axisAt axes last) b rest (eq-eqb b.extent 1 e) refl)
+  -- there are positions so far, and with one axis more at most all
+  pub positions_passed : 0 < positions axes
+      → (0 < positions (normalAxes (take i axes))) × (positions (normalAxes (take i axes)) * (axisAt axes i).extent ≤ positions axes)
+  unfolding product
+  positions_passed k =
+      let whole : (n : ℕ) → positions (take n axes) * positions (drop n axes) ≡ positions axes = λ n. sym (positions-append (take n axes) (drop n axes)) ∙ ap positions (take-append-drop n axes) in
+      let so_far = factor-within (positions (take i axes)) (positions (drop i axes)) (positions axes) (whole i) k in
+      let and_one = factor-within (positions (take (i + 1) axes)) (positions (drop (i + 1) axes)) (positions axes) (whole (i + 1)) k in
+      let split : positions (take (i + 1) axes) ≡ positions (take i axes) * ((axisAt axes i).extent * 1) = ap positions (take_more axes i _ h) ∙ positions-append (take i axes) (axisAt axes i ∷ []) in
+      rw (positions-of-normal (take i axes)) (so_far.0, omega (arith, split, and_one.1))
 
-  -- an axis that continues the one in hand is merged into it
-  pub resume-merged : (stored : ℕ) → ¬ (b.extent ≡ 1) → stored ≤ length axes → continues_last (take stored axes) b ≡ true
-      → resume axes stored (b ∷ rest) ≡ resume (set axes (stored - 1) (both (axisAt axes (stored - 1)) b)) stored rest
-  unfolding resume
-  resume-merged zero n h e = absurd (subst T (sym e) tt)
-  resume-merged (suc last) n h e =
-      let one_less : suc last - 1 ≡ last = omega arith in
-      let c : continues (axisAt axes last) b ≡ true = last_tested axes b last h e in
-      rw (one_less, take-set axes last (both (axisAt axes last) b), get_or-set_same axes last (both (axisAt axes last) b) no_axis (omega arith))
-      (rw (scan-turn (axisAt axes last) b rest (ne_eqb b.extent 1 n) c))
-
-  -- another is stored behind it
-  pub resume-stored : (stored : ℕ) → ¬ (b.extent ≡ 1) → stored < length axes → continues_last (take stored axes) b ≡ false
-      → resume axes stored (b ∷ rest) ≡ resume (set axes stored b) (stored + 1) rest
-  unfolding resume
-  resume-stored zero n h e = start-turn b rest (ne_eqb b.extent 1 n) ∙ rw (get_or-set_same axes 0 b no_axis h)
-  resume-stored (suc last) n h e =
-      let c : continues (axisAt axes last) b ≡ false = last_tested axes b last (omega arith) e in
-      rw (
-        add-one,
-        scan-turn (axisAt axes last) b rest (ne_eqb b.extent 1 n) c,
-        take-set axes (suc last) b,
-        take-suc axes last no_axis (omega arith),
-        get_or-set_same axes (suc last) b no_axis h,
-      ) (sym (append_assoc (take last axes) (axisAt axes last ∷ []) (scan b rest)))
-
-  -- and the merged extent is at most the number of positions, where there are some
-  pub merged-extent : (stored : ℕ) → 0 < stored → 0 < positions (resume axes stored (b ∷ rest)) → (axisAt axes (stored - 1)).extent * b.extent ≤ positions (resume axes stored (b ∷ rest))
-  unfolding resume product
-  merged-extent zero h k = absurd (omega arith)
-  merged-extent (suc last) h k =
-      let one_less : suc last - 1 ≡ last = omega arith in
-      let hand = axisAt axes last in
-      let front = take last axes in
-      let whole : hand.extent * b.extent * (positions front * positions rest) ≡ positions (front ++ scan hand (b ∷ rest)) =
-      mul_left_comm (hand.extent * b.extent) (positions front) (positions rest)
-      ∙ rw (positions-append front (scan hand (b ∷ rest)), positions-scan hand (b ∷ rest), mul_assoc hand.extent b.extent (positions rest)) in
-      rw one_less (factor-within (hand.extent * b.extent) (positions front * positions rest) _ whole k)
-
--- nothing is left: the axes stored
-pub resume-end : (axes : List Axis) (stored : ℕ) → stored ≤ length axes → resume axes stored [] ≡ take stored axes
-unfolding resume start scan
-resume-end axes zero h = refl
-resume-end axes (suc last) h = sym (take-suc axes last _ (omega arith))
-
--- nothing is stored: the pass from the start
-pub resume_start : (axes rest : List Axis) → resume axes 0 rest ≡ start rest
-unfolding resume
-resume_start axes rest = refl
-
--- a merged extent fits 64 bits, where the number of positions does
-pub merged_fits : (axes : List Axis) (stored : ℕ) (b : Axis) (rest whole : List Axis) → is_empty whole ≡ false → overfull whole ≡ false → 0 < stored
-    → resume axes stored (b ∷ rest) ≡ start whole → (axisAt axes (stored - 1)).extent * b.extent < 2 ^ 64
-merged_fits axes stored b rest whole f o h e =
-    let p = full-pos whole f in
-    let q : positions (resume axes stored (b ∷ rest)) ≡ positions whole = ap positions (e ∙ scan-is-normal whole p) ∙ positions-of-normal whole in
-    omega (arith, merged-extent axes b rest stored h (omega (arith, positions-pos p)), few-positions whole f o)
+pub ruleset passed = (none_passed, axis_passed, positions_passed, take_all, some_position)

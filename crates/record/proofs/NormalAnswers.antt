@@ -1,51 +1,28 @@
--- What the number of positions tells of the normal form.
-use mathlib.Core.Path.{◌≡◌, refl}
-use mathlib.Core.Bool.{Bool, true, false}
+-- The call for the normal form, and the count of positions, by their tests.
+use Rattle.std.specs.Prelude.{if◌then◌else◌}
+use mathlib.Core.Path.{◌≡◌, ◌∙◌}
 use mathlib.Core.List.{List, []}
 use Prim.Native.Nat.{ℕ, ◌≤◌}
 use native.Mathlib.Omega.{arith}
-use borrow.Author.Tests.{ltb-false}
-use Rattle.integer.specs.Range.{mostUnsigned}
+use lib.ListN.{length}
+use Rattle.std.proofs.lemmas.Int.{ints}
 use Rattle.specification.specs.Outcome.{done, refused, refuseIf, ◌>>◌, pass}
-use Rattle.specification.specs.Axis.{Axis, positions, is_empty}
+use Rattle.specification.specs.Axis.{Axis, positions, extents}
 use Rattle.specification.specs.Layout.{LayoutM, handed}
 use Rattle.specification.specs.Normal.{normalOf, overfull, normalForm}
-use Rattle.specification.proofs.NormalLaws.{full-pos, positions-pos, empty-none}
+use Rattle.view.specs.Count.{elementCount, count_of}
+use Rattle.view.proofs.CountLaws.{element-count-of-axes}
 
--- ---- the number of positions
+pub form_refused : (l : LayoutM) {number : ℕ} {values : List ℕ} → refused number values ≡ handed l 0 → normalForm l ≡ refused number values
+unfolding normalForm ◌>>◌
+form_refused l e = grind (arith, ints)
 
--- no position: empty
-pub none-empty : (axes : List Axis) → positions axes ≡ 0 → is_empty axes ≡ true
-none-empty axes e = by (is_empty axes) refl
-  where
-    by : (t : Bool) → is_empty axes ≡ t → is_empty axes ≡ true
-    by true f = f
-    by false f = absurd (omega (arith, positions-pos (full-pos axes f)))
+pub form_handed : (l : LayoutM) → pass ≡ handed l 0 → normalForm l ≡ (if overfull l.axes then refused 8 [] else done (normalOf l))
+unfolding normalForm refuseIf ◌>>◌
+form_handed l e = grind (arith, ints)
 
--- a position: not empty
-pub some-full : (axes : List Axis) → ¬ (positions axes ≡ 0) → is_empty axes ≡ false
-some-full axes n = by (is_empty axes) refl
-  where
-    by : (t : Bool) → is_empty axes ≡ t → is_empty axes ≡ false
-    by true f = absurd (n (empty-none axes f))
-    by false f = f
+pub count_by_test : (axes : List Axis) → length axes ≤ 16 → elementCount (extents axes) ≡ (if overfull axes then refused 8 [] else done (positions axes))
+unfolding count_of refuseIf ◌>>◌
+count_by_test axes few = element-count-of-axes axes few ∙ grind (arith, ints)
 
--- not empty, and refusal 8 not due: 64 bits hold the positions
-pub few-positions : (axes : List Axis) → is_empty axes ≡ false → overfull axes ≡ false → positions axes ≤ mostUnsigned
-unfolding overfull
-few-positions axes f o = ltb-false mostUnsigned (positions axes) (rw f at o)
-
--- ---- the call
-
-module _ (l : LayoutM) where
-  pub form_refused : (number : ℕ) (values : List ℕ) → handed l 0 ≡ refused number values → normalForm l ≡ refused number values
-  unfolding normalForm ◌>>◌
-  form_refused number values e = rw e
-
-  pub form_over : handed l 0 ≡ pass → overfull l.axes ≡ true → normalForm l ≡ refused 8 []
-  unfolding normalForm refuseIf ◌>>◌
-  form_over e o = rw (e, o)
-
-  pub form_done : handed l 0 ≡ pass → overfull l.axes ≡ false → normalForm l ≡ done (normalOf l)
-  unfolding normalForm refuseIf ◌>>◌
-  form_done e o = rw (e, o)
+pub ruleset by_tests = (form_refused, form_handed, count_by_test)

@@ -1,94 +1,73 @@
--- Demand 3 and the round trip of running code: the theorems of the definitions at what the contracts say.
-use mathlib.Core.Path.{◌≡◌, refl, sym, ap, subst, ◌∙◌}
-use mathlib.Core.List.{List, ◌++◌}
-use Prim.Native.Nat.{ℕ, ◌≤◌}
-use lib.ListN.{length, take, drop}
-use lib.Seq.{take_at, length-take-le}
-use native.Mathlib.Omega.{arith}
-use Rattle.specification.specs.Layout.{LayoutM}
-use Rattle.specification.specs.Outcome.{Outcome, Check, done, refused}
+-- Records and the round trip of running code: the theorems of the definitions at what the contracts say.
+use Rattle.std.proofs.Common.{◌≡◌, ℕ, ◌≤◌, List, length, take, drop, refl, ap, ◌∙◌, arith}
+use Rattle.std.proofs.lemmas.List.{take_at, length-take-le}
+use Rattle.specification.specs.Layout.{LayoutM, Accepted}
+use Rattle.specification.specs.Normal.{normalOf}
+use Rattle.specification.specs.Outcome.{Outcome, done, refused}
 use Rattle.specification.specs.Verdict.{wordsNeeded}
-use Rattle.specification.specs.Calls.{Call, answersOf, end_of}
-use Rattle.specification.specs.Demand3.{Run}
-use Rattle.specification.specs.Record.{Made, WasRead, written, writeAnswer, outputAfter, read_of, numberFrom, Writing}
-use Rattle.specification.proofs.Proved.{demand3}
-use Rattle.specification.proofs.OutcomeLaws.{clash}
+use Rattle.specification.specs.Record.{Made, WasRead, written, writeAnswer, outputAfter, read_of, withBuffer, length_field, Writing}
+use Rattle.specification.specs.RecordClaims.{Bytes}
+use Rattle.specification.proofs.RecordsAgreeProved.{records_agree}
 use Rattle.specification.proofs.RoundTripLaws.{round_trip}
 use Rattle.specification.proofs.ReaderLaws.{reads}
-use Rattle.view.specs.declared.layout.Layout.{Layout}
 use Rattle.view.specs.Model.{modelOf}
-use Rattle.record.specs.CallList.{calls_of}
-use Rattle.record.specs.Chain.{AsDefined}
 use Rattle.record.specs.Writer.{wroteOf}
 use Rattle.record.specs.Reading.{layout_read}
-use Rattle.record.specs.RunningCode.{RunningDemand3, RunCallsDemand3, RunningRoundTrip}
-use Rattle.record.proofs.ChainLaws.{chain-claims}
+use Rattle.record.specs.Running.{ChainsAgreeClaim, RunningRoundTrip}
+use Rattle.record.proofs.ChainLaws.{chain_claims}
+use Rattle.record.proofs.SameLaws.{writing, fronted}
 
--- ---- demand 3
+-- ---- records agree
 
--- a chain whose answers and end layout are the definition's runs as the rules say, where the definition's list does
-run-as-defined : (start end : Layout) (calls : List Call) (answers : List Check) → AsDefined start calls answers end
-    → Run (modelOf start) calls (answersOf (modelOf start) calls) (end_of (modelOf start) calls) → Run (modelOf start) calls answers (modelOf end)
-run-as-defined start end calls answers d r =
-    subst (λ (x : LayoutM). Run (modelOf start) calls answers x) (sym d.end_is)
-    (subst (λ (o : List Check). Run (modelOf start) calls o (end_of (modelOf start) calls)) (sym d.answers-are) r)
-
-pub running-demand3 : RunningDemand3
-running-demand3 a b end end' ha hb cs ds answers answers' c c' output scratch output-then scratch-then output' scratch' output-then' scratch-then' wrote wrote' w w' =
-    let d = chain-claims.as-defined c in
-    let d' = chain-claims.as-defined c' in
-    let whole = demand3 (modelOf a) (modelOf b) ha hb cs ds output scratch output-then scratch-then output' scratch' output-then' scratch-then' (wroteOf wrote) (wroteOf wrote')
-    (subst (λ (x : LayoutM). Writing x output scratch (wroteOf wrote) output-then scratch-then) d.end_is w)
-    (subst (λ (x : LayoutM). Writing x output' scratch' (wroteOf wrote') output-then' scratch-then') d'.end_is w') in
+pub chains_agree : ChainsAgreeClaim
+chains_agree a b end end' ha hb cs ds answers answers' c c' output scratch output-then scratch-then output' scratch' output-then' scratch-then' wrote wrote' w w' =
+    let d = chain_claims.as_defined c in
+    let d' = chain_claims.as_defined c' in
+    let whole = records_agree (modelOf a) (modelOf b) ha hb cs ds output scratch output-then scratch-then output' scratch' output-then' scratch-then' (wroteOf wrote) (wroteOf wrote')
+    (rw d.end_is at (writing end _ _ _ _ _ w)) (rw d'.end_is at (writing end' _ _ _ _ _ w')) in
     record {
-      first-chain = d;
-      first_run = run-as-defined a end cs answers d whole.first.run;
-      second-chain = d';
-      second_run = run-as-defined b end' ds answers' d' whole.second.run;
+      first_chain = d;
+      first_run = rw (d.end_is, d.answers-are) whole.first.run;
+      second_chain = d';
+      second_run = rw (d'.end_is, d'.answers-are) whole.second.run;
       whole = whole;
     }
 
-pub run-calls-demand3 : RunCallsDemand3
-run-calls-demand3 a b ran ran' ha hb cs ds ended ended' r r' output scratch output-then scratch-then output' scratch' output-then' scratch-then' wrote wrote' w w' =
-    demand3 (modelOf a) (modelOf b) ha hb (calls_of cs) (calls_of ds) output scratch output-then scratch-then output' scratch' output-then' scratch-then' (wroteOf wrote) (wroteOf wrote')
-    (subst (λ (x : LayoutM). Writing x output scratch (wroteOf wrote) output-then scratch-then) r.layout_is w)
-    (subst (λ (x : LayoutM). Writing x output' scratch' (wroteOf wrote') output-then' scratch-then') r'.layout_is w')
-
 -- ---- the round trip
 
--- a writer that answered made a record, and the output begins with it
-made-record : (x : LayoutM) (output scratch output-then scratch-then : List ℕ) {n : ℕ} (answer : Outcome ℕ) → Writing x output scratch answer output-then scratch-then → answer ≡ done n
-    → (m : Made) × (written x (length output) (length scratch) ≡ done m) × (output-then ≡ m.bytes ++ drop (length m.bytes) output)
-unfolding writeAnswer
-made-record x output scratch output-then scratch-then {n} answer w e = by (written x (length output) (length scratch)) refl (sym w.answer-is ∙ e) w.output-is
-  where
-    by : (o : Outcome Made) → written x (length output) (length scratch) ≡ o → writeAnswer o ≡ done n → output-then ≡ outputAfter o output
-        → (m : Made) × (written x (length output) (length scratch) ≡ done m) × (output-then ≡ m.bytes ++ drop (length m.bytes) output)
-    by (done m) q r s = (m, q, s)
-    by (refused number values) q r s = absurd (clash (sym r))
+-- what was written is read as the normal form
+read_back : (x : LayoutM) (output scratch output-then scratch-then : List ℕ) (n : ℕ) → Accepted x → Writing x output scratch (done n) output-then scratch-then
+    → (words : ℕ) → wordsNeeded (normalOf x).axes ≤ words → layout_read (read_of output-then words) ≡ done (withBuffer (normalOf x))
+read_back x output scratch output-then scratch-then n a w words h =
+    let f = fronted w in
+    let t = round_trip.write_read x (length output) (length scratch) words f.made (drop (length f.made.bytes) output) a f.was h in
+    ap layout_read (ap (λ (bytes : List ℕ). read_of bytes words) f.begins ∙ t.1) ∙ ap done t.2
 
 -- a reader that answered a layout read it
 read_done : {l : LayoutM} (o : Outcome WasRead) → done l ≡ layout_read o → (w : WasRead) × (o ≡ done w) × (l ≡ w.layout)
 read_done (done w) e = (w, refl, cc)
-read_done (refused number values) e = absurd (clash e)
+read_done (refused number values) e = absurd cc
 
-pub running-round-trip : RunningRoundTrip
+-- a layout that was read is written as the front of the bytes
+written_back : (bytes scratch : List ℕ) (x : LayoutM) → Bytes bytes → done x ≡ layout_read (read_of bytes (length scratch))
+    → (output scratch' output-then scratch-then' : List ℕ) (answer : Outcome ℕ) → wordsNeeded x.axes ≤ length scratch' → length_field bytes ≤ length output
+    → Writing x output scratch' answer output-then scratch-then'
+    → (answer ≡ done (length_field bytes)) × (take (length_field bytes) output-then ≡ take (length_field bytes) bytes)
 unfolding writeAnswer
-running-round-trip = record {
+written_back bytes scratch x b r output scratch' output-then scratch-then' answer h k w =
+    let d = read_done (read_of bytes (length scratch)) r in
+    let t = round_trip.read-write bytes (length output) (length scratch) (length scratch') d.0 b d.1 k (rw d.2 at h) in
+    let e : written x (length output) (length scratch') ≡ done t.0 = ap (λ (l : LayoutM). written l (length output) (length scratch')) d.2 ∙ t.1 in
+    let f = (reads bytes (length scratch) d.0 d.1).whole.fields in
+    let n : length t.0.bytes ≡ length_field bytes = ap length t.2 ∙ length-take-le (length_field bytes) bytes (omega (arith, f.length-is, f.whole-there)) in (
+      w.answer-is ∙ ap writeAnswer e ∙ ap done n,
+      ap (take (length_field bytes)) (w.output-is ∙ ap (λ (o : Outcome Made). outputAfter o output) e) ∙ take_at t.0.bytes (drop (length t.0.bytes) output) (length_field bytes) n ∙ t.2,
+    )
+
+pub running_round_trip : RunningRoundTrip
+running_round_trip = record {
   write_read = λ l output scratch output-then scratch-then wrote n a w e scratch' scratch-then' answer h r.
-      let m = made-record (modelOf l) output scratch output-then scratch-then (wroteOf wrote) w e in
-      let t = round_trip.write_read (modelOf l) (length output) (length scratch) (length scratch') m.0 (drop (length m.0.bytes) output) a m.1 h in
-      let q : read_of output-then (length scratch') ≡ done t.0 = ap (λ (b : List ℕ). read_of b (length scratch')) m.2 ∙ t.1 in
-      r.answer-is ∙ ap layout_read q ∙ ap (λ (x : LayoutM). done x) t.2;
-  read-write = λ bytes scratch scratch-then l b r output scratch' output-then scratch-then' answer h k w.
-      let d = read_done (read_of bytes (length scratch)) r.answer-is in
-      let enough : wordsNeeded d.0.layout.axes ≤ length scratch' = subst (λ (x : LayoutM). wordsNeeded x.axes ≤ length scratch') d.2 h in
-      let t = round_trip.read-write bytes (length output) (length scratch) (length scratch') d.0 b d.1 k enough in
-      let o : output-then ≡ t.0.bytes ++ drop (length t.0.bytes) output
-      = w.output-is ∙ ap (λ (x : LayoutM). outputAfter (written x (length output) (length scratch')) output) d.2 ∙ ap (λ (x : Outcome Made). outputAfter x output) t.1 in
-      let f = (reads bytes (length scratch) d.0 d.1).whole.fields in
-      let n : length t.0.bytes ≡ numberFrom bytes 0 2 = ap length t.2 ∙ length-take-le (numberFrom bytes 0 2) bytes (omega (arith, f.length-is, f.whole-there)) in (
-        w.answer-is ∙ ap (λ (x : LayoutM). writeAnswer (written x (length output) (length scratch'))) d.2 ∙ ap writeAnswer t.1 ∙ ap done n,
-        ap (take (numberFrom bytes 0 2)) o ∙ take_at t.0.bytes (drop (length t.0.bytes) output) (numberFrom bytes 0 2) n ∙ t.2,
-      );
+      r.answer-is ∙ read_back (modelOf l) output scratch output-then scratch-then n a (rw e at (writing l output scratch wrote output-then scratch-then w)) (length scratch') h;
+  read_write = λ bytes scratch scratch-then l b r output scratch' output-then scratch-then' wrote h k w.
+      written_back bytes scratch (modelOf l) b r.answer-is output scratch' output-then scratch-then' (wroteOf wrote) h k (writing l output scratch' wrote output-then scratch-then' w);
 }

@@ -1,9 +1,14 @@
--- The normal form by its parts: whether an axis goes on where the last of some axes ends.
-use Rattle.std.specs.Prelude.{Bool, not, ◌&&◌, List, ◌-◌, eqb, length}
+-- The pass from the left: what one axis more at the end comes to.
+use Rattle.std.specs.Prelude.{List, [], ◌∷◌, ◌==◌, if◌then◌else◌}
 use Rattle.specification.specs.Axis.{Axis}
-use Rattle.specification.specs.Normal.{continues}
-use Rattle.specification.specs.Views.{axisAt}
+use Rattle.specification.specs.Normal.{mergeInto}
 
--- there is a last axis, and this one continues it
-abbrev pub continues_last : List Axis → Axis → Bool
-continues_last stored a = not (eqb (length stored) 0) && continues (axisAt stored (length stored - 1)) a
+-- an axis behind merged axes: the last one takes it, if it continues that
+unfoldable pub with_last : List Axis → Axis → List Axis
+with_last [] b = b ∷ []
+with_last (a ∷ []) b = mergeInto a (b ∷ [])
+with_last (a ∷ c ∷ rest) b = a ∷ with_last (c ∷ rest) b
+
+-- an axis of extent 1 is dropped first
+abbrev pub with_axis : List Axis → Axis → List Axis
+with_axis axes b = if b.extent == 1 then axes else with_last axes b

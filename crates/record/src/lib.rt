@@ -2,7 +2,11 @@
 //! and lists of calls.
 #![tactic(auto)]
 
-ghost use Rattle.record.specs.Claims.{Claims};
+ghost use Rattle.specification.specs.ByteClaims.{ByteClaims};
+ghost use Rattle.specification.specs.RecordClaims.{WriterClaims, ReaderClaims, RoundTrip, SteppingClaims};
+ghost use Rattle.specification.specs.RecordsAgree.{RecordsAgreeClaim};
+ghost use Rattle.record.specs.Chain.{ChainClaims};
+ghost use Rattle.record.specs.Running.{ChainsAgreeClaim, RunningRoundTrip};
 
 pub mod calls;
 pub mod fields;
@@ -10,12 +14,29 @@ pub mod form;
 pub mod normal;
 pub mod read;
 pub mod reader;
+pub mod same;
 pub mod step;
 pub mod writer;
 
-/// Does nothing, and promises every claim about call lists and running code: the check refuses it
-/// unless each has its proof.
-#[tactic(auto, using(crate::proofs::Proved::proved))]
-pub fn claims_hold()
-    ensures { Claims }
+/// Does nothing, and promises what the definitions of the record say: its bytes, digit by digit,
+/// what the writer frees, what the reader takes for a record, both ways of the round trip, and
+/// stepping over.
+#[tactic(auto, using(specification::proofs::ByteLaws::byte_claims, specification::proofs::WriterAnswers::writer_claims, specification::proofs::ReaderAnswers::reader_claims, specification::proofs::RoundTripLaws::round_trip, specification::proofs::SteppingOver::stepping_claims))]
+pub fn records_hold()
+    ensures bytes { ByteClaims }
+    ensures writer { WriterClaims }
+    ensures reader { ReaderClaims }
+    ensures round_trips { RoundTrip }
+    ensures stepping { SteppingClaims }
+{}
+
+/// Does nothing, and promises what calls made one after another come to: every chain of calls is
+/// the definition's list; the records behind two chains are equal exactly where the end layouts
+/// have the same offsets; what was written is read back, and what was read is written back.
+#[tactic(auto, using(crate::proofs::ChainLaws::chain_claims, crate::proofs::RunningLaws::running_round_trip))]
+pub fn calls_hold()
+    ensures chains { ChainClaims }
+    ensures agree { RecordsAgreeClaim }
+    ensures running_agree { ChainsAgreeClaim }
+    ensures running_round_trips { RunningRoundTrip }
 {}

@@ -1,9 +1,10 @@
 //! The normal form of a layout: axes of extent 1 dropped, neighbours merged.
-ghost use Rattle.std.specs.Prelude.{true, false, ◌≡◌, ◌≤◌, length};
-ghost use Rattle.specification.specs.Axis.{is_empty};
-ghost use Rattle.specification.specs.Normal.{continues, normalAxes, normalOf, overfull, normalForm};
-ghost use Rattle.view.specs.Model.{modelOf, first_axes, layout_outcome};
-ghost use Rattle.record.specs.Normal.{continues_last};
+ghost use Rattle.std.specs.Prelude.{◌≡◌, ◌≤◌, ◌<◌, ◌+◌, ◌*◌, ◌^◌};
+ghost use Rattle.specification.specs.Axis.{positions};
+ghost use Rattle.specification.specs.Normal.{continues, normalOf, normalForm};
+ghost use Rattle.specification.specs.Views.{withAxes};
+ghost use Rattle.view.specs.Model.{modelOf, layout_outcome};
+ghost use Rattle.record.specs.Normal.{with_axis};
 
 use axis::Axis;
 use integer::signed::checked_mul;
@@ -12,61 +13,56 @@ use view::layout::{Layout, MOST_AXES, NO_AXIS, ReadingOffset, Refusal};
 
 /// Whether an axis goes on where the one before it ends: its stride is their extent × stride.
 /// A product that 64 bits do not hold equals no stride.
+#[tactic(auto, using(crate::proofs::MergeLaws::continues_tested))]
 pub(crate) fn continues(before: Axis, axis: Axis) -> bool
     ensures { result ≡ continues before axis }
 {
     checked_mul(before.stride, before.extent) == Some(axis.stride)
 }
 
-/// Whether an axis goes on where the last one stored ends.
-fn continues_last(stored: &[Axis], axis: Axis) -> bool
-    ensures { result ≡ continues_last stored.now axis }
+/// One axis more at the end: dropped if its extent is 1, merged into the last one if it continues
+/// that, else stored behind it.
+#[tactic(auto, using(crate::proofs::MergeLaws::appended))]
+fn append(form: &mut Layout, axis: Axis)
+    requires room { form.old.rank < 16 }
+    requires full { 0 < positions (modelOf form.old).axes }
+    requires within { positions (modelOf form.old).axes * axis.extent < 2 ^ 64 }
+    ensures rank { form.new.rank ≤ form.old.rank + 1 }
+    ensures form { modelOf form.new
+        ≡ withAxes (modelOf form.old) (with_axis (modelOf form.old).axes axis) }
 {
-    stored.last().is_some_and(|last| continues(*last, axis))
-}
-
-/// One pass from the left: how many axes come to stand in the first places. The last one stored is
-/// in hand: an axis that continues it is merged into it, another is stored behind it.
-fn merge_into(merged: &mut [Axis; 16], axes: &[Axis]) -> usize
-    requires few { length axes.now ≤ 16 }
-    requires full { is_empty axes.now ≡ false }
-    requires within { overfull axes.now ≡ false }
-    ensures few { result ≤ 16 }
-    ensures axes { first_axes merged.new result ≡ normalAxes axes.now }
-{
-    let mut stored = 0;
-    for axis in axes {
-        if axis.extent == 1 {
-            continue;
-        }
-        if continues_last(&merged[..stored], *axis) {
-            merged[stored - 1].extent *= axis.extent;
-        } else {
-            merged[stored] = *axis;
-            stored += 1;
-        }
+    if axis.extent == 1 {
+        return;
     }
-    stored
+    if 0 < form.rank && continues(form.axes[form.rank - 1], axis) {
+        form.axes[form.rank - 1].extent *= axis.extent;
+    } else {
+        form.axes[form.rank] = axis;
+        form.rank += 1;
+    }
 }
 
-/// The normal form where there is a position.
-#[tactic(auto, using(view::proofs::AxesLaws::length_first_axes, specification::proofs::NormalLaws::normal_of_full))]
+/// The normal form where there is a position: one pass from the left.
+#[tactic(auto, using(crate::proofs::MergeLaws::passed))]
 fn merged(layout: &Layout) -> Layout
     requires few { layout.now.rank ≤ 16 }
-    requires full { is_empty (modelOf layout.now).axes ≡ false }
-    requires within { overfull (modelOf layout.now).axes ≡ false }
+    requires full { 0 < positions (modelOf layout.now).axes }
+    requires within { positions (modelOf layout.now).axes < 2 ^ 64 }
     ensures { modelOf result ≡ normalOf (modelOf layout.now) }
 {
-    let mut form = *layout;
-    form.rank = merge_into(&mut form.axes, layout.axes());
+    let axes = layout.axes();
+    let mut form = Layout { rank: 0, ..*layout };
+    for axis in axes {
+        append(&mut form, *axis);
+    }
     form
 }
 
 /// The normal form where there is no position: one axis, extent 0, stride 0, offset 0; the buffer
 /// length stays.
-#[tactic(auto, unfolding(specification::specs::Normal::normalOf, view::specs::Table::table))]
+#[tactic(auto, using(crate::proofs::MergeLaws::no_position), unfolding(view::specs::Table::table))]
 fn empty_form(layout: &Layout) -> Layout
-    requires { is_empty (modelOf layout.now).axes ≡ true }
+    requires { positions (modelOf layout.now).axes ≡ 0 }
     ensures { modelOf result ≡ normalOf (modelOf layout.now) }
 {
     Layout {
@@ -79,6 +75,7 @@ fn empty_form(layout: &Layout) -> Layout
 
 /// The normal form, with the same buffer length in readings. Refusal 1 is more than 16 axes, 3 an
 /// offset outside the buffer, 8 more than 2^64 - 1 positions.
+#[tactic(auto, using(crate::proofs::NormalAnswers::by_tests))]
 pub fn normal_form(layout: &Layout) -> Result<Layout, Refusal>
     ensures { layout_outcome result ≡ normalForm (modelOf layout.now) }
 {

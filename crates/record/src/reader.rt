@@ -1,16 +1,13 @@
 //! The reader's first part: a whole record at the front of bytes, up to the verdict that its byte
 //! claims.
-ghost use Rattle.std.specs.Prelude.{◌≡◌, ◌≤◌, ◌+◌, length};
-ghost use Rattle.specification.specs.Record.{recordLength};
-ghost use Rattle.view.specs.Model.{modelOf};
-ghost use Rattle.record.specs.Fields.{axis_told};
-ghost use Rattle.record.specs.Reader.{head_told, layout_told, frontOf, front_outcome};
+ghost use Rattle.std.specs.Prelude.{◌≡◌, ◌≤◌, ◌+◌, ◌*◌, length, take, option_map, IfSome};
+ghost use Rattle.specification.specs.Record.{recordLength, axesFrom, head_length, axis_length, number_at};
+ghost use Rattle.record.specs.Reader.{axis_told, head_told, front_told, front_model};
 
 use crate::fields::{AXIS_BYTES, HEAD_BYTES, OFFSET_PLACE, VERSION, record_length};
 use crate::form::buffer_length;
 use crate::step::length_field;
 use axis::Axis;
-use big_endian::{BytePlace, from_twos, u64_at};
 use view::layout::{Layout, MOST_AXES, NO_AXIS, ReadingOffset};
 
 /// What the first bytes of a record tell: the byte of its verdict, and how many axes follow.
@@ -51,47 +48,69 @@ pub fn read_head(bytes: &[u8]) -> Option<Head>
     })
 }
 
-/// The axis that the 16 bytes from a place on hold.
-fn axis_at(bytes: &[u8], at: BytePlace) -> Axis
-    requires { at.0 + 16 ≤ length bytes.now }
-    ensures { result ≡ axis_told bytes.now at.0 }
+/// The number that the 8 bytes from a place on hold.
+#[tactic(auto, unfolding(specification::specs::Record::number_at))]
+fn number_at(bytes: &[u8], place: usize) -> u64
+    requires { place + 8 ≤ length bytes.now }
+    ensures { result ≡ number_at bytes.now place }
+{
+    u64::from_be_bytes(*bytes[place..].first_chunk::<8>().unwrap())
+}
+
+/// The axis that the bytes from a place on hold: extent, then stride.
+fn axis_at(bytes: &[u8], place: usize) -> Axis
+    requires { place + axis_length ≤ length bytes.now }
+    ensures { result ≡ axis_told bytes.now place }
 {
     Axis {
-        extent: u64_at(bytes, at),
-        stride: from_twos(u64_at(bytes, BytePlace(at.0 + 8))),
+        extent: number_at(bytes, place),
+        stride: number_at(bytes, place + 8).cast_signed(),
     }
 }
 
-/// The offset and the axes that the fields tell; the buffer length is not set yet.
-#[tactic(auto, using(crate::proofs::FrontLaws::axesFrom_none, view::proofs::AxesLaws::first_axes_take))]
-fn layout_at_front(bytes: &[u8], rank: usize) -> Layout
+/// The axes that the bytes from a place on hold, one behind the other.
+#[tactic(auto, unfolding(specification::specs::Record::axesFrom))]
+fn read_axes(axes: &mut [Axis], bytes: &[u8], place: usize)
+    requires { place + axis_length * length axes.old ≤ length bytes.now }
+    ensures { axes.new ≡ axesFrom bytes.now place (length axes.old) }
+{
+    let Some((axis, axes)) = axes.split_first_mut() else {
+        return;
+    };
+    *axis = axis_at(bytes, place);
+    read_axes(axes, bytes, place + AXIS_BYTES);
+}
+
+/// The axes that the fields of a record tell, in the first places.
+#[tactic(auto, using(std::proofs::lemmas::List::take_at))]
+fn axes_at_front(bytes: &[u8], rank: usize) -> [Axis; MOST_AXES]
     requires few { rank ≤ 16 }
     requires whole { recordLength rank ≤ length bytes.now }
-    ensures { modelOf result ≡ layout_told bytes.now rank }
+    ensures { take rank result ≡ axesFrom bytes.now head_length rank }
 {
     let mut axes = [NO_AXIS; MOST_AXES];
-    for i in 0..rank {
-        axes[i] = axis_at(bytes, BytePlace(HEAD_BYTES + AXIS_BYTES * i));
-    }
-    Layout {
-        len: 0,
-        offset: ReadingOffset(from_twos(u64_at(bytes, OFFSET_PLACE))),
-        rank,
-        axes,
-    }
+    read_axes(&mut axes[..rank], bytes, HEAD_BYTES);
+    axes
 }
 
 /// The layout of a whole record at the front, and the verdict that it claims; none, where the bytes
 /// are no record of a normal form.
-#[tactic(auto, using(view::proofs::AxesLaws::length_first_axes, crate::proofs::FrontLaws::fronts))]
+#[tactic(auto, using(view::proofs::AxesLaws::first_axes_take, crate::proofs::FrontLaws::fronts))]
 pub fn read_front(bytes: &[u8]) -> Option<Front>
-    ensures { front_outcome result ≡ frontOf bytes.now }
+    ensures told { option_map front_model result ≡ front_told bytes.now }
+    ensures few { IfSome result (λ front. front.layout.rank ≤ 16) }
 {
-    let head = read_head(bytes)?;
-    let mut layout = layout_at_front(bytes, head.rank);
-    layout.len = buffer_length(&layout)?;
+    let Head { verdict, rank } = read_head(bytes)?;
+    let offset = ReadingOffset(number_at(bytes, OFFSET_PLACE).cast_signed());
+    let axes = axes_at_front(bytes, rank);
+    let len = buffer_length(offset, &axes[..rank])?;
     Some(Front {
-        layout,
-        verdict: head.verdict,
+        layout: Layout {
+            len,
+            offset,
+            rank,
+            axes,
+        },
+        verdict,
     })
 }

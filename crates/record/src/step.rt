@@ -6,14 +6,12 @@ ghost use Rattle.record.specs.Reader.{length_told};
 use crate::fields::HEAD_BYTES;
 
 /// The length field: the number that the first 2 bytes hold, where there are so many.
-#[tactic(auto, using(crate::proofs::FieldLaws::number_of_two))]
+#[tactic(auto, unfolding(specification::specs::Record::length_field))]
 pub(crate) fn length_field(bytes: &[u8]) -> Option<usize>
     ensures { result ≡ length_told bytes.now }
 {
-    let [high, low, ..] = bytes else {
-        return None;
-    };
-    Some(usize::from(u16::from_be_bytes([*high, *low])))
+    let length = bytes.first_chunk::<2>()?;
+    Some(usize::from(u16::from_be_bytes(*length)))
 }
 
 /// The bytes behind the record at the front; an empty part at the end where the length field is

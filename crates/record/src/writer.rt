@@ -2,14 +2,12 @@
 ghost use Rattle.std.specs.Prelude.{[], ◌<◌, ◌≤◌, length};
 ghost use Rattle.specification.specs.Outcome.{refused};
 ghost use Rattle.specification.specs.Verdict.{judge};
-ghost use Rattle.specification.specs.Record.{Writing};
 ghost use Rattle.view.specs.Model.{modelOf};
 ghost use Rattle.injectivity.specs.Judgement.{JudgedAs};
-ghost use Rattle.record.specs.Writer.{wroteOf};
+ghost use Rattle.record.specs.Writer.{Wrote};
 
-use crate::fields::{put_record, record_length};
+use crate::fields::{BytePlace, put_record, record_length};
 use crate::normal::normal_form;
-use big_endian::BytePlace;
 use injectivity::{Judgement, is_injective_axes};
 use view::layout::{Layout, MOST_AXES, Refusal};
 
@@ -33,18 +31,17 @@ pub fn judge_layout(layout: &Layout, scratch: &mut [u64]) -> Result<Judgement, R
 /// form, then 10 is an output of fewer bytes than the record has, 9 a scratch of fewer words than
 /// the verdict needs; then the output stays, and every word of the scratch. Else the words past
 /// those needed stay.
+#[tactic(auto, using(crate::proofs::WriterLaws::writings), unfolding(specification::specs::Record::written, specification::specs::Record::writeAnswer, specification::specs::Record::writeFrees, specification::specs::Verdict::freedBy))]
 pub fn write_record(
     layout: &Layout,
     out: &mut [u8],
     scratch: &mut [u64],
 ) -> Result<BytePlace, Refusal>
-    ensures { Writing (modelOf layout.now) out.old scratch.old
-        (wroteOf result) out.new scratch.new }
+    ensures { Wrote layout.now out.old scratch.old result out.new scratch.new }
 {
     let form = normal_form(layout)?;
     let size = record_length(form.rank);
-    let short = out.len() < size;
-    if short {
+    if out.len() < size {
         return Err(Refusal::ShortOutput(size));
     }
     let judged = judge_layout(&form, scratch)?;

@@ -8,7 +8,7 @@ ghost use Rattle.record.specs.Writer.{wroteOf};
 ghost use Rattle.strided.specs.Crossing.{number_after, places, values_after, written_after, result_after};
 
 use crate::crossing::{Values, refuse};
-use big_endian::BytePlace;
+use record::fields::BytePlace;
 use record::read::read_record;
 use record::step::step_over;
 use record::writer::write_record;

@@ -5,4 +5,4 @@ use Rattle.record.specs.Calls.{call_in}
 use Rattle.record.proofs.calls.run.Given as goal
 
 abbrev pub invariant-loop-call : goal.invariant-loop-call
-invariant-loop-call l = end_of (modelOf l.layout) (drop l.call-index (map call_in l.calls)) ≡ end_of (modelOf l.fn.start) (map call_in l.calls)
+invariant-loop-call l = end_of (modelOf l.layout) (map call_in (drop l.call-index l.calls)) ≡ end_of (modelOf l.fn.start) (map call_in l.calls)

@@ -1,2 +1,0 @@
-pub mod TwosLaws
-pub mod NumberLaws
