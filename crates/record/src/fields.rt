@@ -12,11 +12,11 @@ use view::layout::Layout;
 #[derive(Clone, Copy, Debug, PartialEq, Eq, PartialOrd, Ord)]
 pub struct BytePlace(pub usize);
 
-/// The bytes before the offset: length of the whole (2), version (1), verdict (1), rank (1).
-pub(crate) const OFFSET_PLACE: usize = 5;
+/// Where the offset stands: behind length of the whole (2), version (1), verdict (1), rank (1).
+pub(crate) const OFFSET_PLACE: BytePlace = BytePlace(5);
 
 /// The bytes before the axes: those, and the offset (8).
-pub(crate) const HEAD_BYTES: usize = OFFSET_PLACE + 8;
+pub(crate) const HEAD_BYTES: usize = OFFSET_PLACE.0 + 8;
 
 /// The bytes of an axis: extent (8), stride (8).
 pub(crate) const AXIS_BYTES: usize = 16;
@@ -40,7 +40,7 @@ fn put_head(head: &mut [u8], layout: &Layout, verdict: u8)
     ensures { head.new ≡ headBytes (modelOf layout.now) verdict }
 {
     let [high, low] = (record_length(layout.rank) as u16).to_be_bytes();
-    let (fields, offset) = head.split_at_mut(OFFSET_PLACE);
+    let (fields, offset) = head.split_at_mut(OFFSET_PLACE.0);
     fields.copy_from_slice(&[high, low, VERSION, verdict, layout.rank as u8]);
     offset.copy_from_slice(&layout.offset.0.to_be_bytes());
 }

@@ -4,7 +4,7 @@ ghost use Rattle.std.specs.Prelude.{◌≡◌, ◌≤◌, ◌+◌, ◌*◌, leng
 ghost use Rattle.specification.specs.Record.{recordLength, axesFrom, head_length, axis_length, number_at};
 ghost use Rattle.record.specs.Reader.{axis_told, head_told, front_told, front_model};
 
-use crate::fields::{AXIS_BYTES, HEAD_BYTES, OFFSET_PLACE, VERSION, record_length};
+use crate::fields::{AXIS_BYTES, BytePlace, HEAD_BYTES, OFFSET_PLACE, VERSION, record_length};
 use crate::form::buffer_length;
 use crate::step::length_field;
 use axis::Axis;
@@ -50,35 +50,35 @@ pub fn read_head(bytes: &[u8]) -> Option<Head>
 
 /// The number that the 8 bytes from a place on hold.
 #[tactic(auto, unfolding(specification::specs::Record::number_at))]
-fn number_at(bytes: &[u8], place: usize) -> u64
-    requires { place + 8 ≤ length bytes.now }
-    ensures { result ≡ number_at bytes.now place }
+fn number_at(bytes: &[u8], at: BytePlace) -> u64
+    requires { at.0 + 8 ≤ length bytes.now }
+    ensures { result ≡ number_at bytes.now at.0 }
 {
-    u64::from_be_bytes(*bytes[place..].first_chunk::<8>().unwrap())
+    u64::from_be_bytes(*bytes[at.0..].first_chunk::<8>().unwrap())
 }
 
 /// The axis that the bytes from a place on hold: extent, then stride.
-fn axis_at(bytes: &[u8], place: usize) -> Axis
-    requires { place + axis_length ≤ length bytes.now }
-    ensures { result ≡ axis_told bytes.now place }
+fn axis_at(bytes: &[u8], at: BytePlace) -> Axis
+    requires { at.0 + axis_length ≤ length bytes.now }
+    ensures { result ≡ axis_told bytes.now at.0 }
 {
     Axis {
-        extent: number_at(bytes, place),
-        stride: number_at(bytes, place + 8).cast_signed(),
+        extent: number_at(bytes, at),
+        stride: number_at(bytes, BytePlace(at.0 + 8)).cast_signed(),
     }
 }
 
 /// The axes that the bytes from a place on hold, one behind the other.
 #[tactic(auto, unfolding(specification::specs::Record::axesFrom))]
-fn read_axes(axes: &mut [Axis], bytes: &[u8], place: usize)
-    requires { place + axis_length * length axes.old ≤ length bytes.now }
-    ensures { axes.new ≡ axesFrom bytes.now place (length axes.old) }
+fn read_axes(axes: &mut [Axis], bytes: &[u8], at: BytePlace)
+    requires { at.0 + axis_length * length axes.old ≤ length bytes.now }
+    ensures { axes.new ≡ axesFrom bytes.now at.0 (length axes.old) }
 {
     let Some((axis, axes)) = axes.split_first_mut() else {
         return;
     };
-    *axis = axis_at(bytes, place);
-    read_axes(axes, bytes, place + AXIS_BYTES);
+    *axis = axis_at(bytes, at);
+    read_axes(axes, bytes, BytePlace(at.0 + AXIS_BYTES));
 }
 
 /// The axes that the fields of a record tell, in the first places.
@@ -89,7 +89,7 @@ fn axes_at_front(bytes: &[u8], rank: usize) -> [Axis; MOST_AXES]
     ensures { take rank result ≡ axesFrom bytes.now head_length rank }
 {
     let mut axes = [NO_AXIS; MOST_AXES];
-    read_axes(&mut axes[..rank], bytes, HEAD_BYTES);
+    read_axes(&mut axes[..rank], bytes, BytePlace(HEAD_BYTES));
     axes
 }
 
