@@ -1,2 +1,4 @@
-pub mod Lines
 pub mod Listed
+pub mod Shown
+pub mod ScratchLaws
+pub mod RecordText

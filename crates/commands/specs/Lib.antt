@@ -1,7 +1,6 @@
-pub mod Ended
-pub mod Names
-pub mod Obeyed
-pub mod Replies
-pub mod Spelled
+pub mod Commands
 pub mod Texts
 pub mod Words
+pub mod Spelled
+pub mod Obeyed
+pub mod Scratch

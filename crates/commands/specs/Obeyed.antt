@@ -1,127 +1,275 @@
--- What a command answers, by what its words spell and by what the call that it makes answers. Assumes nothing.
-use Rattle.std.specs.Prelude.{ℕ, ℤ, List, ◌≡◌, ◌⊎◌, Result, Ok, Err, length, take, replicate}
-use Rattle.view.specs.declared.layout.Refusal.{Refusal}
-use Rattle.view.specs.declared.layout.Layout.{Layout}
-use Rattle.view.specs.Answers.{outcome_by, outcomeOf, answer_of}
-use Rattle.record.specs.Writer.{wroteOf}
-use Rattle.specification.specs.Layout.{LayoutM}
-use Rattle.specification.specs.Record.{Writing}
-use Rattle.specification.specs.Beside.{indexOrder}
-use Rattle.dense.specs.declared.DenseStrides.{DenseStrides}
-use Rattle.auxiliary.specs.Order.{Ordered}
-use Rattle.view.specs.Model.{modelOf}
-use Rattle.specification.specs.Outcome.{Outcome, done, pass}
-use Rattle.specification.specs.Views.{After}
-use Rattle.commands.specs.declared.fault.Fault.{Fault}
-use Rattle.commands.specs.declared.fault.Fault.TheVariants.{Refused}
-use Rattle.commands.specs.declared.fault.Problem.{Problem}
-use Rattle.commands.specs.declared.fault.Problem.TheVariants as problem
+-- What a command answers, and the layout after it: each by the definition of the call that it makes. Assumes nothing.
+use Rattle.std.specs.Prelude.{ℕ, ℤ, List, [], ◌∷◌, ◌==◌, length, take, codes, string_bytes, Option, Some, None, Ok, Err, if◌then◌else◌}
+use Rattle.std.specs.Fmt.{decimal, signed_decimal}
+use Rattle.specification.specs.Axis.{axesOf}
+use Rattle.specification.specs.Outcome.{Outcome, done, refused, refuseIf, ◌>>◌}
+use Rattle.specification.specs.Layout.{LayoutM, tooLong}
+use Rattle.specification.specs.CheckIn.{checkIn}
+use Rattle.specification.specs.Views.{After, permute, broadcast, diagonalView}
+use Rattle.specification.specs.Normal.{normalForm}
+use Rattle.specification.specs.Verdict.{Judged, judge, verdict}
+use Rattle.specification.specs.Record.{written, read_of, rest_of}
+use Rattle.specification.specs.Beside.{colMajor, rowMajor, indexOrder, indexedOffset}
+use Rattle.view.specs.Model.{modelOf, modelFrom, first_axes}
+use Rattle.view.specs.Ties.{pairsIn}
+use Rattle.record.specs.Reading.{layout_read}
+use Rattle.injectivity.specs.Judgement.{toldOf, verdict_told}
+use Rattle.commands.specs.declared.command.Command.{Command}
+use Rattle.commands.specs.declared.command.Command.TheVariants.{New, Bounds, Set, Show, Permute, Diagonal, Broadcast, Offset, Normal, Verdict, Injective, Record, Read, Rest, Order, Column, Row, Help}
+use Rattle.commands.specs.declared.fault.Form.TheVariants.{Unsigned, Signed, Pair, Lent}
 use Rattle.commands.specs.declared.reply.Reply.{Reply}
 use Rattle.commands.specs.declared.reply.Reply.TheVariants as reply
-use Rattle.commands.specs.declared.spelled.Lent.{Lent}
-use Rattle.commands.specs.declared.fault.Form.TheVariants as form
-use Rattle.injectivity.specs.declared.Judgement.{Judgement}
-use Rattle.injectivity.specs.Judgement as judgement
-use Rattle.commands.specs.Replies.{IsBytes}
-use Rattle.commands.specs.Spelled.{unsigned, signed, lent}
-use Rattle.commands.specs.declared.word.Word.{Word}
-use Rattle.commands.specs.Words.{Told, ◌>>=◌, Numbered, list_of, one_of, bytes_of}
+use Rattle.commands.specs.Commands.{commands, named, help_line}
+use Rattle.commands.specs.Spelled.{unsigned, signed, lent, pair}
+use Rattle.commands.specs.Texts.{refusal_text, unknown_command, unequal_lists, joined, list_text, layout_text, bytes_text, verdict_text}
+use Rattle.commands.specs.Words.{Told, ◌>>=◌, Numbered, no_word, one_word, two_words, four_words, up_to_one_word, one_or_two_words, two_or_three_words, one_of, list_of, bytes_of}
 
--- the fault is a refusal of the call's
-abbrev pub IsRefusal : {X : Type 0} → (Result X Refusal → Type 0) → Fault → Type 0
-IsRefusal Answers fault = (why : Refusal) × (fault ≡ Refused why) × Answers (Err why)
+-- what a call answers, or its refusal as a text
+abbrev pub told : {A : Type 0} → Outcome A → Told A
+told (done x) = Ok x
+told (refused number values) = Err (refusal_text number values)
 
--- a call's answer, its refusal told; no memory is asked for
-abbrev pub Tells : {X : Type 0} → Result X Problem → (Result X Refusal → Type 0) → Type 0
-Tells (Ok x) Answers = Answers (Ok x)
-Tells (Err problem.Memory) Answers = ⊥
-Tells (Err (problem.Told fault)) Answers = IsRefusal Answers fault
+-- the layout that a view hands back, or its refusal
+abbrev pub told_after : After → Told LayoutM
+told_after a = told a.answer >>= λ _. Ok a.layout
 
--- the answer of a call with what the words spell, or the first fault of the words; unless memory ran out
-abbrev pub Obeys : {W X : Type 0} → Result X Problem → Told W → (W → Result X Refusal → Type 0) → Type 0
-Obeys {W} (Ok x) words Answers = (w : W) × (words ≡ Ok w) × Answers w (Ok x)
-Obeys (Err problem.Memory) words Answers = Unit {0}
-Obeys {W} (Err (problem.Told fault)) words Answers = (words ≡ Err fault) ⊎ ((w : W) × (words ≡ Ok w) × IsRefusal (Answers w) fault)
+-- ---- the commands that change the layout
 
--- an answer is the outcome, as a reply or a refusal
-abbrev pub Replies : {X Y : Type 0} → (X → Reply) → (X → Y) → Outcome Y → Result Reply Refusal → Type 0
-Replies {X} reply view outcome (Ok r) = (x : X) × (r ≡ reply x) × (outcome ≡ done (view x))
-Replies reply view outcome (Err why) = outcome ≡ outcome_by view (Err why)
-
--- an answer is the layout after a view, or its refusal
-abbrev pub Views : After → Result Layout Refusal → Type 0
-Views after (Ok l) = after ≡ record { answer = pass; layout = modelOf l }
-Views after (Err why) = after.answer ≡ outcomeOf (Err why)
-
--- an answer is the verdict, or its refusal
-abbrev pub Judges : Outcome judgement.Told → Result Reply Refusal → Type 0
-Judges outcome (Ok r) = (j : Judgement) × (r ≡ reply.Judged j) × (judgement.judgedOf (Ok j) ≡ outcome)
-Judges outcome (Err why) = outcome ≡ judgement.judgedOf (Err why)
-
--- the answer prints these bytes, and is no refusal
-abbrev pub Prints : List ℕ → Result Reply Refusal → Type 0
-Prints bytes (Ok r) = IsBytes bytes r
-Prints bytes (Err why) = ⊥
-
--- an answer is the order of strides among so many places, which were 0, or its refusal
-abbrev pub Orders : List ℤ → ℕ → Result Reply Refusal → Type 0
-Orders strides places (Ok (reply.Order order)) = Ordered strides (replicate places 0) order.items (Ok tt)
-Orders strides places (Ok other) = ⊥
-Orders strides places (Err why) = outcomeOf {A = Unit {0}} (Err why) ≡ answer_of (indexOrder strides places)
-
--- an answer is the strides that a function hands back, or its refusal
-abbrev pub Strides : (Result DenseStrides Refusal → Type 0) → Result Reply Refusal → Type 0
-Strides Hands (Ok (reply.Strides dense)) = Hands (Ok dense)
-Strides Hands (Ok other) = ⊥
-Strides Hands (Err why) = Hands (Err why)
-
--- an answer is the record that the writer puts to the front of so much room with so many words of scratch, or its refusal
-abbrev pub Records : LayoutM → ℕ → ℕ → Result Reply Refusal → Type 0
-Records l room words (Ok r) = (output scratch output-then scratch-then : List ℕ) × (n : ℕ) × (length output ≡ room) × (length scratch ≡ words)
-    × Writing l output scratch (done n) output-then scratch-then × IsBytes (take n output-then) r
-Records l room words (Err why) = (output scratch output-then scratch-then : List ℕ) × (length output ≡ room) × (length scratch ≡ words)
-    × Writing l output scratch (wroteOf (Err why)) output-then scratch-then
-
--- ---- words one after another
-
--- a word as the definitions have it
-abbrev pub numbered : Word → Numbered
-numbered w = (w.number, w.text.now)
-
--- two sizes that are lent
-abbrev pub two_sizes : Numbered × Numbered → Told (ℕ × ℕ)
-two_sizes (a, b) = do
-  room ← one_of lent form.Lent a.0 a.1
-  words ← one_of lent form.Lent b.0 b.1
-  Ok (room.0, words.0)
-
--- a layout's four words
-abbrev pub four_parts : Numbered × Numbered × Numbered × Numbered → Told (ℕ × ℤ × List ℕ × List ℤ)
-four_parts (a, b, c, d) = do
-  len ← one_of unsigned form.Unsigned a.0 a.1
-  offset ← one_of signed form.Signed b.0 b.1
-  extents ← list_of unsigned form.Unsigned c.0 c.1
-  strides ← list_of signed form.Signed d.0 d.1
+-- LEN OFFSET EXTENTS STRIDES
+unfoldable pub four_parts : Numbered × Numbered × Numbered × Numbered → Told (ℕ × ℤ × List ℕ × List ℤ)
+four_parts (len, offset, extents, strides) = do
+  len ← one_of unsigned Unsigned len
+  offset ← one_of signed Signed offset
+  extents ← list_of unsigned Unsigned extents
+  strides ← list_of signed Signed strides
   Ok (len, offset, extents, strides)
 
--- strides and a count of places
-abbrev pub strides_and_count : Numbered × Numbered → Told (List ℤ × ℕ)
-strides_and_count (a, b) = do
-  strides ← list_of signed form.Signed a.0 a.1
-  places ← one_of unsigned form.Unsigned b.0 b.1
-  Ok (strides, places)
+unfoldable pub new_layout : Numbered × Numbered × Numbered × Numbered → Told LayoutM
+new_layout four = do
+  parts ← four_parts four
+  told (checkIn parts.0 parts.1 parts.2 parts.3)
 
--- two lists and a size that is lent
-abbrev pub lists_and_size : Numbered × Numbered × Numbered → Told (List ℕ × List ℤ × Lent)
-lists_and_size (a, b, c) = do
-  extents ← list_of unsigned form.Unsigned a.0 a.1
-  strides ← list_of signed form.Signed b.0 b.1
-  size ← one_of lent form.Lent c.0 c.1
-  Ok (extents, strides, size)
+-- a layout of any rank with no check, its first 16 axes in place
+unfoldable pub unchecked : ℕ → ℤ → List ℕ → List ℤ → Told LayoutM
+unchecked len offset extents strides =
+    if length extents == length strides then Ok (modelFrom len offset (first_axes (axesOf (take 16 extents) (take 16 strides)) (length extents)))
+    else Err unequal_lists
 
--- bytes and a size that is lent
-abbrev pub bytes_and_size : Numbered × Numbered → Told (List ℕ × Lent)
-bytes_and_size (a, b) = do
-  bytes ← bytes_of a.0 a.1
-  size ← one_of lent form.Lent b.0 b.1
-  Ok (bytes, size)
+unfoldable pub set_layout : Numbered × Numbered × Numbered × Numbered → Told LayoutM
+set_layout four = do
+  parts ← four_parts four
+  unchecked parts.0 parts.1 parts.2 parts.3
+
+unfoldable pub permuted : LayoutM → Numbered → Told LayoutM
+permuted l order = do
+  order ← list_of unsigned Unsigned order
+  told_after (permute l order)
+
+unfoldable pub tied : LayoutM → Numbered → Told LayoutM
+tied l pairs = do
+  pairs ← list_of pair Pair pairs
+  told_after (diagonalView l (pairsIn pairs))
+
+unfoldable pub stretched : LayoutM → Numbered → Told LayoutM
+stretched l targets = do
+  targets ← list_of unsigned Unsigned targets
+  told_after (broadcast l targets)
+
+-- WORDS, where the line has them
+abbrev pub words_given : Option Numbered → Told (Option ℕ)
+words_given None = Ok None
+words_given (Some w) = do
+  words ← one_of lent Lent w
+  Ok (Some words.0)
+
+-- as many words of scratch; where WORDS is left out, as many as any verdict can need
+abbrev pub or_most : Option ℕ → ℕ
+or_most None = 16777217
+or_most (Some words) = words
+
+unfoldable pub read_layout : Numbered × Option Numbered → Told LayoutM
+read_layout (bytes, words) = do
+  bytes ← bytes_of bytes
+  words ← words_given words
+  told (layout_read (read_of bytes (or_most words)))
+
+-- ---- the commands that answer and leave the layout
+
+unfoldable pub bounds_text : Numbered × Numbered × Numbered × Numbered → Told (List ℕ)
+bounds_text four = do
+  parts ← four_parts four
+  l ← told (checkIn parts.0 parts.1 parts.2 parts.3)
+  Ok (codes "ok")
+
+unfoldable pub offset_text : LayoutM → Numbered → Told (List ℕ)
+offset_text l index = do
+  index ← list_of unsigned Unsigned index
+  offset ← told (indexedOffset l index)
+  Ok (signed_decimal offset)
+
+unfoldable pub normal_text : LayoutM → Told (List ℕ)
+normal_text l = do
+  form ← told (normalForm l)
+  Ok (layout_text form)
+
+-- a verdict and its count, or a refusal
+unfoldable pub judged_text : Outcome Judged → Told (List ℕ)
+judged_text outcome = do
+  j ← told (toldOf outcome)
+  Ok (verdict_text j.answer j.count)
+
+-- a layout of more than 16 axes is refused as a list of so many is
+unfoldable pub layout_judged : LayoutM → ℕ → Outcome Judged
+layout_judged l words = refuseIf (tooLong l.axes) 1 [] >> judge l.axes words
+
+unfoldable pub verdict_of : LayoutM → Option Numbered → Told (List ℕ)
+verdict_of l words = do
+  words ← words_given words
+  judged_text (layout_judged l (or_most words))
+
+unfoldable pub injective_text : Numbered × Numbered × Option Numbered → Told (List ℕ)
+injective_text (extents, strides, words) = do
+  extents ← list_of unsigned Unsigned extents
+  strides ← list_of signed Signed strides
+  words ← words_given words
+  judged_text (verdict extents strides (or_most words))
+
+unfoldable pub record_text : LayoutM → Numbered × Option Numbered → Told (List ℕ)
+record_text l (room, words) = do
+  room ← one_of lent Lent room
+  words ← words_given words
+  made ← told (written l room.0 (or_most words))
+  Ok (bytes_text made.bytes)
+
+unfoldable pub rest_text : Numbered → Told (List ℕ)
+rest_text bytes = do
+  bytes ← bytes_of bytes
+  Ok (bytes_text (rest_of bytes))
+
+unfoldable pub order_text : Numbered × Numbered → Told (List ℕ)
+order_text (strides, places) = do
+  strides ← list_of signed Signed strides
+  places ← one_of unsigned Unsigned places
+  order ← told (indexOrder strides places)
+  Ok (list_text decimal order)
+
+-- dense strides by a rule
+unfoldable pub dense_text : (List ℕ → Outcome (List ℤ)) → Numbered → Told (List ℕ)
+dense_text rule extents = do
+  extents ← list_of unsigned Unsigned extents
+  strides ← told (rule extents)
+  Ok (list_text signed_decimal strides)
+
+-- each command on a line (10), or the one of a name
+unfoldable pub help_text : Option Numbered → Told (List ℕ)
+help_text None = Ok (joined (10 ∷ []) help_line commands)
+help_text (Some (number, name)) = elim (named name) [
+  | None ↦ Err (unknown_command number name)
+  | Some command ↦ Ok (help_line command)
+]
+
+-- ---- a line
+
+-- a text to print, and the layout afterwards
+pub record Answered : Type 0 where
+  pub text : List ℕ
+  pub layout : LayoutM
+
+abbrev pub changed : LayoutM → Answered
+changed l = record { text = codes "ok"; layout = l }
+
+abbrev pub asked : LayoutM → List ℕ → Answered
+asked l text = record { text = text; layout = l }
+
+-- a command with the words behind its name
+unfoldable pub run : LayoutM → Command → List (List ℕ) → Told Answered
+run l New words = do
+  four ← four_words New words
+  next ← new_layout four
+  Ok (changed next)
+run l Set words = do
+  four ← four_words Set words
+  next ← set_layout four
+  Ok (changed next)
+run l Permute words = do
+  order ← one_word Permute words
+  next ← permuted l order
+  Ok (changed next)
+run l Diagonal words = do
+  pairs ← one_word Diagonal words
+  next ← tied l pairs
+  Ok (changed next)
+run l Broadcast words = do
+  targets ← one_word Broadcast words
+  next ← stretched l targets
+  Ok (changed next)
+run l Read words = do
+  two ← one_or_two_words Read words
+  next ← read_layout two
+  Ok (changed next)
+run l Bounds words = do
+  four ← four_words Bounds words
+  text ← bounds_text four
+  Ok (asked l text)
+run l Show words = do
+  none ← no_word Show words
+  Ok (asked l (layout_text l))
+run l Offset words = do
+  index ← one_word Offset words
+  text ← offset_text l index
+  Ok (asked l text)
+run l Normal words = do
+  none ← no_word Normal words
+  text ← normal_text l
+  Ok (asked l text)
+run l Verdict words = do
+  scratch ← up_to_one_word Verdict words
+  text ← verdict_of l scratch
+  Ok (asked l text)
+run l Injective words = do
+  three ← two_or_three_words Injective words
+  text ← injective_text three
+  Ok (asked l text)
+run l Record words = do
+  two ← one_or_two_words Record words
+  text ← record_text l two
+  Ok (asked l text)
+run l Rest words = do
+  bytes ← one_word Rest words
+  text ← rest_text bytes
+  Ok (asked l text)
+run l Order words = do
+  two ← two_words Order words
+  text ← order_text two
+  Ok (asked l text)
+run l Column words = do
+  extents ← one_word Column words
+  text ← dense_text colMajor extents
+  Ok (asked l text)
+run l Row words = do
+  extents ← one_word Row words
+  text ← dense_text rowMajor extents
+  Ok (asked l text)
+run l Help words = do
+  name ← up_to_one_word Help words
+  text ← help_text name
+  Ok (asked l text)
+
+-- a line by its name and the words behind it
+unfoldable pub obeyed : LayoutM → List ℕ → List (List ℕ) → Told Answered
+obeyed l name words = elim (named name) [
+  | None ↦ Err (unknown_command 1 name)
+  | Some command ↦ run l command words
+]
+
+-- what a reply prints
+abbrev pub reply_text : Reply → List ℕ
+reply_text reply.Done = codes "ok"
+reply_text (reply.Current l) = layout_text (modelOf l)
+reply_text (reply.Offset z) = signed_decimal z
+reply_text (reply.Judged judgement) = verdict_text (verdict_told judgement).answer (verdict_told judgement).count
+reply_text (reply.Bytes digits) = string_bytes digits
+reply_text (reply.Order axes) = list_text decimal axes.items
+reply_text (reply.Strides dense) = list_text signed_decimal dense
+reply_text (reply.Help command) = help_line command
+reply_text reply.AllHelp = joined (10 ∷ []) help_line commands

@@ -1,7 +1,8 @@
--- What texts spell: numbers, pairs of axes, and bytes. Assumes nothing.
-use Rattle.std.specs.Prelude.{ℕ, ℤ, ◌+◌, List, [], ◌∷◌, Option, Some, None, ◌==◌, nat_le, take, drop, if◌then◌else◌}
+-- What texts spell: numbers, pairs of axes, and sizes that are lent. Assumes nothing.
+use Rattle.std.specs.Prelude.{ℕ, ℤ, ◌+◌, List, Option, Some, None, ◌==◌, nat_le, take, drop, if◌then◌else◌}
 use Rattle.std.specs.List.{position}
 use Rattle.spelling.specs.Number.{unsignedOf, signed_of}
+use Rattle.view.specs.declared.diagonal.AxisPair.{AxisPair}
 use Rattle.commands.specs.declared.spelled.Lent.{Lent}
 
 -- a number below 2^64
@@ -20,12 +21,12 @@ lent_of None = None
 abbrev pub lent : List ℕ → Option Lent
 lent text = lent_of (unsigned text)
 
-abbrev pub both : Option ℕ → Option ℕ → Option (List ℕ)
-both (Some a) (Some b) = Some (a ∷ b ∷ [])
+abbrev pub both : Option ℕ → Option ℕ → Option AxisPair
+both (Some a) (Some b) = Some (record { 0 = a; 1 = b })
 both (Some a) None = None
 both None other = None
 
-abbrev pub pair_around : Option ℕ → List ℕ → Option (List ℕ)
+abbrev pub pair_around : Option ℕ → List ℕ → Option AxisPair
 pair_around (Some i) text = both (unsigned (take i text)) (unsigned (drop (i + 1) text))
 pair_around None text = None
 
@@ -34,5 +35,5 @@ abbrev pub colon : List ℕ → Option ℕ
 colon text = position (λ byte. byte == 58) text
 
 -- two numbers around the first colon
-abbrev pub pair : List ℕ → Option (List ℕ)
+abbrev pub pair : List ℕ → Option AxisPair
 pair text = pair_around (colon text) text

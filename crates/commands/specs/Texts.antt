@@ -1,29 +1,52 @@
--- What is printed of a fault, byte by byte. Assumes nothing.
-use Rattle.std.specs.Prelude.{ℕ, List, ◌∷◌, ◌++◌, codes}
+-- What is printed of a fault and of an answer, byte by byte. Assumes nothing.
+use Rattle.std.specs.Prelude.{ℕ, List, [], ◌∷◌, ◌++◌, codes, take, length, nat_lt, encode_utf8_all, if◌then◌else◌}
 use Rattle.std.specs.List.{flat_map}
-use Rattle.std.specs.Fmt.{decimal}
+use Rattle.std.specs.Fmt.{decimal, signed_decimal}
+use Rattle.hex.specs.Hex.{encode_lower}
+use Rattle.bstr.specs.Escape.{escaped}
+use Rattle.specification.specs.Layout.{LayoutM}
+use Rattle.specification.specs.Verdict.{Verdict, Distinct, Repeated, Undecided}
 use Rattle.view.specs.Answers.{number_of, values_of}
 use Rattle.view.specs.declared.layout.Refusal.{Refusal}
 use Rattle.commands.specs.declared.command.Command.{Command}
+use Rattle.commands.specs.declared.place.Place.{Place}
+use Rattle.commands.specs.declared.place.Place.TheVariants as place
 use Rattle.commands.specs.declared.fault.Form.{Form}
 use Rattle.commands.specs.declared.fault.Form.TheVariants.{Unsigned, Signed, Pair, Lent}
-use Rattle.commands.specs.declared.fault.Place.{Place}
-use Rattle.commands.specs.declared.fault.Place.TheVariants.{Word, Entry}
 use Rattle.commands.specs.declared.fault.Fault.{Fault}
 use Rattle.commands.specs.declared.fault.Fault.TheVariants.{LongLine, UnknownCommand, WordCount, UnequalLists, Misspelled, ManyEntries, OddDigits, BadDigit, Refused}
-use Rattle.commands.specs.Names.{name_of, usage_of}
+use Rattle.commands.specs.Commands.{usage_of}
 
--- what a word should have spelled
+-- ---- where a fault is
+
+-- a word as an error shows it: its first 32 bytes, what does not print among them escaped, and `..` where there are more
+unfoldable pub excerpt : List ℕ → List ℕ
+excerpt text = encode_utf8_all (escaped (take 32 text)) ++ (if nat_lt 32 (length text) then codes ".." else [])
+
+-- a number from 1 on, and what stands there
+abbrev pub at_number : ℕ → List ℕ → List ℕ
+at_number number text = decimal number ++ codes " (" ++ excerpt text ++ codes ")"
+
+-- a word of the line
+unfoldable pub at_word : ℕ → List ℕ → List ℕ
+at_word number text = codes "word " ++ at_number number text
+
+-- an entry of the list that a word is
+unfoldable pub at_entry : ℕ → ℕ → List ℕ → List ℕ
+at_entry word number text = codes "word " ++ decimal word ++ codes ", entry " ++ at_number number text
+
+abbrev pub place_text : Place → List ℕ
+place_text (place.Word w) = at_word w.number w.text.now
+place_text (place.Entry word w) = at_entry word w.number w.text.now
+
+-- what should have stood there
 abbrev pub form_text : Form → List ℕ
 form_text Unsigned = codes "number from 0 to 18446744073709551615"
 form_text Signed = codes "number from -9223372036854775808 to 9223372036854775807"
 form_text Pair = codes "pair a:b of numbers from 0 to 18446744073709551615"
 form_text Lent = codes "number from 0 to 65536"
 
--- where the fault is
-abbrev pub place_text : Place → List ℕ
-place_text (Word word) = codes "word " ++ decimal word
-place_text (Entry word entry) = codes "word " ++ decimal word ++ codes ", entry " ++ decimal entry
+-- ---- faults
 
 -- a refusal by its number and the values returned with it
 unfoldable pub refusal_text : ℕ → List ℕ → List ℕ
@@ -35,35 +58,66 @@ told_refusal why = refusal_text (number_of why) (values_of why)
 unfoldable pub long_line : List ℕ
 long_line = codes "error: the line is longer than 4096 bytes"
 
-unfoldable pub unknown_command : List ℕ
-unknown_command = codes "error: unknown command: word 1"
+unfoldable pub unknown_command : ℕ → List ℕ → List ℕ
+unknown_command number text = codes "error: " ++ at_word number text ++ codes " is no command; help lists the commands"
 
 unfoldable pub word_count : Command → List ℕ
-word_count command = codes "error: wrong number of words: " ++ name_of command ++ codes " takes " ++ usage_of command
+word_count command = codes "error: wrong number of words; usage: " ++ usage_of command
 
 unfoldable pub unequal_lists : List ℕ
 unequal_lists = codes "error: set takes as many strides as extents: words 4 and 5"
 
-unfoldable pub misspelled : Place → Form → List ℕ
-misspelled place form = codes "error: " ++ place_text place ++ codes " is no " ++ form_text form
+-- what stands at a place is not what should
+unfoldable pub misspelled : List ℕ → Form → List ℕ
+misspelled at form = codes "error: " ++ at ++ codes " is no " ++ form_text form
 
-unfoldable pub many_entries : ℕ → List ℕ
-many_entries word = codes "error: word " ++ decimal word ++ codes " has more than 64 entries"
+unfoldable pub many_entries : ℕ → List ℕ → List ℕ
+many_entries number text = codes "error: " ++ at_word number text ++ codes " has more than 64 entries"
 
-unfoldable pub odd_digits : ℕ → List ℕ
-odd_digits word = codes "error: word " ++ decimal word ++ codes " has an odd number of hexadecimal digits"
+unfoldable pub odd_digits : ℕ → List ℕ → List ℕ
+odd_digits number text = codes "error: " ++ at_word number text ++ codes " has an odd number of hexadecimal digits"
 
-unfoldable pub bad_digit : ℕ → List ℕ
-bad_digit word = codes "error: word " ++ decimal word ++ codes " has a byte that is no hexadecimal digit"
+unfoldable pub bad_digit : ℕ → List ℕ → List ℕ
+bad_digit number text = codes "error: " ++ at_word number text ++ codes " has a byte that is no hexadecimal digit"
 
 -- the line that a fault is answered with
 abbrev pub fault_text : Fault → List ℕ
 fault_text LongLine = long_line
-fault_text UnknownCommand = unknown_command
+fault_text (UnknownCommand w) = unknown_command w.number w.text.now
 fault_text (WordCount command) = word_count command
 fault_text UnequalLists = unequal_lists
-fault_text (Misspelled place form) = misspelled place form
-fault_text (ManyEntries word) = many_entries word
-fault_text (OddDigits word) = odd_digits word
-fault_text (BadDigit word) = bad_digit word
+fault_text (Misspelled place form) = misspelled (place_text place) form
+fault_text (ManyEntries w) = many_entries w.number w.text.now
+fault_text (OddDigits w) = odd_digits w.number w.text.now
+fault_text (BadDigit w) = bad_digit w.number w.text.now
 fault_text (Refused why) = told_refusal why
+
+-- ---- answers
+
+-- the texts of entries, with a text between each two
+unfoldable pub joined : {A : Type 0} → List ℕ → (A → List ℕ) → List A → List ℕ
+joined between text_of [] = []
+joined between text_of (first ∷ others) = text_of first ++ flat_map (λ other. between ++ text_of other) others
+
+-- entries joined by commas; `-` for none
+unfoldable pub list_text : {A : Type 0} → (A → List ℕ) → List A → List ℕ
+list_text text_of [] = codes "-"
+list_text text_of (first ∷ others) = joined (codes ",") text_of (first ∷ others)
+
+-- LEN OFFSET EXTENTS STRIDES; above rank 16 the 16 axes that a layout holds
+unfoldable pub layout_text : LayoutM → List ℕ
+layout_text l =
+    decimal l.buffer ++ 32 ∷ (signed_decimal l.offset
+    ++ 32 ∷ (list_text (λ a. decimal a.extent) (take 16 l.axes)
+    ++ 32 ∷ list_text (λ a. signed_decimal a.stride) (take 16 l.axes)))
+
+-- bytes as two digits each; `-` for none
+abbrev pub bytes_text : List ℕ → List ℕ
+bytes_text [] = codes "-"
+bytes_text (byte ∷ bytes) = encode_lower (byte ∷ bytes)
+
+-- a verdict with its count
+abbrev pub verdict_text : Verdict → ℕ → List ℕ
+verdict_text Distinct count = codes "distinct " ++ decimal count
+verdict_text Repeated count = codes "repeated " ++ decimal count
+verdict_text Undecided count = codes "undecided 0"

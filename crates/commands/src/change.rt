@@ -1,30 +1,22 @@
-// The commands that change the current layout. Each leaves it as it was where it is not obeyed.
-ghost use Rattle.std.specs.Prelude.{◌≡◌, ◌≢◌, Ok, Err, IfOk, IfErr, OnErr, length, take, vec_len};
-ghost use Rattle.commands.specs.declared.fault.Fault.TheVariants.{UnequalLists};
-ghost use Rattle.commands.specs.declared.fault.Problem.TheVariants.{Told};
-ghost use Rattle.commands.specs.declared.reply.Reply.TheVariants.{Done};
+// The commands that change the current layout: each hands back the one that takes its place.
+ghost use Rattle.std.specs.Prelude.{◌≡◌, IfOk, length, take};
 ghost use Rattle.specification.specs.Axis.{axesOf};
-ghost use Rattle.specification.specs.CheckIn.{checkIn};
-ghost use Rattle.specification.specs.Views as view;
-ghost use Rattle.std.specs.List.{flat_map};
-ghost use Rattle.view.specs.Model.{modelOf, layout_outcome};
-ghost use Rattle.commands.specs.declared.fault.Form.TheVariants.{Unsigned, Pair};
 ghost use Rattle.specification.specs.Record.{read_of};
+ghost use Rattle.view.specs.Model.{modelOf, first_axes, layout_outcome};
 ghost use Rattle.record.specs.Reading.{layout_read};
-ghost use Rattle.commands.specs.Obeyed.{Tells, Obeys, Views, numbered, bytes_and_size, four_parts};
-ghost use Rattle.commands.specs.Spelled.{unsigned, pair};
-ghost use Rattle.commands.specs.Words.{Gives, list_of};
+ghost use Rattle.commands.specs.Words.{Gives, numbered, numbered_if};
+ghost use Rattle.commands.specs.Obeyed.{or_most, four_parts, new_layout, set_layout, permuted, tied, stretched, read_layout};
 
 use crate::fault::{Fault, Problem};
 use crate::memory::{Memory, lend};
-use crate::reply::Reply;
-use crate::spelled::Lent;
-use crate::word::Word;
+use crate::place::Word;
+use crate::scratch::{lacking, words_given};
 use axis::Axis;
 use record::read::read_record;
-use std::alloc::Global;
+use std::alloc::{AllocError, Global};
 use view::axes::Lists;
-use view::layout::{Layout, MOST_AXES, NO_AXIS, ReadingOffset, Viewed};
+use view::diagonal::AxisPair;
+use view::layout::{Layout, MOST_AXES, NO_AXIS, ReadingOffset, Refusal, Viewed};
 
 /// LEN OFFSET EXTENTS STRIDES, as a line gives them.
 #[derive(Drop)]
@@ -35,12 +27,13 @@ pub struct Given {
     pub strides: Vec<i64>,
 }
 
+/// Four words of a line.
+pub type Four<'a> = (Word<'a>, Word<'a>, Word<'a>, Word<'a>);
+
 impl Given {
     /// What the four words spell, from the left.
-    pub fn read(
-        alloc: Global,
-        words: (Word<'_>, Word<'_>, Word<'_>, Word<'_>),
-    ) -> Result<Given, Problem>
+    #[tactic(auto, unfolding(crate::specs::Obeyed::four_parts))]
+    pub fn read<'a>(alloc: Global, words: Four<'a>) -> Result<Given, Problem<'a>>
         ensures { Gives (λ g. (g.len, g.offset.0, g.extents.items, g.strides.items)) result
             (four_parts (numbered words.entry.0, numbered words.entry.1, numbered words.entry.2, numbered words.entry.3)) }
     {
@@ -55,10 +48,12 @@ impl Given {
 }
 
 /// A layout that is checked in.
-pub fn new_layout(given: &Given) -> Result<Layout, Problem>
-    ensures { Tells result (λ answer. layout_outcome answer
-        ≡ checkIn given.now.len given.now.offset.0 given.now.extents.items given.now.strides.items) }
+#[tactic(auto, unfolding(crate::specs::Obeyed::new_layout))]
+pub fn new_layout<'a>(alloc: Global, words: Four<'a>) -> Result<Layout, Problem<'a>>
+    ensures { Gives modelOf result (new_layout
+        (numbered words.entry.0, numbered words.entry.1, numbered words.entry.2, numbered words.entry.3)) }
 {
+    let given = Given::read(alloc, words)?;
     let extents = given.extents.as_slice();
     let strides = given.strides.as_slice();
     Ok(Layout::new(given.len, given.offset, extents, strides)?)
@@ -67,8 +62,9 @@ pub fn new_layout(given: &Given) -> Result<Layout, Problem>
 // The first 16 axes that two lists give.
 fn sixteen(given: &Given) -> [Axis; 16]
     requires { length given.now.strides.items ≡ length given.now.extents.items }
-    ensures { take (length given.now.extents.items) result
-        ≡ axesOf (take 16 given.now.extents.items) (take 16 given.now.strides.items) }
+    ensures { first_axes result (length given.now.extents.items)
+        ≡ first_axes (axesOf (take 16 given.now.extents.items) (take 16 given.now.strides.items))
+        (length given.now.extents.items) }
 {
     let extents = given.extents.as_slice();
     let strides = given.strides.as_slice();
@@ -83,14 +79,12 @@ fn sixteen(given: &Given) -> [Axis; 16]
 }
 
 /// A layout of any rank with no check, its first 16 axes in place.
-pub fn set_layout(given: &Given) -> Result<Layout, Problem>
-    ensures unequal { vec_len given.now.extents ≢ vec_len given.now.strides → result ≡ Err (Told UnequalLists) }
-    ensures equal { OnErr result (vec_len given.now.extents ≢ vec_len given.now.strides) }
-    ensures place { IfOk result (λ layout. (layout.len ≡ given.now.len) × (layout.offset ≡ given.now.offset)) }
-    ensures rank { IfOk result (λ layout. layout.rank ≡ vec_len given.now.extents) }
-    ensures axes { IfOk result (λ layout. take layout.rank layout.axes
-        ≡ axesOf (take 16 given.now.extents.items) (take 16 given.now.strides.items)) }
+#[tactic(auto, unfolding(crate::specs::Obeyed::set_layout, crate::specs::Obeyed::unchecked))]
+pub fn set_layout<'a>(alloc: Global, words: Four<'a>) -> Result<Layout, Problem<'a>>
+    ensures { Gives modelOf result (set_layout
+        (numbered words.entry.0, numbered words.entry.1, numbered words.entry.2, numbered words.entry.3)) }
 {
+    let given = Given::read(alloc, words)?;
     let rank = given.extents.len();
     if rank != given.strides.len() {
         return Err(Fault::UnequalLists.into());
@@ -99,58 +93,69 @@ pub fn set_layout(given: &Given) -> Result<Layout, Problem>
         len: given.len,
         offset: given.offset,
         rank,
-        axes: sixteen(given),
+        axes: sixteen(&given),
     })
 }
 
 /// The axes in the order of a list.
-pub fn permute(alloc: Global, current: Layout, order: Word<'_>) -> Result<Layout, Problem>
-    ensures { Obeys result (list_of unsigned Unsigned order.entry.number order.entry.text.now) (λ list. Views (view.permute (modelOf current) list)) }
+#[tactic(auto, unfolding(crate::specs::Obeyed::permuted))]
+pub fn permute<'a>(alloc: Global, current: Layout, order: Word<'a>) -> Result<Layout, Problem<'a>>
+    ensures { Gives modelOf result (permuted (modelOf current) (numbered order.entry)) }
 {
     let order = order.list(alloc)?;
     Ok(current.permute(order.as_slice()).accepted()?)
 }
 
+/// The axes of each pair tied into one.
+#[tactic(auto, unfolding(crate::specs::Obeyed::tied))]
+pub fn diagonal<'a>(alloc: Global, current: Layout, pairs: Word<'a>) -> Result<Layout, Problem<'a>>
+    ensures { Gives modelOf result (tied (modelOf current) (numbered pairs.entry)) }
+{
+    let pairs = pairs.list::<AxisPair>(alloc)?;
+    Ok(current.diagonal_view(pairs.as_slice()).accepted()?)
+}
+
 /// Axes of extent 1 stretched to the extents of a list.
-pub fn broadcast(alloc: Global, current: Layout, targets: Word<'_>) -> Result<Layout, Problem>
-    ensures { Obeys result (list_of unsigned Unsigned targets.entry.number targets.entry.text.now) (λ list. Views (view.broadcast (modelOf current) list)) }
+#[tactic(auto, unfolding(crate::specs::Obeyed::stretched))]
+pub fn broadcast<'a>(
+    alloc: Global,
+    current: Layout,
+    targets: Word<'a>,
+) -> Result<Layout, Problem<'a>>
+    ensures { Gives modelOf result (stretched (modelOf current) (numbered targets.entry)) }
 {
     let targets = targets.list(alloc)?;
     Ok(current.broadcast(targets.as_slice()).accepted()?)
 }
 
-/// The axes of each pair tied into one.
-pub fn diagonal(alloc: Global, current: Layout, pairs: Word<'_>) -> Result<Layout, Problem>
-    ensures { Obeys result (list_of pair Pair pairs.entry.number pairs.entry.text.now)
-        (λ list. Views (view.diagonalView (modelOf current) (view.pairsOf (flat_map (λ x. x) list)))) }
+// The layout of a record, with so many words of scratch, or with as many as its verdict needs.
+#[tactic(auto, using(crate::proofs::ScratchLaws::read_first))]
+fn read_bytes(
+    bytes: &[u8],
+    scratch: &mut Vec<u64>,
+    words: Option<usize>,
+) -> Result<Result<Layout, Refusal>, AllocError>
+    ensures { IfOk result
+        (λ answer. layout_outcome answer ≡ layout_read (read_of bytes.now (or_most words))) }
 {
-    let pairs = pairs.list::<[usize; 2]>(alloc)?;
-    let mut layout = current;
-    layout.diagonal_by_numbers(pairs.as_slice().as_flattened())?;
-    Ok(layout)
+    let first = read_record(bytes, lend(scratch, words.unwrap_or(0), 0)?);
+    match lacking(words, &first) {
+        Some(needed) => Ok(read_record(bytes, lend(scratch, needed, 0)?)),
+        None => Ok(first),
+    }
 }
 
-/// The layout of a record, read with so many words of scratch.
-pub fn read(
+/// The layout of a record.
+#[tactic(auto, unfolding(crate::specs::Obeyed::read_layout))]
+pub fn read<'a>(
     alloc: Global,
     memory: &mut Memory,
-    words: (Word<'_>, Word<'_>),
-) -> Result<Layout, Problem>
-    ensures { Obeys result (bytes_and_size (numbered words.entry.0, numbered words.entry.1))
-        (λ w answer. layout_outcome answer ≡ layout_read (read_of w.0 w.1.0)) }
+    words: (Word<'a>, Option<Word<'a>>),
+) -> Result<Layout, Problem<'a>>
+    ensures { Gives modelOf result (read_layout (numbered words.entry.0, numbered_if words.entry.1)) }
 {
-    let (bytes, scratch) = words;
+    let (bytes, words) = words;
     let bytes = bytes.bytes(alloc)?;
-    let Lent(count) = scratch.one()?;
-    let scratch = lend(&mut memory.scratch, count, 0)?;
-    Ok(read_record(bytes.as_slice(), scratch)?)
-}
-
-/// Puts another layout in the place of the current one, where there is one.
-pub fn replace(current: &mut Layout, next: Result<Layout, Problem>) -> Result<Reply, Problem>
-    ensures ok { IfOk result (λ reply. (next ≡ Ok current.new) × (reply ≡ Done)) }
-    ensures err { IfErr result (λ p. (next ≡ Err p) × (current.new ≡ current.old)) }
-{
-    *current = next?;
-    Ok(Reply::Done)
+    let words = words_given(words)?;
+    Ok(read_bytes(bytes.as_slice(), &mut memory.scratch, words)??)
 }

@@ -4,6 +4,7 @@ ghost use Rattle.commands.specs.declared.fault.Fault.TheVariants.{Refused};
 ghost use Rattle.commands.specs.declared.fault.Problem.TheVariants.{Memory, Told};
 
 use crate::command::Command;
+use crate::place::{Place, Word};
 use std::alloc::{AllocError, AllocFailed};
 use std::fmt;
 use view::layout::Refusal;
@@ -17,62 +18,55 @@ pub enum Form {
     Lent,
 }
 
-/// A word of the line, counted from 1, or an entry of the list that the word is, counted from 1 too.
+/// What a line is answered that is not obeyed.
 #[derive(Clone, Copy)]
-pub enum Place {
-    Word(usize),
-    Entry(usize, usize),
-}
-
-/// What a line is answered that is not obeyed. A word is given by its number.
-#[derive(Clone, Copy)]
-pub enum Fault {
+pub enum Fault<'a> {
     LongLine,
-    UnknownCommand,
+    UnknownCommand(Word<'a>),
     WordCount(Command),
     UnequalLists,
-    Misspelled(Place, Form),
-    ManyEntries(usize),
-    OddDigits(usize),
-    BadDigit(usize),
+    Misspelled(Place<'a>, Form),
+    ManyEntries(Word<'a>),
+    OddDigits(Word<'a>),
+    BadDigit(Word<'a>),
     Refused(Refusal),
 }
 
 /// A fault is told and the next line follows; where memory fails, so does the program.
 #[derive(Clone, Copy)]
-pub enum Problem {
+pub enum Problem<'a> {
     Memory,
-    Told(Fault),
+    Told(Fault<'a>),
 }
 
-impl From<Fault> for Problem {
+impl<'a> From<Fault<'a>> for Problem<'a> {
     ghost from_gives = { λ fault p. p ≡ Told fault };
 
-    fn from(fault: Fault) -> Problem {
+    fn from(fault: Fault<'a>) -> Problem<'a> {
         Problem::Told(fault)
     }
 }
 
-impl From<Refusal> for Problem {
+impl<'a> From<Refusal> for Problem<'a> {
     ghost from_gives = { λ why p. p ≡ Told (Refused why) };
 
-    fn from(why: Refusal) -> Problem {
+    fn from(why: Refusal) -> Problem<'a> {
         Problem::Told(Fault::Refused(why))
     }
 }
 
-impl From<AllocError> for Problem {
+impl<'a> From<AllocError> for Problem<'a> {
     ghost from_gives = { λ _ p. p ≡ Memory };
 
-    fn from(_error: AllocError) -> Problem {
+    fn from(_error: AllocError) -> Problem<'a> {
         Problem::Memory
     }
 }
 
-impl<T: Drop> From<AllocFailed<T>> for Problem {
+impl<'a, T: Drop> From<AllocFailed<T>> for Problem<'a> {
     ghost from_gives = { λ _ p. p ≡ Memory };
 
-    fn from(_failed: AllocFailed<T>) -> Problem {
+    fn from(_failed: AllocFailed<T>) -> Problem<'a> {
         Problem::Memory
     }
 }
@@ -90,20 +84,6 @@ impl fmt::Display for Form {
             Form::Pair => "pair a:b of numbers from 0 to 18446744073709551615",
             Form::Lent => "number from 0 to 65536",
         })
-    }
-}
-
-impl fmt::Display for Place {
-    ghost use Rattle.std.specs.Prelude.{Some};
-    ghost use Rattle.commands.specs.Texts.{place_text};
-
-    ghost output = { λ place. Some (place_text place) };
-
-    fn fmt<W: fmt::Write>(&self, f: &mut fmt::Formatter<W>) -> fmt::Result {
-        match self {
-            Place::Word(word) => write!(f, "word {word}"),
-            Place::Entry(word, entry) => write!(f, "word {word}, entry {entry}"),
-        }
     }
 }
 
@@ -130,8 +110,8 @@ impl fmt::Display for ByNumber {
 }
 
 // A refusal by its number, and any other fault as an error.
-#[tactic(auto, unfolding(crate::specs::Texts::long_line, crate::specs::Texts::unknown_command, crate::specs::Texts::word_count, crate::specs::Texts::unequal_lists, crate::specs::Texts::misspelled, crate::specs::Texts::many_entries, crate::specs::Texts::odd_digits, crate::specs::Texts::bad_digit))]
-impl fmt::Display for Fault {
+#[tactic(auto, unfolding(crate::specs::Texts::at_word, crate::specs::Texts::long_line, crate::specs::Texts::unknown_command, crate::specs::Texts::word_count, crate::specs::Texts::unequal_lists, crate::specs::Texts::misspelled, crate::specs::Texts::many_entries, crate::specs::Texts::odd_digits, crate::specs::Texts::bad_digit))]
+impl fmt::Display for Fault<'_> {
     ghost use Rattle.std.specs.Prelude.{Some};
     ghost use Rattle.commands.specs.Texts.{fault_text};
 
@@ -140,18 +120,20 @@ impl fmt::Display for Fault {
     fn fmt<W: fmt::Write>(&self, f: &mut fmt::Formatter<W>) -> fmt::Result {
         match self {
             Fault::LongLine => f.write_str("error: the line is longer than 4096 bytes"),
-            Fault::UnknownCommand => f.write_str("error: unknown command: word 1"),
+            Fault::UnknownCommand(word) => write!(
+                f,
+                "error: word {word} is no command; help lists the commands"
+            ),
             Fault::WordCount(command) => write!(
                 f,
-                "error: wrong number of words: {} takes {}",
-                command.name(),
+                "error: wrong number of words; usage: {}",
                 command.usage()
             ),
             Fault::UnequalLists => f.write_str(
                 "error: set takes as many strides as extents: words 4 and 5",
             ),
             Fault::Misspelled(place, form) => write!(f, "error: {place} is no {form}"),
-            Fault::ManyEntries(word) => { write!(f, "error: word {word} has more than 64 entries") }
+            Fault::ManyEntries(word) => write!(f, "error: word {word} has more than 64 entries"),
             Fault::OddDigits(word) => write!(
                 f,
                 "error: word {word} has an odd number of hexadecimal digits"

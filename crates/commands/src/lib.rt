@@ -1,17 +1,15 @@
-// The text program: a line of words in, a line of text out.
+//! The commands of the text program: the words of a line in, what it answers out.
 #![tactic(auto)]
 
 mod change;
-mod command;
-mod failure;
-mod fault;
+pub mod command;
+pub mod fault;
 mod list;
-mod memory;
-mod obey;
+pub mod memory;
+pub mod obey;
+pub mod place;
 mod query;
-mod reply;
-mod session;
+pub mod reply;
+mod scratch;
 mod spelled;
-mod word;
-
-pub use session::run;
+pub mod word;

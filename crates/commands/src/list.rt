@@ -1,7 +1,7 @@
 // Lists as they are printed, and the front of a list.
 ghost use Rattle.std.specs.Prelude.{◌≡◌, take};
 
-use axis::Axis;
+use crate::command::Command;
 use std::fmt;
 
 /// As many of the first entries as a number says, or all.
@@ -11,50 +11,96 @@ pub fn first<T>(count: usize, list: &[T]) -> &[T]
     &list[..count.min(list.len())]
 }
 
-// Entries joined by commas, each by what is shown of it; `-` for none.
-fn fmt_joined<A, T: fmt::Display + Copy, F: Fn(&A) -> T, W: fmt::Write>(
-    list: &[A],
-    shown: F,
-    f: &mut fmt::Formatter<W>,
-) -> fmt::Result
-    requires { F.IsAlwaysCallable shown }
-{
-    let Some((first, others)) = list.split_first() else {
-        return f.write_str("-");
-    };
-    write!(f, "{}", shown(first))?;
-    for entry in others {
-        write!(f, ",{}", shown(entry))?;
-    }
-    Ok(())
+/// What prints as a text that contracts name.
+pub trait Entry: fmt::Display + Copy {
+    ghost use Rattle.std.specs.Prelude.{List, ℕ, Some};
+
+    ghost text: { Self → List ℕ };
+
+    ghost prints: { (entry : Self) → Self.output entry ≡ Some (text entry) };
 }
 
-/// Numbers joined by commas; `-` for none.
+impl Entry for u64 {
+    ghost use Rattle.std.specs.Prelude.{refl};
+    ghost use Rattle.std.specs.Fmt.{decimal};
+
+    ghost text = { decimal };
+
+    ghost prints = { λ _. refl };
+}
+
+impl Entry for usize {
+    ghost use Rattle.std.specs.Prelude.{refl};
+    ghost use Rattle.std.specs.Fmt.{decimal};
+
+    ghost text = { decimal };
+
+    ghost prints = { λ _. refl };
+}
+
+impl Entry for i64 {
+    ghost use Rattle.std.specs.Prelude.{refl};
+    ghost use Rattle.std.specs.Fmt.{signed_decimal};
+
+    ghost text = { signed_decimal };
+
+    ghost prints = { λ _. refl };
+}
+
+impl Entry for Command {
+    ghost use Rattle.std.specs.Prelude.{refl};
+    ghost use Rattle.commands.specs.Commands.{help_line};
+
+    ghost text = { help_line };
+
+    ghost prints = { λ _. refl };
+}
+
+/// Entries with a text between each two.
+#[derive(Clone, Copy)]
+pub struct Joined<'a, T> {
+    pub between: &'static str,
+    pub entries: &'a [T],
+}
+
+#[tactic(auto, unfolding(crate::specs::Texts::joined))]
+impl<'a, T: Entry> fmt::Display for Joined<'a, T> {
+    ghost use Rattle.std.specs.Prelude.{Some};
+    ghost use Rattle.commands.specs.Texts.{joined};
+
+    ghost output = { λ list. Some (joined list.between.now T.text list.entries.now) };
+
+    fn fmt<W: fmt::Write>(&self, f: &mut fmt::Formatter<W>) -> fmt::Result {
+        let Some((first, others)) = self.entries.split_first() else {
+            return Ok(());
+        };
+        write!(f, "{first}")?;
+        for entry in others {
+            write!(f, "{}{entry}", self.between)?;
+        }
+        Ok(())
+    }
+}
+
+/// Entries joined by commas; `-` for none.
 #[derive(Clone, Copy)]
 pub struct List<'a, T>(pub &'a [T]);
 
-impl<'a, T: fmt::Display + Copy> fmt::Display for List<'a, T> {
+#[tactic(auto, unfolding(crate::specs::Texts::list_text))]
+impl<'a, T: Entry> fmt::Display for List<'a, T> {
+    ghost use Rattle.std.specs.Prelude.{Some};
+    ghost use Rattle.commands.specs.Texts.{list_text};
+
+    ghost output = { λ list. Some (list_text T.text list.0.now) };
+
     fn fmt<W: fmt::Write>(&self, f: &mut fmt::Formatter<W>) -> fmt::Result {
-        fmt_joined(self.0, |number| *number, f)
-    }
-}
-
-/// The extents of axes joined by commas; `-` for no axis.
-#[derive(Clone, Copy)]
-pub struct Extents<'a>(pub &'a [Axis]);
-
-impl fmt::Display for Extents<'_> {
-    fn fmt<W: fmt::Write>(&self, f: &mut fmt::Formatter<W>) -> fmt::Result {
-        fmt_joined(self.0, |axis| axis.extent, f)
-    }
-}
-
-/// The strides of axes joined by commas; `-` for no axis.
-#[derive(Clone, Copy)]
-pub struct Strides<'a>(pub &'a [Axis]);
-
-impl fmt::Display for Strides<'_> {
-    fn fmt<W: fmt::Write>(&self, f: &mut fmt::Formatter<W>) -> fmt::Result {
-        fmt_joined(self.0, |axis| axis.stride, f)
+        if self.0.is_empty() {
+            return f.write_str("-");
+        }
+        let joined = Joined {
+            between: ",",
+            entries: self.0,
+        };
+        write!(f, "{joined}")
     }
 }

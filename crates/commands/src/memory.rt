@@ -1,5 +1,5 @@
 // Memory that commands lend to calls: made at its first use, and kept for the next.
-ghost use Rattle.std.specs.Prelude.{◌≡◌, IfOk, length};
+ghost use Rattle.std.specs.Prelude.{◌≡◌, [], IfOk, length};
 
 use std::alloc::{AllocError, Global};
 
@@ -11,7 +11,11 @@ pub struct Memory {
 }
 
 impl Memory {
-    pub fn new(alloc: Global) -> Memory {
+    /// None of either yet.
+    pub fn new(alloc: Global) -> Memory
+        ensures scratch { result.scratch.items ≡ [] }
+        ensures room { result.room.items ≡ [] }
+    {
         Memory {
             scratch: Vec::new(alloc),
             room: Vec::new(alloc),

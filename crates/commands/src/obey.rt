@@ -1,34 +1,60 @@
 // A line of words obeyed: which function each command is.
-ghost use Rattle.std.specs.Prelude.{◌≡◌, OnErr};
+ghost use Rattle.std.specs.Prelude.{◌≡◌, OnErr, map};
+ghost use Rattle.view.specs.Model.{modelOf};
+ghost use Rattle.commands.specs.Words.{Gives};
+ghost use Rattle.commands.specs.Obeyed.{reply_text, run, obeyed};
 
-use crate::change::{Given, broadcast, diagonal, new_layout, permute, read, replace, set_layout};
+use crate::change::{broadcast, diagonal, new_layout, permute, read, set_layout};
 use crate::command::Command;
 use crate::fault::{Fault, Problem};
 use crate::memory::Memory;
-use crate::query::{bounds, dense, injective, normal, offset, order, record, rest, verdict};
+use crate::place::Word;
+use crate::query::{
+    bounds, column, help, injective, normal, offset, order, record, rest, row, verdict,
+};
 use crate::reply::Reply;
-use crate::word::{Words, words_of};
-use dense::{checked_col_major_strides, checked_row_major_strides};
+use crate::word::Words;
 use std::alloc::Global;
 use view::layout::Layout;
 
 // What a command answers with the words behind its name, or why it is not obeyed; then the current layout stays.
-fn run(
+#[tactic(auto, unfolding(crate::specs::Obeyed::run))]
+fn run<'a>(
     alloc: Global,
     current: &mut Layout,
     memory: &mut Memory,
-    words: Words<'_>,
-) -> Result<Reply, Problem>
-    ensures { OnErr result (current.new ≡ current.old) }
+    words: Words<'a>,
+) -> Result<Reply, Problem<'a>>
+    ensures told { Gives (λ reply. record { text = reply_text reply; layout = modelOf current.new }) result
+        (run (modelOf current.old) words.entry.command (map (λ text. text.now) words.entry.texts.now)) }
+    ensures kept { OnErr result (current.new ≡ current.old) }
 {
     match words.command {
-        Command::New => replace(current, new_layout(&Given::read(alloc, words.four()?)?)),
-        Command::Set => replace(current, set_layout(&Given::read(alloc, words.four()?)?)),
-        Command::Permute => replace(current, permute(alloc, *current, words.one()?)),
-        Command::Diagonal => replace(current, diagonal(alloc, *current, words.one()?)),
-        Command::Broadcast => replace(current, broadcast(alloc, *current, words.one()?)),
-        Command::Read => replace(current, read(alloc, memory, words.two()?)),
-        Command::Bounds => bounds(&Given::read(alloc, words.four()?)?),
+        Command::New => {
+            *current = new_layout(alloc, words.four()?)?;
+            Ok(Reply::Done)
+        }
+        Command::Set => {
+            *current = set_layout(alloc, words.four()?)?;
+            Ok(Reply::Done)
+        }
+        Command::Permute => {
+            *current = permute(alloc, *current, words.one()?)?;
+            Ok(Reply::Done)
+        }
+        Command::Diagonal => {
+            *current = diagonal(alloc, *current, words.one()?)?;
+            Ok(Reply::Done)
+        }
+        Command::Broadcast => {
+            *current = broadcast(alloc, *current, words.one()?)?;
+            Ok(Reply::Done)
+        }
+        Command::Read => {
+            *current = read(alloc, memory, words.one_or_two()?)?;
+            Ok(Reply::Done)
+        }
+        Command::Bounds => bounds(alloc, words.four()?),
         Command::Show => {
             words.none()?;
             Ok(Reply::Current(*current))
@@ -38,29 +64,32 @@ fn run(
             words.none()?;
             normal(current)
         }
-        Command::Verdict => verdict(current, memory, words.one()?),
-        Command::Injective => injective(alloc, memory, words.three()?),
-        Command::Record => record(alloc, current, memory, words.two()?),
+        Command::Verdict => verdict(current, memory, words.up_to_one()?),
+        Command::Injective => injective(alloc, memory, words.two_or_three()?),
+        Command::Record => record(alloc, current, memory, words.one_or_two()?),
         Command::Rest => rest(alloc, words.one()?),
         Command::Order => order(alloc, words.two()?),
-        Command::Column => dense(alloc, words.one()?, checked_col_major_strides),
-        Command::Row => dense(alloc, words.one()?, checked_row_major_strides),
+        Command::Column => column(alloc, words.one()?),
+        Command::Row => row(alloc, words.one()?),
+        Command::Help => help(words.up_to_one()?),
     }
 }
 
-/// What a line answers, or why it is not obeyed; then the current layout stays.
-pub fn obey(
+/// What a line of a name and words behind it answers, or why it is not obeyed; then the current layout stays.
+#[tactic(auto, unfolding(crate::specs::Obeyed::obeyed))]
+pub fn obey<'a>(
     alloc: Global,
     current: &mut Layout,
     memory: &mut Memory,
-    line: &[u8],
-) -> Result<Reply, Problem>
-    ensures { OnErr result (current.new ≡ current.old) }
+    name: &'a [u8],
+    texts: &'a [&'a [u8]],
+) -> Result<Reply, Problem<'a>>
+    ensures told { Gives (λ reply. record { text = reply_text reply; layout = modelOf current.new }) result
+        (obeyed (modelOf current.old) name.now (map (λ text. text.now) texts.now)) }
+    ensures kept { OnErr result (current.new ≡ current.old) }
 {
-    let words = words_of(alloc, line)?;
-    let [name, texts @ ..] = words.as_slice() else {
-        return Err(Fault::UnknownCommand.into());
-    };
-    let command = Command::named(*name).ok_or(Fault::UnknownCommand)?;
-    run(alloc, current, memory, Words { command, texts })
+    match Command::named(name) {
+        Some(command) => run(alloc, current, memory, Words { command, texts }),
+        None => Err(Fault::UnknownCommand(Word::new(1, name)).into()),
+    }
 }

@@ -1,48 +1,42 @@
 // The commands that answer and leave the current layout.
-ghost use Rattle.std.specs.Prelude.{ℕ, List, [], min, ◌≡◌, ◌<◌, ◌≤◌};
-ghost use Rattle.std.specs.Borrow.{Bor};
-ghost use Rattle.specification.specs.Outcome.{refused};
-ghost use Rattle.specification.specs.Record.{rest_of};
-ghost use Rattle.specification.specs.Verdict as definition;
-ghost use Rattle.specification.specs.Verdict.{judge};
-ghost use Rattle.injectivity.specs.Judgement.{toldOf};
-ghost use Rattle.specification.specs.CheckIn.{checkIn};
-ghost use Rattle.specification.specs.Beside.{indexedOffset};
-ghost use Rattle.specification.specs.Normal.{normalForm};
-ghost use Rattle.view.specs.Answers.{answer_of};
+ghost use Rattle.std.specs.Prelude.{◌≡◌, IfOk, length};
+ghost use Rattle.specification.specs.Record.{written};
+ghost use Rattle.specification.specs.Verdict.{verdict};
+ghost use Rattle.specification.specs.Beside.{colMajor, rowMajor};
 ghost use Rattle.view.specs.Model.{modelOf};
-ghost use Rattle.commands.specs.declared.fault.Form.TheVariants.{Unsigned, Lent as lent_form};
-ghost use Rattle.commands.specs.declared.reply.Reply.TheVariants.{Done, Current, Offset};
-ghost use Rattle.commands.specs.Obeyed.{Tells, Obeys, Replies, Judges, Prints, Orders, Records, Strides, numbered, lists_and_size, strides_and_count, two_sizes};
-ghost use Rattle.commands.specs.Spelled.{unsigned, lent};
-ghost use Rattle.commands.specs.Words.{list_of, one_of, bytes_of};
+ghost use Rattle.commands.specs.Words.{Gives, numbered, numbered_if};
+ghost use Rattle.injectivity.specs.Judgement.{judgedOf, toldOf};
+ghost use Rattle.commands.specs.Scratch.{bytes_made, front_written};
+ghost use Rattle.commands.specs.Obeyed.{or_most, layout_judged, reply_text, bounds_text, offset_text, normal_text, verdict_of, injective_text, record_text, rest_text, order_text, dense_text, help_text};
 
-use crate::change::Given;
-use crate::fault::Problem;
+use crate::change::{Four, Given};
+use crate::command::Command;
+use crate::fault::{Fault, Problem};
 use crate::list::first;
 use crate::memory::{Memory, lend};
+use crate::place::Word;
 use crate::reply::Reply;
+use crate::scratch::{lacking, words_given};
 use crate::spelled::Lent;
-use crate::word::Word;
+use crate::word::ENTRIES_MOST;
 use auxiliary::index_order_into;
-use dense::DenseStrides;
-use injectivity::is_injective_layout;
+use dense::{checked_col_major_strides, checked_row_major_strides};
+use injectivity::{Judgement, is_injective_layout};
 use record::fields::BytePlace;
 use record::normal::normal_form;
 use record::step::step_over;
 use record::writer::{judge_layout, write_record};
-use std::alloc::Global;
+use std::alloc::{AllocError, Global};
 use view::bounds::validate_bounds;
 use view::layout::{Layout, ReadingOffset, Refusal};
 
-/// The most entries of a list.
-const ENTRIES_MOST: usize = 64;
-
 /// Whether check-in finds the bounds of a layout right.
-pub fn bounds(given: &Given) -> Result<Reply, Problem>
-    ensures { Tells result (Replies (λ _. Done) (λ (u : Unit {0}). u) (answer_of
-        (checkIn given.now.len given.now.offset.0 given.now.extents.items given.now.strides.items))) }
+#[tactic(auto, unfolding(crate::specs::Obeyed::bounds_text))]
+pub fn bounds<'a>(alloc: Global, words: Four<'a>) -> Result<Reply, Problem<'a>>
+    ensures { Gives reply_text result (bounds_text
+        (numbered words.entry.0, numbered words.entry.1, numbered words.entry.2, numbered words.entry.3)) }
 {
+    let given = Given::read(alloc, words)?;
     let extents = given.extents.as_slice();
     let strides = given.strides.as_slice();
     validate_bounds(given.len, given.offset, extents, strides)?;
@@ -50,9 +44,9 @@ pub fn bounds(given: &Given) -> Result<Reply, Problem>
 }
 
 /// The offset of an index vector.
-pub fn offset(alloc: Global, current: &Layout, index: Word<'_>) -> Result<Reply, Problem>
-    ensures { Obeys result (list_of unsigned Unsigned index.entry.number index.entry.text.now)
-        (λ list. Replies Offset (λ z. z) (indexedOffset (modelOf current.now) list)) }
+#[tactic(auto, unfolding(crate::specs::Obeyed::offset_text))]
+pub fn offset<'a>(alloc: Global, current: &Layout, index: Word<'a>) -> Result<Reply, Problem<'a>>
+    ensures { Gives reply_text result (offset_text (modelOf current.now) (numbered index.entry)) }
 {
     let index = index.list(alloc)?;
     let ReadingOffset(offset) = current.indexed_offset(index.as_slice())?;
@@ -60,72 +54,134 @@ pub fn offset(alloc: Global, current: &Layout, index: Word<'_>) -> Result<Reply,
 }
 
 /// The normal form of the current layout.
-pub fn normal(current: &Layout) -> Result<Reply, Problem>
-    ensures { Tells result (Replies Current modelOf (normalForm (modelOf current.now))) }
+#[tactic(auto, unfolding(crate::specs::Obeyed::normal_text))]
+pub fn normal<'a>(current: &Layout) -> Result<Reply, Problem<'a>>
+    ensures { Gives reply_text result (normal_text (modelOf current.now)) }
 {
     Ok(Reply::Current(normal_form(current)?))
 }
 
-/// The verdict on a layout's axes. More of them than a layout has places for are refused as a list of so many is.
-pub fn verdict(current: &Layout, memory: &mut Memory, scratch: Word<'_>) -> Result<Reply, Problem>
-    ensures many { 16 < current.now.rank → Obeys result (one_of lent lent_form scratch.entry.number scratch.entry.text.now) (λ words. Judges (refused 1 [])) }
-    ensures few { current.now.rank ≤ 16 → Obeys result (one_of lent lent_form scratch.entry.number scratch.entry.text.now)
-        (λ words. Judges (toldOf (judge (modelOf current.now).axes words.0))) }
+// The verdict on a layout's axes with so many words, or with as many as it needs.
+#[tactic(auto, using(crate::proofs::ScratchLaws::verdict_of_layout, crate::proofs::ScratchLaws::verdict_first, crate::proofs::ScratchLaws::verdict_second))]
+fn judge(
+    current: &Layout,
+    scratch: &mut Vec<u64>,
+    words: Option<usize>,
+) -> Result<Result<Judgement, Refusal>, AllocError>
+    ensures { IfOk result
+        (λ answer. judgedOf answer ≡ toldOf (layout_judged (modelOf current.now) (or_most words))) }
 {
-    let Lent(count) = scratch.one()?;
-    let scratch = lend(&mut memory.scratch, count, 0)?;
-    Ok(Reply::Judged(judge_layout(current, scratch)?))
+    let first = judge_layout(current, lend(scratch, words.unwrap_or(0), 0)?);
+    match lacking(words, &first) {
+        Some(needed) => Ok(judge_layout(current, lend(scratch, needed, 0)?)),
+        None => Ok(first),
+    }
+}
+
+/// The verdict on a layout's axes.
+#[tactic(auto, unfolding(crate::specs::Obeyed::verdict_of, crate::specs::Obeyed::judged_text))]
+pub fn verdict<'a>(
+    current: &Layout,
+    memory: &mut Memory,
+    words: Option<Word<'a>>,
+) -> Result<Reply, Problem<'a>>
+    ensures { Gives reply_text result (verdict_of (modelOf current.now) (numbered_if words.entry)) }
+{
+    let words = words_given(words)?;
+    Ok(Reply::Judged(judge(current, &mut memory.scratch, words)??))
+}
+
+// The same of two lists.
+#[tactic(auto, using(crate::proofs::ScratchLaws::lists_first))]
+fn judge_lists(
+    extents: &[u64],
+    strides: &[i64],
+    scratch: &mut Vec<u64>,
+    words: Option<usize>,
+) -> Result<Result<Judgement, Refusal>, AllocError>
+    ensures { IfOk result
+        (λ answer. judgedOf answer ≡ toldOf (verdict extents.now strides.now (or_most words))) }
+{
+    let first = is_injective_layout(extents, strides, lend(scratch, words.unwrap_or(0), 0)?);
+    match lacking(words, &first) {
+        Some(needed) => Ok(is_injective_layout(extents, strides, lend(scratch, needed, 0)?)),
+        None => Ok(first),
+    }
 }
 
 /// The verdict on two lists.
-pub fn injective(
+#[tactic(auto, unfolding(crate::specs::Obeyed::injective_text, crate::specs::Obeyed::judged_text))]
+pub fn injective<'a>(
     alloc: Global,
     memory: &mut Memory,
-    words: (Word<'_>, Word<'_>, Word<'_>),
-) -> Result<Reply, Problem>
-    ensures { Obeys result (lists_and_size (numbered words.entry.0, numbered words.entry.1, numbered words.entry.2))
-        (λ w. Judges (toldOf (definition.verdict w.0 w.1 w.2.0))) }
+    words: (Word<'a>, Word<'a>, Option<Word<'a>>),
+) -> Result<Reply, Problem<'a>>
+    ensures { Gives reply_text result (injective_text
+        (numbered words.entry.0, numbered words.entry.1, numbered_if words.entry.2)) }
 {
-    let (extents, strides, scratch) = words;
+    let (extents, strides, words) = words;
     let extents = extents.list(alloc)?;
     let strides = strides.list(alloc)?;
-    let Lent(count) = scratch.one()?;
-    let scratch = lend(&mut memory.scratch, count, 0)?;
-    let judgement = is_injective_layout(extents.as_slice(), strides.as_slice(), scratch)?;
-    Ok(Reply::Judged(judgement))
+    let words = words_given(words)?;
+    let judged = judge_lists(
+        extents.as_slice(),
+        strides.as_slice(),
+        &mut memory.scratch,
+        words,
+    )?;
+    Ok(Reply::Judged(judged?))
 }
 
-/// The record of the current layout, in so many bytes and with so many words of scratch.
-pub fn record(
+// The record of a layout at the front of a room, with so many words of scratch, or with as many as it needs.
+#[tactic(auto, using(crate::proofs::ScratchLaws::written_first))]
+fn write(
+    current: &Layout,
+    room: &mut [u8],
+    scratch: &mut Vec<u64>,
+    words: Option<usize>,
+) -> Result<Result<BytePlace, Refusal>, AllocError>
+    ensures { IfOk result (λ answer. front_written room.new answer
+        ≡ bytes_made (written (modelOf current.now) (length room.old) (or_most words))) }
+{
+    let first = write_record(current, room, lend(scratch, words.unwrap_or(0), 0)?);
+    match lacking(words, &first) {
+        Some(needed) => Ok(write_record(current, room, lend(scratch, needed, 0)?)),
+        None => Ok(first),
+    }
+}
+
+/// The record of the current layout, in so many bytes.
+#[tactic(auto, using(crate::proofs::RecordText::record_told), unfolding(crate::specs::Obeyed::record_text))]
+pub fn record<'a>(
     alloc: Global,
     current: &Layout,
     memory: &mut Memory,
-    words: (Word<'_>, Word<'_>),
-) -> Result<Reply, Problem>
-    ensures { Obeys result (two_sizes (numbered words.entry.0, numbered words.entry.1))
-        (λ w. Records (modelOf current.now) w.0 w.1) }
+    words: (Word<'a>, Option<Word<'a>>),
+) -> Result<Reply, Problem<'a>>
+    ensures { Gives reply_text result (record_text (modelOf current.now)
+        (numbered words.entry.0, numbered_if words.entry.1)) }
 {
-    let (room, scratch) = words;
+    let (room, words) = words;
     let Lent(bytes) = room.one()?;
-    let Lent(count) = scratch.one()?;
+    let words = words_given(words)?;
     let room = lend(&mut memory.room, bytes, 0)?;
-    let scratch = lend(&mut memory.scratch, count, 0)?;
-    let BytePlace(end) = write_record(current, room, scratch)?;
+    let BytePlace(end) = write(current, room, &mut memory.scratch, words)??;
     Ok(Reply::bytes(alloc, first(end, room))?)
 }
 
 /// The bytes behind the record at the front.
-pub fn rest(alloc: Global, bytes: Word<'_>) -> Result<Reply, Problem>
-    ensures { Obeys result (bytes_of bytes.entry.number bytes.entry.text.now) (λ list. Prints (rest_of list)) }
+#[tactic(auto, unfolding(crate::specs::Obeyed::rest_text))]
+pub fn rest<'a>(alloc: Global, bytes: Word<'a>) -> Result<Reply, Problem<'a>>
+    ensures { Gives reply_text result (rest_text (numbered bytes.entry)) }
 {
     let bytes = bytes.bytes(alloc)?;
     Ok(Reply::bytes(alloc, step_over(bytes.as_slice()))?)
 }
 
 /// The index order of strides. An output of more places than a list has entries is answered as one of one more.
-pub fn order(alloc: Global, words: (Word<'_>, Word<'_>)) -> Result<Reply, Problem>
-    ensures { Obeys result (strides_and_count (numbered words.entry.0, numbered words.entry.1))
-        (λ w. Orders w.0 (min w.1 65)) }
+#[tactic(auto, unfolding(crate::specs::Obeyed::order_text))]
+pub fn order<'a>(alloc: Global, words: (Word<'a>, Word<'a>)) -> Result<Reply, Problem<'a>>
+    ensures { Gives reply_text result (order_text (numbered words.entry.0, numbered words.entry.1)) }
 {
     let (strides, places) = words;
     let strides = strides.list(alloc)?;
@@ -135,16 +191,34 @@ pub fn order(alloc: Global, words: (Word<'_>, Word<'_>)) -> Result<Reply, Proble
     Ok(Reply::Order(order))
 }
 
-/// The strides of an extent list by a rule, by column or by row.
-pub(crate) fn dense<F: FnOnce(&[u64]) -> Result<DenseStrides, Refusal>>(
-    alloc: Global,
-    extents: Word<'_>,
-    strides_of: F,
-) -> Result<Reply, Problem>
-    requires { F.IsAlwaysCallable strides_of }
-    ensures { Obeys result (list_of unsigned Unsigned extents.entry.number extents.entry.text.now)
-        (λ list answer. (lent : Bor (List ℕ)) × (lent.now ≡ list) × Strides (F.post strides_of lent) answer) }
+/// Dense strides by column.
+#[tactic(auto, unfolding(crate::specs::Obeyed::dense_text))]
+pub fn column<'a>(alloc: Global, extents: Word<'a>) -> Result<Reply, Problem<'a>>
+    ensures { Gives reply_text result (dense_text colMajor (numbered extents.entry)) }
 {
     let extents = extents.list(alloc)?;
-    Ok(Reply::Strides(strides_of(extents.as_slice())?))
+    Ok(Reply::Strides(checked_col_major_strides(extents.as_slice())?))
+}
+
+/// Dense strides by row.
+#[tactic(auto, unfolding(crate::specs::Obeyed::dense_text))]
+pub fn row<'a>(alloc: Global, extents: Word<'a>) -> Result<Reply, Problem<'a>>
+    ensures { Gives reply_text result (dense_text rowMajor (numbered extents.entry)) }
+{
+    let extents = extents.list(alloc)?;
+    Ok(Reply::Strides(checked_row_major_strides(extents.as_slice())?))
+}
+
+/// What a command does, or each of them.
+#[tactic(auto, unfolding(crate::specs::Obeyed::help_text))]
+pub fn help<'a>(name: Option<Word<'a>>) -> Result<Reply, Problem<'a>>
+    ensures { Gives reply_text result (help_text (numbered_if name.entry)) }
+{
+    let Some(word) = name else {
+        return Ok(Reply::AllHelp);
+    };
+    match Command::named(word.text) {
+        Some(command) => Ok(Reply::Help(command)),
+        None => Err(Fault::UnknownCommand(word).into()),
+    }
 }

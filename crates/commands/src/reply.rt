@@ -1,5 +1,6 @@
 // What an obeyed line answers.
-use crate::list::{Extents, List, Strides, first};
+use crate::command::{COMMANDS, Command};
+use crate::list::{Joined, List, first};
 use dense::DenseStrides;
 use injectivity::Judgement;
 use std::alloc::{AllocError, Global};
@@ -15,15 +16,18 @@ pub enum Reply {
     Bytes(String),
     Order(Vec<usize>),
     Strides(DenseStrides),
+    Help(Command),
+    AllHelp,
 }
 
 impl Reply {
-    ghost use Rattle.std.specs.Prelude.{◌≡◌, IfOk, string_bytes};
-    ghost use Rattle.commands.specs.Replies.{bytes_text, IsBytes};
+    ghost use Rattle.std.specs.Prelude.{◌≡◌, IfOk};
+    ghost use Rattle.commands.specs.Texts.{bytes_text};
+    ghost use Rattle.commands.specs.Obeyed.{reply_text};
 
     /// Bytes as two digits each; `-` for none.
     pub fn bytes(alloc: Global, bytes: &[u8]) -> Result<Reply, AllocError>
-        ensures { IfOk result (IsBytes bytes.now) }
+        ensures { IfOk result (λ reply. reply_text reply ≡ bytes_text bytes.now) }
     {
         if bytes.is_empty() {
             return Ok(Reply::Bytes(String::from_str(alloc, "-")?));
@@ -34,26 +38,35 @@ impl Reply {
 
 // LEN OFFSET EXTENTS STRIDES; above rank 16 the 16 places that a layout holds.
 #[derive(Clone, Copy)]
-struct Line<'a>(&'a Layout);
+struct Shown<'a>(&'a Layout);
 
-impl fmt::Display for Line<'_> {
+impl fmt::Display for Shown<'_> {
+    ghost use Rattle.std.specs.Prelude.{Some};
+    ghost use Rattle.view.specs.Model.{modelOf};
+    ghost use Rattle.commands.specs.Texts.{layout_text};
+
+    ghost output = { λ shown. Some (layout_text (modelOf shown.0.now)) };
+
     fn fmt<W: fmt::Write>(&self, f: &mut fmt::Formatter<W>) -> fmt::Result {
         let layout = self.0;
-        let axes = first(layout.rank, &layout.axes);
-        let (extents, strides) = (Extents(axes), Strides(axes));
+        let extents = layout.axes.map(|axis| axis.extent);
+        let strides = layout.axes.map(|axis| axis.stride);
+        let extents = List(first(layout.rank, &extents));
+        let strides = List(first(layout.rank, &strides));
         write!(f, "{} {} {extents} {strides}", layout.len, layout.offset.0)
     }
 }
 
 impl fmt::Display for Reply {
-    ghost use Rattle.commands.specs.Replies.{reply_text};
+    ghost use Rattle.std.specs.Prelude.{Some};
+    ghost use Rattle.commands.specs.Obeyed.{reply_text};
 
-    ghost output = { reply_text };
+    ghost output = { λ reply. Some (reply_text reply) };
 
     fn fmt<W: fmt::Write>(&self, f: &mut fmt::Formatter<W>) -> fmt::Result {
         match self {
             Reply::Done => f.write_str("ok"),
-            Reply::Current(layout) => write!(f, "{}", Line(layout)),
+            Reply::Current(layout) => write!(f, "{}", Shown(layout)),
             Reply::Offset(offset) => write!(f, "{offset}"),
             Reply::Judged(Judgement::Distinct(looked_at)) => write!(f, "distinct {looked_at}"),
             Reply::Judged(Judgement::Repeated(looked_at)) => write!(f, "repeated {looked_at}"),
@@ -61,6 +74,15 @@ impl fmt::Display for Reply {
             Reply::Bytes(digits) => f.write_str(digits.as_str()),
             Reply::Order(axes) => write!(f, "{}", List(axes.as_slice())),
             Reply::Strides(dense) => write!(f, "{}", List(dense.as_slice())),
+            Reply::Help(command) => write!(f, "{command}"),
+            Reply::AllHelp => write!(
+                f,
+                "{}",
+                Joined {
+                    between: "\n",
+                    entries: &COMMANDS
+                }
+            ),
         }
     }
 }

@@ -6,6 +6,7 @@ ghost use Rattle.commands.specs.Spelled.{unsigned, signed, lent, colon, pair};
 
 use crate::fault::Form;
 use spelling::number::{read_signed, read_unsigned};
+use view::diagonal::AxisPair;
 
 /// The most words or bytes that a line lends to a call.
 const LENT_MOST: usize = 65536;
@@ -81,7 +82,7 @@ fn colon(text: &[u8]) -> Option<usize>
 }
 
 // Two axes, with a colon between them.
-impl Spelled for [usize; 2] {
+impl Spelled for AxisPair {
     ghost spelled = { pair };
 
     ghost form = { Pair };
@@ -90,11 +91,11 @@ impl Spelled for [usize; 2] {
         Form::Pair
     }
 
-    fn read(text: &[u8]) -> Option<[usize; 2]> {
+    fn read(text: &[u8]) -> Option<AxisPair> {
         let at = colon(text)?;
         let left = usize::read(&text[..at])?;
         let right = usize::read(&text[at + 1..])?;
-        Some([left, right])
+        Some(AxisPair(left, right))
     }
 }
 

@@ -1,19 +1,17 @@
 // Words of a line, and what they spell.
-ghost use Rattle.std.specs.Prelude.{◌≡◌, IfOk, map};
-ghost use Rattle.commands.specs.Words.{Gives, words, no_word, one_word, two_words, three_words, four_words, is_none, entries, one_of, list_of, listed, bytes_of};
+ghost use Rattle.std.specs.Prelude.{◌≡◌, ◌≤◌, IfOk, length, map, vec_len};
+ghost use Rattle.std.specs.Io.BufRead.{strip_last};
+ghost use Rattle.commands.specs.Words.{Gives, is_space, words, numbered, numbered_if, no_word, one_word, two_words, four_words, up_to_one_word, one_or_two_words, two_or_three_words, is_none, entries, one_of, list_of, listed, bytes_of};
 
 use crate::command::Command;
-use crate::fault::{Fault, Place, Problem};
+use crate::fault::{Fault, Problem};
+use crate::place::{Place, Word};
 use crate::spelled::Spelled;
-use spelling::hexadecimal::{HexadecimalError, read_bytes};
+use hex::FromHexError;
 use std::alloc::{AllocError, Global};
 
-/// A word, with its number in the line, counted from 1.
-#[derive(Clone, Copy)]
-pub struct Word<'a> {
-    pub number: usize,
-    pub text: &'a [u8],
-}
+/// The most entries of a list.
+pub const ENTRIES_MOST: usize = 64;
 
 /// The words behind the name of a command, which takes so many of them.
 #[derive(Clone, Copy)]
@@ -22,19 +20,37 @@ pub struct Words<'a> {
     pub texts: &'a [&'a [u8]],
 }
 
+fn is_space(byte: u8) -> bool
+    ensures { result ≡ is_space byte }
+{
+    byte == b' ' || byte == b'\t'
+}
+
+// A line without the carriage return at its end.
+fn without_return(line: &[u8]) -> &[u8]
+    ensures { result.now ≡ strip_last 13 line.now }
+{
+    match line {
+        [front @ .., b'\r'] => front,
+        [..] => line,
+    }
+}
+
 /// The words between the spaces of a line.
 pub fn words_of(alloc: Global, line: &[u8]) -> Result<Vec<&[u8]>, AllocError>
     ensures { IfOk result (λ v. map (λ text. text.now) v.items ≡ words line.now) }
 {
-    line.split(|byte| *byte == b' ')
+    without_return(line)
+        .split(|byte| is_space(*byte))
         .filter(|text| !text.is_empty())
         .collect(alloc)
 }
 
 impl<'a> Words<'a> {
     #[tactic(auto, unfolding(crate::specs::Words::no_word))]
-    pub fn none(self) -> Result<(), Problem>
-        ensures { Gives (λ none. none) result (no_word self.entry.command (map (λ text. text.now) self.entry.texts.now)) }
+    pub fn none(self) -> Result<(), Problem<'a>>
+        ensures { Gives (λ none. none) result
+            (no_word self.entry.command (map (λ text. text.now) self.entry.texts.now)) }
     {
         match self.texts {
             [] => Ok(()),
@@ -43,8 +59,9 @@ impl<'a> Words<'a> {
     }
 
     #[tactic(auto, unfolding(crate::specs::Words::one_word))]
-    pub fn one(self) -> Result<Word<'a>, Problem>
-        ensures { Gives (λ w. (w.number, w.text.now)) result (one_word self.entry.command (map (λ text. text.now) self.entry.texts.now)) }
+    pub fn one(self) -> Result<Word<'a>, Problem<'a>>
+        ensures { Gives numbered result
+            (one_word self.entry.command (map (λ text. text.now) self.entry.texts.now)) }
     {
         match self.texts {
             [a] => Ok(Word::new(2, *a)),
@@ -53,8 +70,8 @@ impl<'a> Words<'a> {
     }
 
     #[tactic(auto, unfolding(crate::specs::Words::two_words))]
-    pub fn two(self) -> Result<(Word<'a>, Word<'a>), Problem>
-        ensures { Gives (λ w. ((w.0.number, w.0.text.now), (w.1.number, w.1.text.now))) result
+    pub fn two(self) -> Result<(Word<'a>, Word<'a>), Problem<'a>>
+        ensures { Gives (λ w. (numbered w.0, numbered w.1)) result
             (two_words self.entry.command (map (λ text. text.now) self.entry.texts.now)) }
     {
         match self.texts {
@@ -63,20 +80,9 @@ impl<'a> Words<'a> {
         }
     }
 
-    #[tactic(auto, unfolding(crate::specs::Words::three_words))]
-    pub fn three(self) -> Result<(Word<'a>, Word<'a>, Word<'a>), Problem>
-        ensures { Gives (λ w. ((w.0.number, w.0.text.now), (w.1.number, w.1.text.now), (w.2.number, w.2.text.now))) result
-            (three_words self.entry.command (map (λ text. text.now) self.entry.texts.now)) }
-    {
-        match self.texts {
-            [a, b, c] => Ok((Word::new(2, *a), Word::new(3, *b), Word::new(4, *c))),
-            [..] => Err(Fault::WordCount(self.command).into()),
-        }
-    }
-
     #[tactic(auto, unfolding(crate::specs::Words::four_words))]
-    pub fn four(self) -> Result<(Word<'a>, Word<'a>, Word<'a>, Word<'a>), Problem>
-        ensures { Gives (λ w. ((w.0.number, w.0.text.now), (w.1.number, w.1.text.now), (w.2.number, w.2.text.now), (w.3.number, w.3.text.now))) result
+    pub fn four(self) -> Result<(Word<'a>, Word<'a>, Word<'a>, Word<'a>), Problem<'a>>
+        ensures { Gives (λ w. (numbered w.0, numbered w.1, numbered w.2, numbered w.3)) result
             (four_words self.entry.command (map (λ text. text.now) self.entry.texts.now)) }
     {
         match self.texts {
@@ -89,11 +95,50 @@ impl<'a> Words<'a> {
             [..] => Err(Fault::WordCount(self.command).into()),
         }
     }
+
+    /// One word, which may be left out.
+    #[tactic(auto, unfolding(crate::specs::Words::up_to_one_word))]
+    pub fn up_to_one(self) -> Result<Option<Word<'a>>, Problem<'a>>
+        ensures { Gives numbered_if result
+            (up_to_one_word self.entry.command (map (λ text. text.now) self.entry.texts.now)) }
+    {
+        match self.texts {
+            [] => Ok(None),
+            [a] => Ok(Some(Word::new(2, *a))),
+            [..] => Err(Fault::WordCount(self.command).into()),
+        }
+    }
+
+    /// Two words, of which the second may be left out.
+    #[tactic(auto, unfolding(crate::specs::Words::one_or_two_words))]
+    pub fn one_or_two(self) -> Result<(Word<'a>, Option<Word<'a>>), Problem<'a>>
+        ensures { Gives (λ w. (numbered w.0, numbered_if w.1)) result
+            (one_or_two_words self.entry.command (map (λ text. text.now) self.entry.texts.now)) }
+    {
+        match self.texts {
+            [a] => Ok((Word::new(2, *a), None)),
+            [a, b] => Ok((Word::new(2, *a), Some(Word::new(3, *b)))),
+            [..] => Err(Fault::WordCount(self.command).into()),
+        }
+    }
+
+    /// Three words, of which the third may be left out.
+    #[tactic(auto, unfolding(crate::specs::Words::two_or_three_words))]
+    pub fn two_or_three(self) -> Result<(Word<'a>, Word<'a>, Option<Word<'a>>), Problem<'a>>
+        ensures { Gives (λ w. (numbered w.0, numbered w.1, numbered_if w.2)) result
+            (two_or_three_words self.entry.command (map (λ text. text.now) self.entry.texts.now)) }
+    {
+        match self.texts {
+            [a, b] => Ok((Word::new(2, *a), Word::new(3, *b), None)),
+            [a, b, c] => Ok((Word::new(2, *a), Word::new(3, *b), Some(Word::new(4, *c)))),
+            [..] => Err(Fault::WordCount(self.command).into()),
+        }
+    }
 }
 
 impl<'a> Word<'a> {
-    fn new(number: usize, text: &'a [u8]) -> Word<'a>
-        ensures { (result.number ≡ number) × (result.text.now ≡ text.now) }
+    pub fn new(number: usize, text: &'a [u8]) -> Word<'a>
+        ensures { numbered result ≡ (number, text.now) }
     {
         Word { number, text }
     }
@@ -106,12 +151,12 @@ impl<'a> Word<'a> {
     }
 
     /// What the word spells.
-    pub fn one<T: Spelled>(self) -> Result<T, Problem>
-        ensures { Gives (λ x. x) result (one_of T.spelled T.form self.entry.number self.entry.text.now) }
+    pub fn one<T: Spelled>(self) -> Result<T, Problem<'a>>
+        ensures { Gives (λ x. x) result (one_of T.spelled T.form (numbered self.entry)) }
     {
         match T::read(self.text) {
             Some(x) => Ok(x),
-            None => Err(Problem::Told(Fault::Misspelled(Place::Word(self.number), T::form()))),
+            None => Err(Problem::Told(Fault::Misspelled(Place::Word(self), T::form()))),
         }
     }
 
@@ -127,43 +172,51 @@ impl<'a> Word<'a> {
 
     /// What the entries of a list spell, at most 64.
     #[tactic(auto, using(std::proofs::lemmas::Grind::common_steps), unfolding(crate::specs::Words::list_of))]
-    pub fn list<T: Spelled>(self, alloc: Global) -> Result<Vec<T>, Problem>
-        ensures { Gives (λ v. v.items) result (list_of T.spelled T.form self.entry.number self.entry.text.now) }
+    pub fn list<T: Spelled>(self, alloc: Global) -> Result<Vec<T>, Problem<'a>>
+        ensures spelled { Gives (λ v. v.items) result
+            (list_of T.spelled T.form (numbered self.entry)) }
+        ensures few { IfOk result (λ v. vec_len v ≤ 64) }
     {
         let entries = self.entries(alloc)?;
-        if 64 < entries.len() {
-            return Err(Fault::ManyEntries(self.number).into());
+        if ENTRIES_MOST < entries.len() {
+            return Err(Fault::ManyEntries(self).into());
         }
         spelled_by(alloc, self.number, entries.as_slice())
     }
 
     /// The bytes that pairs of hexadecimal digits write.
     #[tactic(auto, unfolding(crate::specs::Words::bytes_of))]
-    pub fn bytes(self, alloc: Global) -> Result<Vec<u8>, Problem>
-        ensures { Gives (λ v. v.items) result (bytes_of self.entry.number self.entry.text.now) }
+    pub fn bytes(self, alloc: Global) -> Result<Vec<u8>, Problem<'a>>
+        ensures { Gives (λ v. v.items) result (bytes_of (numbered self.entry)) }
     {
         if self.is_none() {
             return Ok(Vec::new(alloc));
         }
-        match read_bytes(alloc, self.text) {
+        match hex::decode(alloc, self.text) {
             Ok(bytes) => Ok(bytes),
-            Err(HexadecimalError::BadDigit) => Err(Fault::BadDigit(self.number).into()),
-            Err(HexadecimalError::OddDigits) => Err(Fault::OddDigits(self.number).into()),
-            Err(HexadecimalError::OutOfMemory) => Err(Problem::Memory),
+            Err(FromHexError::OutOfMemory) => Err(Problem::Memory),
+            Err(FromHexError::OddLength) => Err(Fault::OddDigits(self).into()),
+            Err(_) => Err(Fault::BadDigit(self).into()),
         }
     }
 }
 
 // What each entry of the word of a number spells.
-fn spelled_by<T: Spelled>(alloc: Global, word: usize, entries: &[&[u8]]) -> Result<Vec<T>, Problem>
-    ensures { Gives (λ v. v.items) result (listed T.spelled T.form word 1 (map (λ text. text.now) entries.now)) }
+fn spelled_by<'a, T: Spelled>(
+    alloc: Global,
+    word: usize,
+    entries: &[&'a [u8]],
+) -> Result<Vec<T>, Problem<'a>>
+    ensures spelled { Gives (λ v. v.items) result
+        (listed T.spelled T.form word 1 (map (λ text. text.now) entries.now)) }
+    ensures each { IfOk result (λ v. vec_len v ≡ length entries.now) }
 {
     let mut list = Vec::new(alloc);
     for text in entries {
         match T::read(*text) {
             Some(x) => list.push(x)?,
             None => {
-                let place = Place::Entry(word, list.len() + 1);
+                let place = Place::Entry(word, Word::new(list.len() + 1, *text));
                 return Err(Problem::Told(Fault::Misspelled(place, T::form())));
             }
         }

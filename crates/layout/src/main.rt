@@ -1,8 +1,8 @@
-// Reads commands on standard input and answers each on standard output.
+// Answers lines about layouts: the program for people.
 #![tactic(auto)]
 
 use std::process::ExitCode;
 
 fn main(rt: HostRuntime) -> ExitCode {
-    commands::run(rt, "layout")
+    program::run(rt, "layout")
 }

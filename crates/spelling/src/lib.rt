@@ -1,5 +1,4 @@
-// Numbers and bytes as text spells them: decimal numbers, and bytes as pairs of hexadecimal digits.
+// Numbers as text spells them in decimal digits, unsigned and signed.
 #![tactic(auto)]
 
-pub mod hexadecimal;
 pub mod number;

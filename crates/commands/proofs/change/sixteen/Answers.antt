@@ -1,10 +1,17 @@
 -- `sixteen`: the axes paired are all of them, or the first sixteen.
 use Rattle.std.proofs.Common.{arith, ap, refl, sym, ◌∙◌, ◌≡◌, ◌≤◌, ◌<◌, ◌⊎◌, inl, inr, ℕ, ℤ, List, ◌++◌, length, take, drop, min}
 use Rattle.std.proofs.lemmas.Bool.{cases_lt}
-use Rattle.std.proofs.lemmas.List.{take_all, drop_all, append-nil, take-append-le, length-take-le}
+use Rattle.std.proofs.lemmas.List.{take_all, drop_all, append-nil, take-append-le, length-take-le, get_or-take}
 use Rattle.specification.specs.Axis.{Axis, axesOf}
+use Rattle.specification.specs.Views.{axisAt}
+use Rattle.view.specs.Model.{first_axes}
+use Rattle.view.proofs.TableLaws.{table-ext}
 use Rattle.view.proofs.AxesLaws.{length-axesOf}
 use Rattle.commands.proofs.change.sixteen.Goals as goal
+
+-- of an array only the front is read
+by_front : (n : ℕ) (places axes : List Axis) → take n places ≡ axes → first_axes places n ≡ first_axes axes n
+by_front n places axes e = table-ext (axisAt places) (axisAt axes) n (λ i h. sym (get_or-take n places i _ h) ∙ ap (λ (front : List Axis). axisAt front i) e)
 
 module _ (n : ℕ) (es : List ℕ) (ss : List ℤ) (alike : length ss ≡ length es) (front places : List Axis) where
   -- as many axes as are held
@@ -37,4 +44,4 @@ returns c =
     let alike : length ss ≡ length es = ap length c.as_slice-strides.ensures.value ∙ c.requires ∙ sym (ap length c.as_slice-extents.ensures.value) in
     let all : length (take c.min-held.result es) ≡ c.min-held.result = length-take-le c.min-held.result es (omega (arith, c.min-held.ensures)) in
     rw (← c.as_slice-extents.ensures.value, ← c.as_slice-strides.ensures.value, c.store.ensures, all)
-    (by_length c.min-held.result es ss alike _ _ (cases_lt 16 (length es)) c.min-held.ensures refl refl)
+    (by_front (length es) _ _ (by_length c.min-held.result es ss alike _ _ (cases_lt 16 (length es)) c.min-held.ensures refl refl))

@@ -1,13 +1,49 @@
-use Rattle.std.proofs.Common.{ℕ, ap, ◌∙◌}
-use Rattle.std.specs.Prelude.{replicate}
+-- `order`: an output longer than every list is refused like one of one place more.
+use Rattle.std.proofs.Common.{rules, arith, ◌≡◌, ◌≤◌, ◌<◌, ◌⊎◌, inl, inr, ℕ, ℤ, List, length, drop, min, eqb, Ok, Err, refl, sym, ap, ◌∙◌}
+use Rattle.std.proofs.lemmas.Bool.{cases_lt, ne_eqb}
 use Rattle.std.proofs.lemmas.List.{take_at}
+use Rattle.specification.specs.Outcome.{Outcome, done, refused}
+use Rattle.specification.specs.Beside.{indexOrder, orderAfter}
+use Rattle.specification.proofs.OutcomeLaws.{clash}
+use Rattle.view.specs.declared.layout.Refusal.{Refusal}
+use Rattle.view.specs.Answers.{outcomeOf, answer_of}
+use Rattle.commands.specs.Texts.{told_refusal}
+use Rattle.commands.specs.Obeyed.{told, order_text}
 use Rattle.commands.proofs.query.order.Goals as goal
 
+same_test : (n places room : ℕ) → room ≡ min places 65 → n ≤ 64 → eqb n places ≡ eqb n room
+same_test n places room e few = go (cases_lt 65 places)
+  where
+    go : (65 < places) ⊎ (places ≤ 65) → eqb n places ≡ eqb n room
+    go (inl h) = ne_eqb n places (λ k. omega arith) ∙ sym (ne_eqb n room (λ k. omega arith))
+    go (inr h) = ap (eqb n) (omega arith)
+
+same_order : (items strides : List ℤ) (places room : ℕ) → strides ≡ items → room ≡ min places 65 → length strides ≤ 64 → indexOrder items places ≡ indexOrder strides room
+unfolding indexOrder
+same_order items strides places room same e few = rw (← same, same_test (length strides) places room e few) refl
+
+refused_is : (o : Outcome (List ℕ)) (why : Refusal) → outcomeOf (Err why) ≡ answer_of o → told o ≡ Err (told_refusal why)
+refused_is (done order) why e = absurd (clash (sym e))
+refused_is (refused number values) why e = cc
+
+given_is : (o : Outcome (List ℕ)) (before after : List ℕ) → outcomeOf (Ok tt) ≡ answer_of o → after ≡ orderAfter o before → told o ≡ Ok after
+given_is (done order) before after e out = cc
+given_is (refused number values) before after e out = absurd (clash e)
+
+pub returns-in_err-index_order_into : goal.returns-in_err-index_order_into
+unfolding order_text
+returns-in_err-index_order_into c =
+    let same = same_order c.in_ok-strides.strides.items c.as_slice.result.now c.in_ok-places.places (length c.as_mut_slice.result.now) c.as_slice.ensures.value
+    (c.as_mut_slice.ensures.len ∙ c.in_ok-order.ensures.len ∙ c.min.ensures) (omega (arith, c.as_slice.ensures.len, c.in_ok-strides.ensures.few)) in
+    let e = ap told same ∙ refused_is _ c.in_err-index_order_into.field-0.0 (rw c.in_err-index_order_into.was at c.index_order_into.ensures.answered) in
+    search rules
+
 pub returns : goal.returns
+unfolding order_text
 returns c =
-    let out = c.as_mut_slice.ensures in
-    let zeros = c.in_ok-order.ensures.items_if_clones_equal (λ y e. e) ∙ ap (λ (n : ℕ). replicate n 0) c.min.ensures in (
-      (c.in_ok-strides.strides.items, c.in_ok-places.places),
-      rw (c.in_ok-strides.ensures, c.in_ok-places.ensures),
-      rw (← c.as_slice.ensures.value, take_at c.index_order_into.new.out _ _ (c.index_order_into.auto.out ∙ out.len), ← (out.value ∙ zeros)) c.in_ok-index_order_into.ensures,
-    )
+    let same = same_order c.in_ok-strides.strides.items c.as_slice.result.now c.in_ok-places.places (length c.as_mut_slice.result.now) c.as_slice.ensures.value
+    (c.as_mut_slice.ensures.len ∙ c.in_ok-order.ensures.len ∙ c.min.ensures) (omega (arith, c.as_slice.ensures.len, c.in_ok-strides.ensures.few)) in
+    let out = c.index_order_into.new.out in
+    let whole = take_at out (drop (length out) c.in_ok-order.order.items) c.in_ok-order.order.len (omega (arith, c.index_order_into.auto.out, c.as_mut_slice.ensures.len)) in
+    let e = ap told same ∙ given_is _ c.as_mut_slice.result.now out (rw c.in_ok-index_order_into.was at c.index_order_into.ensures.answered) c.index_order_into.ensures.written ∙ ap Ok (sym whole) in
+    search rules

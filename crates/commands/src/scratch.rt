@@ -1,0 +1,31 @@
+// How many words of scratch a line lends: those that it names, or as many as are needed.
+ghost use Rattle.std.specs.Prelude.{◌≡◌, Option};
+ghost use Rattle.commands.specs.Words.{Gives, numbered_if};
+ghost use Rattle.commands.specs.Obeyed.{words_given};
+ghost use Rattle.commands.specs.Scratch.{words_lacking};
+
+use crate::fault::Problem;
+use crate::place::Word;
+use crate::spelled::Lent;
+use view::layout::Refusal;
+
+/// WORDS, where the line has them.
+pub fn words_given<'a>(words: Option<Word<'a>>) -> Result<Option<usize>, Problem<'a>>
+    ensures { Gives (λ words. words) result (words_given (numbered_if words.entry)) }
+{
+    let Some(word) = words else {
+        return Ok(None);
+    };
+    let Lent(count) = word.one()?;
+    Ok(Some(count))
+}
+
+/// How many words a second try is lent: as many as the first one, made with none, lacked, where WORDS is left out.
+pub fn lacking<T>(words: Option<usize>, first: &Result<T, Refusal>) -> Option<usize>
+    ensures { result ≡ words_lacking words first.now }
+{
+    match (words, first) {
+        (None, Err(Refusal::ShortScratch(needed))) => Some(*needed),
+        _ => None,
+    }
+}

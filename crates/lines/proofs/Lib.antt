@@ -1,0 +1,5 @@
+pub mod Held
+pub mod LineLaws
+pub mod Taken
+pub mod SoFar
+pub mod Front

@@ -1,0 +1,125 @@
+// Lines of standard input, or of a file, answered on standard output.
+ghost use Rattle.std.specs.Prelude.{◌≤◌, IfOk};
+ghost use Rattle.std.specs.Process.{exit_status};
+
+use crate::status::status;
+use clap::{Arg, Command, Error};
+use commands::reply::Reply;
+use lines::failure::Failure;
+use std::alloc::{AllocError, Global};
+use std::fs::File;
+use std::io::{BufReader, BufWriter, IsTerminal, Read};
+use std::process::ExitCode;
+use std::{env, io};
+
+// The bytes that are read, and written, at once.
+const BUFFER_BYTES: usize = 65536;
+
+// The status of a command line that is not understood.
+const NOT_UNDERSTOOD: u8 = 2;
+
+const VERSION: &str = "0.1.0";
+
+const ABOUT: &str = "Answers lines of words about strided layouts, each with a line";
+
+// The one argument.
+const FILE: &str = "FILE";
+
+// What stands in a line, in front of the commands.
+const WORDS: &str = "Words of a line, with spaces or tabs between them:
+  LEN, OUTLEN    a number from 0 to 18446744073709551615
+  OFFSET         a number from -9223372036854775808 to 9223372036854775807
+  LIST, EXTENTS  numbers from 0 on, with commas between them, as 4,6; - for none
+  STRIDES        the same of numbers with their signs, as -1,4
+  PAIRS          axes as a:b, with commas between them, as 0:1,1:2; - for none
+  BYTES          two hexadecimal digits a byte, as 00ff; - for none
+  WORDS          words of scratch to lend, up to 65536; left out, as many as are needed
+  ROOM           bytes of output to lend, up to 65536
+  COMMAND        the name of a command
+A line that begins with # is a comment.
+
+Commands:";
+
+// The words of a line and the commands, as `--help` tells them.
+fn lines_help(alloc: Global) -> Result<String, AllocError> {
+    format!(in alloc; "{WORDS}\n{}", Reply::AllHelp)
+}
+
+// What the command line takes.
+fn command_line<'a>(alloc: Global, name: &'a str, help: &'a str) -> Result<Command<'a>, Error> {
+    let file = Arg::new(alloc, FILE).help("The lines, in place of standard input");
+    let taken = Command::new(alloc, name).version(VERSION).about(ABOUT);
+    Ok(taken.after_help(help).arg(file)?)
+}
+
+// Answers the lines of a reader to its end.
+fn answer<R: Read + Drop>(rt: &HostRuntime, reader: R) -> Result<(), Failure> {
+    let alloc = rt.alloc();
+    let mut input = BufReader::with_capacity(alloc, BUFFER_BYTES, reader).map_err(Failure::Read)?;
+    let mut out = BufWriter::with_capacity(alloc, BUFFER_BYTES, rt.stdout()).map_err(
+        Failure::Write,
+    )?;
+    session::run(alloc, &mut input, &mut out)
+}
+
+// Answers standard input. Whoever sits at a terminal is told first what it waits for.
+fn answer_input(rt: &HostRuntime, name: &str) -> Result<(), Failure> {
+    if rt.stdin().is_terminal() {
+        // the lines are answered also where this write fails
+        let _ = eprintln!(rt;
+            "{name}: a line of words in, an answer out; help lists the commands, end with Ctrl-D"
+        );
+    }
+    answer(rt, rt.stdin())
+}
+
+fn answer_file(rt: &HostRuntime, path: &str) -> Result<(), Failure> {
+    let file = File::open(rt, path).map_err(Failure::Read)?;
+    answer(rt, file)
+}
+
+// Does what the words of the command line ask for.
+fn obey(rt: &HostRuntime, name: &str, words: &[String]) -> Result<ExitCode, Error>
+    ensures { IfOk result (λ code. exit_status code ≤ 1) }
+{
+    let alloc = rt.alloc();
+    let help = lines_help(alloc)?;
+    let taken = command_line(alloc, name, help.as_str())?;
+    let matches = taken.try_get_matches_from(words)?;
+    let code = match matches.get_str(FILE) {
+        None => status(rt, name, "standard input", answer_input(rt, name)),
+        Some(path) => status(rt, name, path, answer_file(rt, path)),
+    };
+    Ok(code)
+}
+
+// The words of the command line, the program's own first.
+fn words(rt: &HostRuntime) -> io::Result<Vec<String>> {
+    Ok(env::args(rt)?.collect(rt.alloc())?)
+}
+
+/// Does what the command line asks for. Status 0 where the input has ended or the reader of the answers has closed the pipe, and
+/// behind `--help` and `--version`; 1 where something fails; 2 where the command line is not understood.
+pub fn run(rt: HostRuntime, name: &str) -> ExitCode
+    ensures { exit_status result ≤ 2 }
+{
+    let words = match words(&rt) {
+        Ok(words) => words,
+        Err(error) => {
+            let _ = eprintln!(rt; "{name}: cannot read the command line: {error}");
+            return ExitCode::from(NOT_UNDERSTOOD);
+        }
+    };
+    match obey(&rt, name, words.as_slice()) {
+        Ok(code) => code,
+        Err(error) if error.use_stderr() => {
+            let _ = error.print(&rt);
+            ExitCode::from(NOT_UNDERSTOOD)
+        }
+        // what --help or --version asks for
+        Err(shown) => {
+            let printed = shown.print(&rt).map_err(Failure::Write);
+            status(&rt, name, "the command line", printed)
+        }
+    }
+}

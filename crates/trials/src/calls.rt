@@ -1,0 +1,100 @@
+// Each call of the library where it succeeds.
+use auxiliary::index_order_into;
+use commands::memory::Memory;
+use commands::obey::obey;
+use commands::word::words_of;
+use dense::{checked_col_major_strides, checked_row_major_strides};
+use injectivity::{Judgement, is_injective_layout};
+use lines::line::Line;
+use lines::write::write_front;
+use record::calls::{Call, run};
+use record::normal::normal_form;
+use record::read::read_record;
+use record::step::step_over;
+use record::writer::{judge_layout, write_record};
+use spelling::number::{read_signed, read_unsigned};
+use std::io::Write;
+use std::test::Fail;
+use view::bounds::validate_bounds;
+use view::count::checked_element_count;
+use view::diagonal::AxisPair;
+use view::layout::{Layout, ReadingOffset};
+
+#[test]
+fn views(rt: HostRuntime) -> Result<(), Fail> {
+    let at = ReadingOffset(0);
+    validate_bounds(6, at, &[2, 3], &[1, 2])?;
+    assert_eq!(rt; checked_element_count(&[2, 3])?, 6);
+    let sheet = Layout::new(6, at, &[2, 3], &[1, 2])?;
+    assert_eq!(rt; sheet.indexed_offset(&[1, 2])?, ReadingOffset(5));
+    let turned = sheet.permute(&[1, 0]).accepted()?;
+    assert_eq!(rt; turned.indexed_offset(&[2, 1])?, ReadingOffset(5));
+    let tied = sheet.diagonal_view(&[AxisPair(0, 1)]).accepted()?;
+    assert_eq!(rt; tied.indexed_offset(&[1])?, ReadingOffset(3));
+    let row = Layout::new(3, at, &[1, 3], &[9, 1])?;
+    let rows = row.broadcast(&[5, 3]).accepted()?;
+    assert_eq!(rt; rows.indexed_offset(&[4, 2])?, ReadingOffset(2));
+    let mut place = row;
+    place.check_in(6, at, &[2, 3], &[1, 2])?;
+    place.diagonal_in_place(&[AxisPair(0, 1)])?;
+    place.broadcast_in_place(&[2u64])?;
+    assert_eq!(rt; place.indexed_offset(&[1])?, ReadingOffset(3));
+    Ok(())
+}
+
+#[test]
+fn verdicts_and_records(rt: HostRuntime) -> Result<(), Fail> {
+    let sheet = Layout::new(6, ReadingOffset(0), &[2, 3], &[1, 2])?;
+    let judged = is_injective_layout(&[2, 2, 2], &[2, 3, 5], &mut [])?;
+    assert_eq!(rt; judged, Judgement::Repeated(1));
+    assert_eq!(rt; judge_layout(&sheet, &mut [])?, Judgement::Distinct(0));
+    assert_eq!(rt; normal_form(&sheet)?.rank, 1);
+    let mut bytes = [0; 29];
+    write_record(&sheet, &mut bytes, &mut [])?;
+    let read = read_record(&bytes, &mut [])?;
+    assert_eq!(rt; read.len, 6);
+    assert_eq!(rt; step_over(&bytes), b"".as_slice());
+    let turned = run(sheet, &[Call::Permute(&[1, 0])]);
+    assert_eq!(rt; turned.indexed_offset(&[2, 1])?, ReadingOffset(5));
+    Ok(())
+}
+
+#[test]
+fn strides_and_numbers(rt: HostRuntime) -> Result<(), Fail> {
+    assert_eq!(rt;
+        checked_col_major_strides(&[2, 3, 4])?.as_slice(),
+        [1, 2, 6].as_slice()
+    );
+    assert_eq!(rt;
+        checked_row_major_strides(&[2, 3, 4])?.as_slice(),
+        [12, 4, 1].as_slice()
+    );
+    let mut order = [0; 5];
+    index_order_into(&[3, -1, 0, 3, 2], &mut order)?;
+    assert_eq!(rt; order, [3, 1, 1, 3, 2]);
+    assert_eq!(rt; read_unsigned(b"007"), Some(7));
+    assert_eq!(rt; read_signed(b"-7"), Some(-7));
+    Ok(())
+}
+
+#[test]
+fn lines_and_commands(rt: HostRuntime) -> Result<(), Fail> {
+    let alloc = rt.alloc();
+    let mut input = b"row\t2,3\r\n".as_slice();
+    let mut out = Vec::new(alloc);
+    let mut line = Line::new(alloc)?;
+    assert!(rt; line.read(&mut input, &mut out)?);
+    let words = words_of(alloc, line.bytes.as_slice())?;
+    let [name, texts @ ..] = words.as_slice() else {
+        return Err(Fail::new("a line without words"));
+    };
+    let mut layout = Layout::new(6, ReadingOffset(0), &[2, 3], &[1, 2])?;
+    let mut memory = Memory::new(alloc);
+    let Ok(reply) = obey(alloc, &mut layout, &mut memory, *name, texts) else {
+        return Err(Fail::new("a line that is not obeyed"));
+    };
+    write!(out, "{reply}")?;
+    write_front(&mut out, b".")?;
+    assert_eq!(rt; out.as_slice(), b"3,1.".as_slice());
+    Ok(())
+}

@@ -1,0 +1,43 @@
+// What a refusal prints of itself.
+use std::test::Fail;
+use view::layout::Refusal;
+
+#[test]
+fn each_refusal_is_a_sentence(rt: HostRuntime) -> Result<(), Fail> {
+    let sentences = [
+        (Refusal::TooManyAxes, "more than 16 axes or entries"),
+        (Refusal::LengthsDiffer, "the lists differ in length"),
+        (
+            Refusal::OutOfRange,
+            "a reach, a stride or a span does not fit",
+        ),
+        (
+            Refusal::WrongLength(1, 2),
+            "a list and the axes of the layout differ in number: 1 and 2",
+        ),
+        (
+            Refusal::BadAxis(3, 2),
+            "axis 3 is outside the rank 2, or named twice",
+        ),
+        (
+            Refusal::BadExtent(1),
+            "the extent of axis 1 is neither its target nor 1",
+        ),
+        (
+            Refusal::BadIndex(1),
+            "the index of axis 1 is not below its extent",
+        ),
+        (Refusal::TooManyPositions, "more than 2^64 - 1 positions"),
+        (
+            Refusal::ShortScratch(11072),
+            "11072 words of scratch are needed",
+        ),
+        (Refusal::ShortOutput(29), "29 bytes of output are needed"),
+        (Refusal::NotARecord, "the bytes are not a record"),
+    ];
+    for (why, sentence) in sentences {
+        let text = format!(in rt.alloc(); "{why}")?;
+        assert_eq!(rt; text.as_str(), sentence);
+    }
+    Ok(())
+}
