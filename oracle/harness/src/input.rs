@@ -124,7 +124,7 @@ impl Input {
 
     /// The input as it can be handed over. The axes of a verdict are pairs, so that its two lists cannot differ in length: both
     /// get the length of the longer one, what is missing being what stood there, or 0. Lists that differ, refusal 2, are
-    /// compared by the stored cases of the program `layout` alone.
+    /// compared by lines of the program `layout` alone, the stored ones and the random ones.
     pub fn paired(mut self) -> Input {
         if let Input::Injective { extents, strides, .. } = &mut self {
             let len = extents.len.max(strides.len);

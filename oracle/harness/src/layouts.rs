@@ -123,8 +123,7 @@ pub fn layout(random: &mut Random) -> Layout {
     layout
 }
 
-fn permute(random: &mut Random) -> Input {
-    let layout = layout(random);
+pub fn permute(random: &mut Random, layout: Layout) -> Input {
     let rank = layout.held();
     let mut axes = List::new();
     (0..rank as u64).for_each(|axis| axes.push(axis));
@@ -150,8 +149,7 @@ fn axis(random: &mut Random, rank: usize) -> u64 {
     }
 }
 
-fn diagonal(random: &mut Random) -> Input {
-    let layout = layout(random);
+pub fn diagonal(random: &mut Random, layout: Layout) -> Input {
     let rank = layout.held();
     let mut pairs = List::new();
     let count = if random.once_in(8) { random.below(20) } else { random.below(rank.max(1) as u64 + 1).min(6) };
@@ -172,8 +170,7 @@ fn diagonal(random: &mut Random) -> Input {
     Input::Diagonal { layout, pairs }
 }
 
-fn broadcast(random: &mut Random) -> Input {
-    let layout = layout(random);
+pub fn broadcast(random: &mut Random, layout: Layout) -> Input {
     let mut target = List::of(layout.extents());
     for place in 0..target.len {
         if target.items[place] == 1 && random.once_in(2) {
@@ -188,8 +185,8 @@ fn broadcast(random: &mut Random) -> Input {
     Input::Broadcast { layout, target }
 }
 
-/// Empty layouts too: there an index can be taken up to the zero extent, and products and sums can leave the range.
-fn offset(random: &mut Random) -> Input {
+/// Layouts for `offset`, empty ones too: there an index can be taken up to the zero extent, and products and sums can leave the range.
+fn indexed(random: &mut Random) -> Layout {
     let mut layout = layout(random);
     let rank = layout.held();
     if rank > 1 && random.once_in(4) {
@@ -200,6 +197,11 @@ fn offset(random: &mut Random) -> Input {
         layout.extents[rank - 1] = 0;
         layout.offset = random.step();
     }
+    layout
+}
+
+pub fn offset(random: &mut Random, layout: Layout) -> Input {
+    let rank = layout.held();
     let mut index = List::new();
     for &extent in layout.extents() {
         let last = extent.saturating_sub(1);
@@ -268,10 +270,22 @@ pub fn any(random: &mut Random) -> Input {
             let (len, offset, extents, strides) = check_in(random);
             Input::New { len, offset, extents, strides }
         }
-        8..=10 => permute(random),
-        11..=14 => diagonal(random),
-        15..=17 => broadcast(random),
-        18..=20 => offset(random),
+        8..=10 => {
+            let layout = layout(random);
+            permute(random, layout)
+        }
+        11..=14 => {
+            let layout = layout(random);
+            diagonal(random, layout)
+        }
+        15..=17 => {
+            let layout = layout(random);
+            broadcast(random, layout)
+        }
+        18..=20 => {
+            let layout = indexed(random);
+            offset(random, layout)
+        }
         21 => Input::Column { extents: extents(random) },
         22 => Input::Row { extents: extents(random) },
         23 => order(random),

@@ -11,4 +11,6 @@ pub mod random;
 pub mod record;
 pub mod reference;
 pub mod rust;
+pub mod sessions;
 pub mod shapes;
+pub mod text;

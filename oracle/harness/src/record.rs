@@ -84,7 +84,7 @@ fn number<const N: usize>(bytes: &[u8], at: usize) -> [u8; N] {
 }
 
 /// The layout that the fields at the front hold, if they are a record but for its verdict's truth.
-fn fields(bytes: &[u8]) -> Option<(Layout, u8)> {
+pub fn fields(bytes: &[u8]) -> Option<(Layout, u8)> {
     if bytes.len() < 13 {
         return None;
     }

@@ -91,6 +91,15 @@ pub fn words_needed(extents: &[u64], strides: &[i64]) -> Option<u64> {
     }
 }
 
+/// How many difference vectors or positions a verdict looks at, at most.
+pub fn cost(extents: &[u64], strides: &[i64]) -> u64 {
+    match plan(extents, strides) {
+        Plan::Search(_, _, half) => half,
+        Plan::Judged(Judged::Enumerated(_)) => 16_777_216.min(extents.iter().product()),
+        Plan::Judged(_) => 0,
+    }
+}
+
 /// Steps 1 and 2.
 fn refused(extents: &[u64], strides: &[i64]) -> Option<Judged> {
     if extents.len() > 16 || strides.len() > 16 {

@@ -57,7 +57,7 @@ fn viewed(result: Result<StridedView<'static, ()>>) -> Answer {
 }
 
 /// 1, then 3, as 01 refuses a layout and a list handed to a call.
-fn handed(layout: &Layout, list: usize) -> Option<Answer> {
+pub fn handed(layout: &Layout, list: usize) -> Option<Answer> {
     if layout.rank > 16 || list > 16 {
         Some(Answer::refused(1))
     } else if !accepted(layout) {
@@ -157,7 +157,8 @@ fn order(strides: &[i64], out: usize) -> Answer {
     }
 }
 
-fn diagonal(layout: &Layout, flat: &[u64]) -> Answer {
+/// Pairs as flat numbers, any number of them.
+pub fn diagonal(layout: &Layout, flat: &[u64]) -> Answer {
     let pairs: Vec<(usize, usize)> = flat.chunks_exact(2).map(|pair| (pair[0] as usize, pair[1] as usize)).collect();
     viewed(view(layout).diagonal_view(&pairs))
 }

@@ -1,0 +1,378 @@
+//! The program `layout` once more: what each line answers, written from docs/COMMANDS.md and not from the program's code.
+
+use crate::input::{joined, Answer, Given, Input, Layout, List};
+use crate::record::{self, Refused};
+use crate::{reference, rust};
+use std::fmt::{self, Display};
+
+/// Bytes of a line, its line feed not counted.
+pub const LONGEST: usize = 4096;
+/// Entries of a list.
+const ENTRIES: usize = 64;
+/// The most that WORDS and ROOM may be.
+const LENT: i128 = 65_536;
+/// The words that are lent where WORDS is left out: no verdict needs more.
+const ANY_WORDS: usize = 16_777_217;
+
+const UNSIGNED: (i128, i128) = (0, u64::MAX as i128);
+const SIGNED: (i128, i128) = (i64::MIN as i128, i64::MAX as i128);
+
+/// Each command with its words, those in brackets may be left out, and what it does.
+pub const COMMANDS: [(&str, &str); 18] = [
+    ("new LEN OFFSET EXTENTS STRIDES", "check a layout in and make it current"),
+    ("bounds LEN OFFSET EXTENTS STRIDES", "check the bounds of a layout; the current one stays"),
+    ("set LEN OFFSET EXTENTS STRIDES", "make a layout current with no check; of more than 16 axes the first 16 are held"),
+    ("show", "the current layout, as LEN OFFSET EXTENTS STRIDES"),
+    ("permute LIST", "put the axes into the order of the list"),
+    ("diagonal PAIRS", "tie the axes of each pair a:b into one"),
+    ("broadcast LIST", "stretch axes of extent 1 to the extents of the list"),
+    ("offset LIST", "the offset of an index vector"),
+    ("normal", "the normal form; the current layout stays"),
+    ("verdict [WORDS]", "whether two positions of the current layout share a cell, with WORDS words of scratch"),
+    ("injective EXTENTS STRIDES [WORDS]", "the same of two lists"),
+    ("record ROOM [WORDS]", "the record of the current layout, in at most ROOM bytes"),
+    ("read BYTES [WORDS]", "read a record and make its layout current"),
+    ("rest BYTES", "what stands behind the record at the front"),
+    ("order STRIDES OUTLEN", "the index order of strides, into OUTLEN places"),
+    ("column EXTENTS", "dense strides, the first axis the densest"),
+    ("row EXTENTS", "dense strides, the last axis the densest"),
+    ("help [COMMAND]", "what a command does, or each of them"),
+];
+
+/// Why a line is not answered by its command.
+enum Stop {
+    /// A refusal or an error.
+    Answer(String),
+    /// The verdict costs more than may still be spent.
+    Dear,
+}
+
+impl Stop {
+    fn error(text: impl Display) -> Stop {
+        Stop::Answer(format!("error: {text}"))
+    }
+}
+
+type Said<T> = Result<T, Stop>;
+
+/// A word or an entry in an error: its first 32 bytes, what does not print escaped, and dots if there are more.
+struct Shown<'a>(&'a [u8]);
+
+impl Display for Shown<'_> {
+    fn fmt(&self, out: &mut fmt::Formatter) -> fmt::Result {
+        let mut rest = &self.0[..self.0.len().min(32)];
+        while let Some(&byte) = rest.first() {
+            let wide = (2..=rest.len().min(4)).find_map(|size| std::str::from_utf8(&rest[..size]).ok().filter(|text| text.chars().count() == 1));
+            if let Some(character) = wide {
+                out.write_str(character)?;
+                rest = &rest[character.len()..];
+                continue;
+            }
+            match byte {
+                0 => out.write_str("\\0")?,
+                b'\n' => out.write_str("\\n")?,
+                b'\r' => out.write_str("\\r")?,
+                b'\t' => out.write_str("\\t")?,
+                b'\\' => out.write_str("\\\\")?,
+                0x21..=0x7e => write!(out, "{}", byte as char)?,
+                _ => write!(out, "\\x{byte:02X}")?,
+            }
+            rest = &rest[1..];
+        }
+        out.write_str(if self.0.len() > 32 { ".." } else { "" })
+    }
+}
+
+/// A decimal number in a range, with `-` in front if the range has negative numbers.
+fn number(text: &[u8], (least, most): (i128, i128)) -> Option<i128> {
+    let digits = match text {
+        [b'-', digits @ ..] if least < 0 => digits,
+        _ => text,
+    };
+    if digits.is_empty() || !digits.iter().all(u8::is_ascii_digit) {
+        return None;
+    }
+    let size = digits.iter().fold(0i128, |size, digit| (10 * size + (digit - b'0') as i128).min(1 << 100));
+    let number = if digits.len() < text.len() { -size } else { size };
+    (least <= number && number <= most).then_some(number)
+}
+
+/// The words of a line, counted from 1.
+struct Words<'a>(Vec<&'a [u8]>);
+
+impl<'a> Words<'a> {
+    fn word(&self, place: usize) -> &'a [u8] {
+        self.0[place - 1]
+    }
+
+    fn fault(&self, place: usize, why: impl Display) -> Stop {
+        Stop::error(format_args!("word {place} ({}) {why}", Shown(self.word(place))))
+    }
+
+    fn number(&self, place: usize, range: (i128, i128)) -> Said<i128> {
+        number(self.word(place), range).ok_or_else(|| self.fault(place, format_args!("is no number from {} to {}", range.0, range.1)))
+    }
+
+    fn entries(&self, place: usize) -> Said<Vec<&'a [u8]>> {
+        if self.word(place) == b"-" {
+            return Ok(vec![]);
+        }
+        let entries: Vec<_> = self.word(place).split(|&byte| byte == b',').collect();
+        if entries.len() > ENTRIES {
+            return Err(self.fault(place, "has more than 64 entries"));
+        }
+        Ok(entries)
+    }
+
+    /// What each entry of a list spells.
+    fn list<T>(&self, place: usize, what: impl Display, spelled: impl Fn(&[u8]) -> Option<T>) -> Said<Vec<T>> {
+        let entries = self.entries(place)?;
+        let spelled = |(index, entry): (usize, &&[u8])| {
+            spelled(entry).ok_or_else(|| Stop::error(format_args!("word {place}, entry {} ({}) is no {what}", index + 1, Shown(entry))))
+        };
+        entries.iter().enumerate().map(spelled).collect()
+    }
+
+    fn unsigned(&self, place: usize) -> Said<Vec<u64>> {
+        self.list(place, format_args!("number from {} to {}", UNSIGNED.0, UNSIGNED.1), |entry| number(entry, UNSIGNED).map(|number| number as u64))
+    }
+
+    fn signed(&self, place: usize) -> Said<Vec<i64>> {
+        self.list(place, format_args!("number from {} to {}", SIGNED.0, SIGNED.1), |entry| number(entry, SIGNED).map(|number| number as i64))
+    }
+
+    /// The numbers of each pair, one after the other.
+    fn pairs(&self, place: usize) -> Said<Vec<u64>> {
+        let pair = |entry: &[u8]| {
+            let colon = entry.iter().position(|&byte| byte == b':')?;
+            Some([number(&entry[..colon], UNSIGNED)? as u64, number(&entry[colon + 1..], UNSIGNED)? as u64])
+        };
+        Ok(self.list(place, "pair a:b of numbers from 0 to 18446744073709551615", pair)?.concat())
+    }
+
+    fn bytes(&self, place: usize) -> Said<Vec<u8>> {
+        let word = self.word(place);
+        if word == b"-" {
+            return Ok(vec![]);
+        }
+        if word.len() % 2 == 1 {
+            return Err(self.fault(place, "has an odd number of hexadecimal digits"));
+        }
+        let digit = |&byte: &u8| (byte as char).to_digit(16).map(|digit| digit as u8);
+        let digits: Option<Vec<u8>> = word.iter().map(digit).collect();
+        let digits = digits.ok_or_else(|| self.fault(place, "has a byte that is no hexadecimal digit"))?;
+        Ok(digits.chunks(2).map(|two| 16 * two[0] + two[1]).collect())
+    }
+
+    /// The words of scratch to lend, if the word is there.
+    fn scratch(&self, place: usize) -> Said<usize> {
+        if self.0.len() < place {
+            return Ok(ANY_WORDS);
+        }
+        Ok(self.number(place, (0, LENT))? as usize)
+    }
+
+    fn layout(&self) -> Said<(u64, i64, Vec<u64>, Vec<i64>)> {
+        Ok((self.number(2, UNSIGNED)? as u64, self.number(3, SIGNED)? as i64, self.unsigned(4)?, self.signed(5)?))
+    }
+}
+
+/// A list of axes as the library takes it: 01 refuses one of more than 16 entries before all else.
+fn axes<T: Copy + Default>(list: &[T]) -> Said<List<T>> {
+    if list.len() > 16 {
+        return Err(refused((1, 0)));
+    }
+    Ok(List::of(list))
+}
+
+fn refused((number, value): Refused) -> Stop {
+    Stop::Answer(Answer::with(number, value, 0).text())
+}
+
+fn hexadecimal(bytes: &[u8]) -> String {
+    if bytes.is_empty() {
+        return "-".to_string();
+    }
+    bytes.iter().map(|byte| format!("{byte:02x}")).collect()
+}
+
+/// The command that a word names, as its place in `COMMANDS`.
+fn command(word: &[u8]) -> Option<usize> {
+    COMMANDS.iter().position(|(usage, _)| usage.split(' ').next().expect("a name").as_bytes() == word)
+}
+
+fn help(place: usize) -> String {
+    format!("{}: {}", COMMANDS[place].0, COMMANDS[place].1)
+}
+
+/// What the program holds between two lines.
+pub struct Session {
+    pub layout: Layout,
+    /// How many difference vectors and positions verdicts may still look at.
+    pub budget: u64,
+    /// The records that were answered.
+    pub records: Vec<Vec<u8>>,
+}
+
+impl Session {
+    pub fn new(budget: u64) -> Session {
+        Session { layout: Layout::of(0, 0, &[0], &[0]), budget, records: vec![] }
+    }
+
+    /// The lines that a line answers; none, and nothing changed, if its verdict costs more than the budget.
+    pub fn answer(&mut self, line: &[u8]) -> Option<Vec<String>> {
+        if line.len() > LONGEST {
+            return Some(vec!["error: the line is longer than 4096 bytes".to_string()]);
+        }
+        let line = line.strip_suffix(b"\r").unwrap_or(line);
+        let words: Vec<&[u8]> = line.split(|byte| b" \t".contains(byte)).filter(|word| !word.is_empty()).collect();
+        if words.first().is_none_or(|word| word.starts_with(b"#")) {
+            return Some(vec![]);
+        }
+        match self.obey(&Words(words)) {
+            Ok(lines) => Some(lines),
+            Err(Stop::Answer(line)) => Some(vec![line]),
+            Err(Stop::Dear) => None,
+        }
+    }
+
+    fn obey(&mut self, words: &Words) -> Said<Vec<String>> {
+        let known = |place| command(words.word(place)).ok_or_else(|| words.fault(place, "is no command; help lists the commands"));
+        let usage = COMMANDS[known(1)?].0;
+        let most = usage.split(' ').count();
+        let least = most - usage.matches('[').count();
+        if !(least..=most).contains(&words.0.len()) {
+            return Err(Stop::error(format_args!("wrong number of words; usage: {usage}")));
+        }
+        if words.word(1) != b"help" {
+            return Ok(vec![self.called(words)?]);
+        }
+        if words.0.len() == 1 {
+            return Ok((0..COMMANDS.len()).map(help).collect());
+        }
+        Ok(vec![help(known(2)?)])
+    }
+
+    /// A command that calls the library.
+    fn called(&mut self, words: &Words) -> Said<String> {
+        let layout = self.layout;
+        match words.word(1) {
+            b"new" => {
+                let (len, offset, extents, strides) = words.layout()?;
+                self.viewed(rust::answer(&Input::New { len, offset, extents: axes(&extents)?, strides: axes(&strides)? }))
+            }
+            b"bounds" => {
+                let (len, offset, extents, strides) = words.layout()?;
+                Ok(rust::answer(&Input::Bounds { len, offset, extents: axes(&extents)?, strides: axes(&strides)? }).text())
+            }
+            b"set" => self.set(words),
+            b"show" => Ok(layout.text()),
+            b"permute" => {
+                let axes = axes(&words.unsigned(2)?)?;
+                self.viewed(rust::answer(&Input::Permute { layout, axes }))
+            }
+            b"diagonal" => {
+                let pairs = words.pairs(2)?;
+                self.viewed(rust::handed(&layout, 0).unwrap_or_else(|| rust::diagonal(&layout, &pairs)))
+            }
+            b"broadcast" => {
+                let target = axes(&words.unsigned(2)?)?;
+                self.viewed(rust::answer(&Input::Broadcast { layout, target }))
+            }
+            b"offset" => Ok(rust::answer(&Input::Offset { layout, index: axes(&words.unsigned(2)?)? }).text()),
+            b"normal" => Ok(record::normal_form(&layout).map_err(refused)?.text()),
+            b"verdict" => {
+                let words = words.scratch(2)?;
+                if layout.rank > 16 {
+                    return Err(refused((1, 0)));
+                }
+                self.verdict(layout.extents(), layout.strides(), words)
+            }
+            b"injective" => {
+                let (extents, strides, words) = (words.unsigned(2)?, words.signed(3)?, words.scratch(4)?);
+                self.verdict(&extents, &strides, words)
+            }
+            b"record" => self.record(words),
+            b"read" => self.read(words),
+            b"rest" => {
+                let bytes = words.bytes(2)?;
+                Ok(hexadecimal(&bytes[record::step(&bytes)..]))
+            }
+            b"order" => {
+                let (strides, out) = (words.signed(2)?, words.number(3, UNSIGNED)?);
+                // No list of 16 has 40 places either.
+                Ok(rust::answer(&Input::Order { strides: axes(&strides)?, out: out.min(40) as usize }).text())
+            }
+            b"column" => Ok(rust::answer(&Input::Column { extents: axes(&words.unsigned(2)?)? }).text()),
+            _ => Ok(rust::answer(&Input::Row { extents: axes(&words.unsigned(2)?)? }).text()),
+        }
+    }
+
+    /// The layout of an answer becomes current.
+    fn viewed(&mut self, answer: Answer) -> Said<String> {
+        match answer.given {
+            Given::Layout(layout) => {
+                self.layout = layout;
+                Ok("ok".to_string())
+            }
+            _ => Ok(answer.text()),
+        }
+    }
+
+    fn set(&mut self, words: &Words) -> Said<String> {
+        let (len, offset, extents, strides) = words.layout()?;
+        if extents.len() != strides.len() {
+            return Err(Stop::error("set takes as many strides as extents: words 4 and 5"));
+        }
+        let held = extents.len().min(16);
+        self.layout = Layout { rank: extents.len() as u64, ..Layout::of(len, offset, &extents[..held], &strides[..held]) };
+        Ok("ok".to_string())
+    }
+
+    fn spend(&mut self, extents: &[u64], strides: &[i64]) -> Said<()> {
+        let cost = reference::cost(extents, strides);
+        self.budget = self.budget.checked_sub(cost).ok_or(Stop::Dear)?;
+        Ok(())
+    }
+
+    fn verdict(&mut self, extents: &[u64], strides: &[i64], words: usize) -> Said<String> {
+        let (extents, strides) = (axes(extents)?, axes(strides)?);
+        self.spend(extents.slice(), strides.slice())?;
+        Ok(rust::answer(&Input::Injective { extents, strides, words }).text())
+    }
+
+    fn record(&mut self, words: &Words) -> Said<String> {
+        let (room, words) = (words.number(2, (0, LENT))? as usize, words.scratch(3)?);
+        if let Ok(normal) = record::normal_form(&self.layout) {
+            self.spend(normal.extents(), normal.strides())?;
+        }
+        let record = record::write(&self.layout, room, words).map_err(refused)?;
+        let digits = hexadecimal(&record);
+        self.records.push(record);
+        Ok(digits)
+    }
+
+    fn read(&mut self, words: &Words) -> Said<String> {
+        let (bytes, words) = (words.bytes(2)?, words.scratch(3)?);
+        if let Some((layout, _)) = record::fields(&bytes) {
+            self.spend(layout.extents(), layout.strides())?;
+        }
+        self.layout = record::read(&bytes, words).map_err(refused)?;
+        Ok("ok".to_string())
+    }
+}
+
+/// A command line of words.
+pub fn line(words: &[Vec<u8>]) -> Vec<u8> {
+    words.join(&b' ')
+}
+
+/// Numbers of a list as a word.
+pub fn list<T: Display>(items: &[T]) -> Vec<u8> {
+    joined(items).into_bytes()
+}
+
+/// Bytes as a word.
+pub fn bytes(bytes: &[u8]) -> Vec<u8> {
+    hexadecimal(bytes).into_bytes()
+}
