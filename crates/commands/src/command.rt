@@ -134,7 +134,8 @@ impl Command {
             Command::Verdict => {
                 "whether two positions of the current layout share a cell, with WORDS words of scratch"
             }
-            Command::Injective => "the same of two lists",
+            Command::Injective =>
+                "whether two positions of a layout of these extents and strides share a cell, with WORDS words of scratch",
             Command::Record => "the record of the current layout, in at most ROOM bytes",
             Command::Read => "read a record and make its layout current",
             Command::Rest => "what stands behind the record at the front",

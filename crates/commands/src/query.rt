@@ -1,11 +1,12 @@
 // The commands that answer and leave the current layout.
-ghost use Rattle.std.specs.Prelude.{◌≡◌, IfOk, length};
+ghost use Rattle.std.specs.Prelude.{◌≡◌, ◌≢◌, Err, IfOk, length};
 ghost use Rattle.specification.specs.Record.{written};
 ghost use Rattle.specification.specs.Verdict.{verdict};
 ghost use Rattle.specification.specs.Beside.{colMajor, rowMajor};
 ghost use Rattle.view.specs.Model.{modelOf};
 ghost use Rattle.commands.specs.Words.{Gives, numbered, numbered_if};
 ghost use Rattle.injectivity.specs.Judgement.{judgedOf, toldOf};
+ghost use Rattle.commands.specs.declared.fault.Problem.TheVariants.{Memory as out_of_memory};
 ghost use Rattle.commands.specs.Scratch.{bytes_made, front_written};
 ghost use Rattle.commands.specs.Obeyed.{or_most, layout_judged, reply_text, bounds_text, offset_text, normal_text, verdict_of, injective_text, record_text, rest_text, order_text, dense_text, help_text};
 
@@ -56,7 +57,8 @@ pub fn offset<'a>(alloc: Global, current: &Layout, index: Word<'a>) -> Result<Re
 /// The normal form of the current layout.
 #[tactic(auto, unfolding(crate::specs::Obeyed::normal_text))]
 pub fn normal<'a>(current: &Layout) -> Result<Reply, Problem<'a>>
-    ensures { Gives reply_text result (normal_text (modelOf current.now)) }
+    ensures told { Gives reply_text result (normal_text (modelOf current.now)) }
+    ensures allocates_nothing { result ≢ Err out_of_memory }
 {
     Ok(Reply::Current(normal_form(current)?))
 }
@@ -91,7 +93,7 @@ pub fn verdict<'a>(
     Ok(Reply::Judged(judge(current, &mut memory.scratch, words)??))
 }
 
-// The same of two lists.
+// The verdict on two lists with so many words, or with as many as it needs.
 #[tactic(auto, using(crate::proofs::ScratchLaws::lists_first))]
 fn judge_lists(
     extents: &[u64],
@@ -212,7 +214,8 @@ pub fn row<'a>(alloc: Global, extents: Word<'a>) -> Result<Reply, Problem<'a>>
 /// What a command does, or each of them.
 #[tactic(auto, unfolding(crate::specs::Obeyed::help_text))]
 pub fn help<'a>(name: Option<Word<'a>>) -> Result<Reply, Problem<'a>>
-    ensures { Gives reply_text result (help_text (numbered_if name.entry)) }
+    ensures told { Gives reply_text result (help_text (numbered_if name.entry)) }
+    ensures allocates_nothing { result ≢ Err out_of_memory }
 {
     let Some(word) = name else {
         return Ok(Reply::AllHelp);

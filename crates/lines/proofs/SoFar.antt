@@ -11,7 +11,7 @@ use Rattle.std.proofs.BufReadLemmas.{take_through-append, drop_through-append}
 use Rattle.lines.specs.Lines.{Holds}
 use Rattle.lines.specs.Pieces.{Took, TakesPiece}
 use Rattle.lines.specs.declared.line.Line.{Line}
-use Rattle.lines.specs.declared.line.End.TheVariants.{LineFeed, Input, Shown}
+use Rattle.lines.specs.declared.line.End.TheVariants.{Feed, Input, Shown}
 
 abbrev pub NoLineFeed : List ℕ → Type 0
 NoLineFeed = All (λ byte. byte ≢ 10)
@@ -82,7 +82,7 @@ fed (Some bytes) (Some left) line read held one_line taken =
     let long : length bytes ≡ length read + (length left + 1) = ap length all ∙ length-append read (10 ∷ left) ∙ omega arith in
     (subst (Holds line) (sym (ap (first_piece 10) all ∙ parts.0)) held, ap Some (sym (ap (drop_through 10) all ∙ parts.1)), (λ _ none. omega (arith, ap length none), λ _. refl))
 
-pub at_line_feed : (before now next : Option (List ℕ)) (old new : Line) (piece : List ℕ) → SoFar before now old → Took old new piece → TakesPiece now next piece LineFeed
+pub at_line_feed : (before now next : Option (List ℕ)) (old new : Line) (piece : List ℕ) → SoFar before now old → Took old new piece → TakesPiece now next piece Feed
     → Whole before next new × IfSome before (λ bytes. IsTrue true ↔ (bytes ≢ []))
 at_line_feed before now next old new piece so_far took takes =
     let read = so_far.read ++ piece in

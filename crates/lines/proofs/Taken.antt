@@ -11,7 +11,7 @@ use Rattle.lines.specs.contracts.line.End.{the_type}
 use denote.Enum.Bare.{sameb}
 use mir.Val.{bool_byte}
 use Rattle.lines.specs.declared.line.End.{End}
-use Rattle.lines.specs.declared.line.End.TheVariants.{LineFeed, Input, Shown}
+use Rattle.lines.specs.declared.line.End.TheVariants.{Feed, Input, Shown}
 
 -- after `fill_buf` showed a piece with what ends it, `consume` takes both
 pub takes_piece : (a b c : Option (List ℕ)) (buffered : Option ℕ) (shown piece : List ℕ) (end : End) (n : ℕ)
@@ -29,7 +29,7 @@ takes_piece a b c buffered shown piece end n one_line begins input count front e
     }
 
 -- as many as the piece and the line feed that ends it
-pub count_with_end : (piece : List ℕ) (end : End) → length piece + bool_byte (sameb the_type end LineFeed) ≡ length (with_end piece end)
-count_with_end piece LineFeed = omega (arith, length-append piece (10 ∷ []))
+pub count_with_end : (piece : List ℕ) (end : End) → length piece + bool_byte (sameb the_type end Feed) ≡ length (with_end piece end)
+count_with_end piece Feed = omega (arith, length-append piece (10 ∷ []))
 count_with_end piece Input = omega arith
 count_with_end piece Shown = omega arith

@@ -4,11 +4,11 @@ use Rattle.std.specs.Io.KnownBytes.{Consumes, IsAtEnd}
 use Rattle.lines.specs.Lines.{Holds}
 use Rattle.lines.specs.declared.line.Line.{Line}
 use Rattle.lines.specs.declared.line.End.{End}
-use Rattle.lines.specs.declared.line.End.TheVariants.{LineFeed, Input}
+use Rattle.lines.specs.declared.line.End.TheVariants.{Feed, Input}
 
 -- a piece with the line feed (10) that ends it, where one does
 abbrev pub with_end : List ℕ → End → List ℕ
-with_end piece LineFeed = piece ++ 10 ∷ []
+with_end piece Feed = piece ++ 10 ∷ []
 with_end piece other = piece
 
 -- a line that holds what was read of it holds it with a piece more, and still says whether it is the last

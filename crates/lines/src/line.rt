@@ -29,7 +29,7 @@ pub struct Line {
 // What a piece of a line ended with.
 #[derive(Clone, Copy, PartialEq, Eq)]
 enum End {
-    LineFeed,
+    Feed,
     Input,
     Shown,
 }
@@ -76,7 +76,7 @@ impl Line {
                 out.flush().map_err(Failure::Write)?;
             }
             match self.take_piece(input)? {
-                End::LineFeed => return Ok(true),
+                End::Feed => return Ok(true),
                 End::Input => {
                     self.is_last = true;
                     return Ok(!self.bytes.is_empty());
@@ -99,7 +99,7 @@ impl Line {
         };
         let (piece, end) = piece_of(shown);
         self.keep(piece)?;
-        let taken = piece.len() + usize::from(end == End::LineFeed);
+        let taken = piece.len() + usize::from(end == End::Feed);
         self.waits = taken == shown.len();
         input.consume(taken);
         Ok(end)
@@ -124,7 +124,7 @@ fn piece_of(shown: &[u8]) -> (&[u8], End)
     ensures input { result.1 ≡ Input → shown.now ≡ [] }
 {
     match memchr(b'\n', shown) {
-        Some(place) => (&shown[..place], End::LineFeed),
+        Some(place) => (&shown[..place], End::Feed),
         None if shown.is_empty() => (shown, End::Input),
         None => (shown, End::Shown),
     }

@@ -29,7 +29,7 @@ pub const COMMANDS: [(&str, &str); 18] = [
     ("offset LIST", "the offset of an index vector"),
     ("normal", "the normal form; the current layout stays"),
     ("verdict [WORDS]", "whether two positions of the current layout share a cell, with WORDS words of scratch"),
-    ("injective EXTENTS STRIDES [WORDS]", "the same of two lists"),
+    ("injective EXTENTS STRIDES [WORDS]", "whether two positions of a layout of these extents and strides share a cell, with WORDS words of scratch"),
     ("record ROOM [WORDS]", "the record of the current layout, in at most ROOM bytes"),
     ("read BYTES [WORDS]", "read a record and make its layout current"),
     ("rest BYTES", "what stands behind the record at the front"),
