@@ -1,4 +1,4 @@
-//! The verdict: one case for each of its steps.
+//! The verdict: cases for each of its parts.
 
 use crate::timing::line;
 use harness::ours::{axes, strided_is_injective, Axis, Found, Values};

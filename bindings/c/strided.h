@@ -47,7 +47,7 @@ typedef struct {
     int64_t stride;
 } strided_axis;
 
-/* A layout of a buffer of `len` readings. The axes past the rank are no part of it and may hold anything. */
+/* A layout of a buffer of `len` readings. Only the first `rank` axes count; the places behind them may hold anything. */
 typedef struct {
     uint64_t len;
     int64_t offset;

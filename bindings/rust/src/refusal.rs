@@ -2,24 +2,24 @@
 
 use crate::calls::Values;
 
-/// One row of the table of refusals each, with the values that are returned. `number` is the row's number.
+/// One of the refusals of docs/RULES.md each, with the values that are returned. `number` is the refusal's number there.
 #[derive(Clone, Copy, Debug, PartialEq, Eq)]
 pub enum Refusal {
-    /// 1: a list has more than 16 entries, or a layout more than 16 axes.
+    /// 1: more than 16 entries in a list, or more than 16 axes in a layout.
     TooManyAxes,
     /// 2: extents and strides differ in length.
     LengthsDiffer,
     /// 3: a reach, a stride or a span does not fit.
     OutOfRange,
-    /// 4: a list's length is not the rank; both lengths, in the order of the call.
+    /// 4: a list has not one entry an axis; both lengths, in the order of the call.
     WrongLength(usize, usize),
-    /// 5: an axis outside the rank, or named twice.
+    /// 5: an axis that is outside the rank, or was named before; the axis and the rank.
     BadAxis { axis: usize, rank: usize },
-    /// 6: an extent neither equal to the target nor 1.
+    /// 6: the first axis whose extent is neither its target nor 1.
     BadExtent { axis: usize },
-    /// 7: an index not below its extent.
+    /// 7: the first axis whose index is not below its extent.
     BadIndex { axis: usize },
-    /// 8: over 2^64 - 1 positions.
+    /// 8: more than 2^64 - 1 positions.
     TooManyPositions,
     /// 9: so many scratch words are needed, and could not be had.
     ShortScratch { words: usize },
@@ -32,7 +32,7 @@ pub enum Refusal {
 }
 
 impl Refusal {
-    /// The number of the refusal's row.
+    /// The number of the refusal.
     pub fn number(&self) -> u8 {
         match self {
             Refusal::TooManyAxes => 1,

@@ -4,24 +4,24 @@ use Rattle.std.proofs.Common.{◌≡◌, not, ◌||◌, eqb, ltb, ℤ, ◌⊎◌
 use Rattle.std.proofs.lemmas.Bool.{lt-ltb, le-ltb, lt-leb, le-leb, cases_lt}
 use Rattle.std.proofs.lemmas.List.{take_at}
 use Rattle.specification.specs.Axis.{Axis}
-use Rattle.specification.specs.Outcome.{Outcome, done, refused, refuseIf, ◌>>◌, ◌>>=◌}
-use Rattle.specification.specs.Search.{ActiveAxis, spanSum, total, wordsFor}
-use Rattle.specification.specs.Verdict.{Plan, answered, enumerated, block_of, othersOf, plan_of, carryOut, judge, words_of, wordsNeeded}
+use Rattle.specification.specs.Outcome.{Outcome, done, refused, refuse_if, ◌>>◌, ◌>>=◌}
+use Rattle.specification.specs.Search.{ActiveAxis, span_sum, total, words_for}
+use Rattle.specification.specs.Verdict.{Plan, answered, enumerated, block_of, others_of, plan_of, carry_out, judge, words_of, words_needed}
 use Rattle.specification.proofs.OutcomeLaws.{clash, refused-inj, refuse-yes, refuse-no, bind-refused}
-use Rattle.specification.proofs.PlanCases.{judgedAs, PlanCase, when-empty, when-overfull, when-one, when-still, when-out, by-block, plan-case, small, large, searching, enumerating, past-both}
+use Rattle.specification.proofs.PlanCases.{judged_as, PlanCase, when_empty, when_overfull, when_one, when_still, when_out, by_block, plan-case, small, large, searching, enumerating, past_both}
 use Rattle.specification.proofs.SearchLaws.{SearchEnd, collided, completed, exhausted, search-end}
-use Rattle.specification.specs.Axis.{axesOf}
-use Rattle.specification.specs.Layout.{LayoutM, rank, tooLong}
-use Rattle.specification.specs.Normal.{normalForm}
-use Rattle.specification.specs.Record.{Made, recordLength, recordBytes, verdictByte, fieldsRight, layoutFrom, isNormal, verdict_field, read_of, written, writeAnswer, outputAfter, Writing}
+use Rattle.specification.specs.Axis.{axes_of_lists}
+use Rattle.specification.specs.Layout.{LayoutModel, rank, is_too_long}
+use Rattle.specification.specs.Normal.{normal_form}
+use Rattle.specification.specs.Record.{Made, record_length, record_bytes, verdict_byte, fields_right, layout_from, is_normal_form, verdict_field, read_of, written, write_answer, output_after, Writing}
 use Rattle.specification.specs.Verdict.{verdict}
 use Rattle.injectivity.specs.declared.Judgement.{Judgement}
-use Rattle.injectivity.specs.Judgement.{toldOf, verdict_told, judgedOf, JudgedAs}
+use Rattle.injectivity.specs.Judgement.{told_of, verdict_told, judged_of, IsJudgedAs}
 use Rattle.record.specs.declared.fields.BytePlace.{BytePlace}
 use Rattle.record.specs.Reading.{layout_read}
-use Rattle.record.specs.Writer.{wroteOf}
+use Rattle.record.specs.Writer.{wrote_of}
 use Rattle.view.specs.declared.layout.Layout.{Layout}
-use Rattle.view.specs.Model.{modelOf, layout_outcome}
+use Rattle.view.specs.Model.{model_of, layout_outcome}
 use Rattle.view.proofs.AxesLaws.{length_first_axes}
 use Rattle.view.specs.Answers.{outcome_by}
 use Rattle.view.specs.declared.layout.Refusal.{Refusal}
@@ -102,8 +102,8 @@ steady_by f g keeps s = record {
 }
 
 -- a steady call behind a rule
-pub steady_checked : {A : Type 0} (t : Bool) (number : ℕ) (values : List ℕ) (f : ℕ → Outcome A) → Steady f → Steady (λ words. refuseIf t number values >> f words)
-unfolding refuseIf ◌>>◌
+pub steady_checked : {A : Type 0} (t : Bool) (number : ℕ) (values : List ℕ) (f : ℕ → Outcome A) → Steady f → Steady (λ words. refuse_if t number values >> f words)
+unfolding refuse_if ◌>>◌
 steady_checked true number values f s = steady_same (refused number values)
 steady_checked false number values f s = s
 
@@ -115,11 +115,11 @@ steady_bound (refused number values) f s = steady_same (refused number values)
 
 -- ---- the verdict
 
-words_bounded : (n s : ℕ) → n ≤ 16777216 → wordsFor n s ≤ 16777217
-unfolding wordsFor
+words_bounded : (n s : ℕ) → n ≤ 16777216 → words_for n s ≤ 16777217
+unfolding words_for
 words_bounded n s h = go (cases_lt n (s / 64))
   where
-    go : (n < s / 64) ⊎ (s / 64 ≤ n) → wordsFor n s ≤ 16777217
+    go : (n < s / 64) ⊎ (s / 64 ≤ n) → words_for n s ≤ 16777217
     go (inl l) = rw (lt-leb) (omega arith)
     go (inr l) = rw (le-leb) (omega arith)
 
@@ -129,106 +129,106 @@ search_bounded (collided e) = omega arith
 search_bounded (completed e h w f) = omega arith
 search_bounded (exhausted e f) = omega arith
 
-need_bounded : (axes : List Axis) → wordsNeeded axes ≤ 16777217
+need_bounded : (axes : List Axis) → words_needed axes ≤ 16777217
 unfolding words_of
 need_bounded axes = go (plan_of axes) (plan-case axes)
   where
     go : (o : Outcome Plan) → PlanCase axes o → words_of o ≤ 16777217
-    go _ (when-empty e) = omega arith
-    go _ (when-overfull f o) = omega arith
-    go _ (when-one f o e) = omega arith
-    go _ (when-still f o e) = omega arith
-    go _ (when-out f o s e) = omega arith
-    go _ (by-block t (small c)) = omega arith
-    go _ (by-block t (large m h (searching {a} {b} k e))) = search_bounded (search-end a b (othersOf (block_of axes)))
-    go _ (by-block t (large m h (enumerating k l))) = words_bounded (total (block_of axes)) (spanSum (block_of axes)) l
-    go _ (by-block t (large m h (past-both k l))) = omega arith
+    go _ (when_empty e) = omega arith
+    go _ (when_overfull f o) = omega arith
+    go _ (when_one f o e) = omega arith
+    go _ (when_still f o e) = omega arith
+    go _ (when_out f o s e) = omega arith
+    go _ (by_block t (small c)) = omega arith
+    go _ (by_block t (large m h (searching {a} {b} k e))) = search_bounded (search-end a b (others_of (block_of axes)))
+    go _ (by_block t (large m h (enumerating k l))) = words_bounded (total (block_of axes)) (span_sum (block_of axes)) l
+    go _ (by_block t (large m h (past_both k l))) = omega arith
 
-with_enough : (words : ℕ) (block : List ActiveAxis) → wordsFor (total block) (spanSum block) ≤ words → carryOut words (enumerated block) ≡ done (judgedAs (enumerated block))
-unfolding carryOut
-with_enough words block h = refuse-no 9 (wordsFor (total block) (spanSum block) ∷ []) (done (judgedAs (enumerated block))) (le-ltb words (wordsFor (total block) (spanSum block)) h)
+with_enough : (words : ℕ) (block : List ActiveAxis) → words_for (total block) (span_sum block) ≤ words → carry_out words (enumerated block) ≡ done (judged_as (enumerated block))
+unfolding carry_out
+with_enough words block h = refuse-no 9 (words_for (total block) (span_sum block) ∷ []) (done (judged_as (enumerated block))) (le-ltb words (words_for (total block) (span_sum block)) h)
 
-steady_plan : (p : Plan) → words_of (done p) ≤ 16777217 → Steady (λ words. carryOut words p)
-unfolding words_of carryOut
-steady_plan (answered v c) b = steady_same (done (judgedAs (answered v c)))
+steady_plan : (p : Plan) → words_of (done p) ≤ 16777217 → Steady (λ words. carry_out words p)
+unfolding words_of carry_out
+steady_plan (answered v c) b = steady_same (done (judged_as (answered v c)))
 steady_plan (enumerated block) b = record {
-  need = wordsFor (total block) (spanSum block);
+  need = words_for (total block) (span_sum block);
   bounded = b;
-  short = λ words h. refuse-yes 9 (wordsFor (total block) (spanSum block) ∷ []) (done (judgedAs (enumerated block))) (lt-ltb words (wordsFor (total block) (spanSum block)) h);
-  enough = λ words h. with_enough words block h ∙ sym (with_enough (wordsFor (total block) (spanSum block)) block (omega arith));
+  short = λ words h. refuse-yes 9 (words_for (total block) (span_sum block) ∷ []) (done (judged_as (enumerated block))) (lt-ltb words (words_for (total block) (span_sum block)) h);
+  enough = λ words h. with_enough words block h ∙ sym (with_enough (words_for (total block) (span_sum block)) block (omega arith));
 }
 
 pub steady_judge : (axes : List Axis) → Steady (judge axes)
 unfolding judge ◌>>=◌
 steady_judge axes = go (plan_of axes) (need_bounded axes)
   where
-    go : (o : Outcome Plan) → words_of o ≤ 16777217 → Steady (λ words. o >>= carryOut words)
+    go : (o : Outcome Plan) → words_of o ≤ 16777217 → Steady (λ words. o >>= carry_out words)
     go (done p) b = steady_plan p b
     go (refused number values) b = steady_same (refused number values)
 
 -- ---- the four calls
 
 -- the verdict of a layout
-module _ (l : LayoutM) where
+module _ (l : LayoutModel) where
   steady_layout : Steady (layout_judged l)
   unfolding layout_judged
-  steady_layout = steady_checked (tooLong l.axes) 1 [] (judge l.axes) (steady_judge l.axes)
+  steady_layout = steady_checked (is_too_long l.axes) 1 [] (judge l.axes) (steady_judge l.axes)
 
-  pub verdict_first : (words : Option ℕ) (first : Result Judgement Refusal) → judgedOf first ≡ toldOf (layout_judged l (unwrap_or words 0)) → words_lacking words first ≡ None
-      → judgedOf first ≡ toldOf (layout_judged l (or_most words))
-  verdict_first = first_answer (layout_judged l) steady_layout toldOf (λ number values. refl) verdict_told
+  pub verdict_first : (words : Option ℕ) (first : Result Judgement Refusal) → judged_of first ≡ told_of (layout_judged l (unwrap_or words 0)) → words_lacking words first ≡ None
+      → judged_of first ≡ told_of (layout_judged l (or_most words))
+  verdict_first = first_answer (layout_judged l) steady_layout told_of (λ number values. refl) verdict_told
 
-  pub verdict_second : (words : Option ℕ) (first second : Result Judgement Refusal) (k m n : ℕ) → judgedOf first ≡ toldOf (layout_judged l k) → k ≡ unwrap_or words 0 → words_lacking words first ≡ Some n
-      → judgedOf second ≡ toldOf (layout_judged l m) → m ≡ n → judgedOf second ≡ toldOf (layout_judged l (or_most words))
-  verdict_second = second_answer (layout_judged l) steady_layout toldOf (λ number values. refl) verdict_told
+  pub verdict_second : (words : Option ℕ) (first second : Result Judgement Refusal) (k m n : ℕ) → judged_of first ≡ told_of (layout_judged l k) → k ≡ unwrap_or words 0 → words_lacking words first ≡ Some n
+      → judged_of second ≡ told_of (layout_judged l m) → m ≡ n → judged_of second ≡ told_of (layout_judged l (or_most words))
+  verdict_second = second_answer (layout_judged l) steady_layout told_of (λ number values. refl) verdict_told
 
-pub verdict_of_layout : (l : Layout) (before after : List ℕ) (answer : Result Judgement Refusal) → (16 < l.rank → JudgedAs (refused 1 []) before after answer)
-    → (l.rank ≤ 16 → JudgedAs (judge (modelOf l).axes (length before)) before after answer) → judgedOf answer ≡ toldOf (layout_judged (modelOf l) (length before))
+pub verdict_of_layout : (l : Layout) (before after : List ℕ) (answer : Result Judgement Refusal) → (16 < l.rank → IsJudgedAs (refused 1 []) before after answer)
+    → (l.rank ≤ 16 → IsJudgedAs (judge (model_of l).axes (length before)) before after answer) → judged_of answer ≡ told_of (layout_judged (model_of l) (length before))
 unfolding layout_judged
 verdict_of_layout l before after answer many few = go (cases_lt 16 l.rank)
   where
-    go : (16 < l.rank) ⊎ (l.rank ≤ 16) → judgedOf answer ≡ toldOf (refuseIf (tooLong (modelOf l).axes) 1 [] >> judge (modelOf l).axes (length before))
-    go (inl h) = (many h).told ∙ ap toldOf (sym (refuse-yes 1 [] (judge (modelOf l).axes (length before)) (lt-ltb 16 (length (modelOf l).axes) (omega (arith, length_first_axes l.axes l.rank)))))
-    go (inr h) = (few h).told ∙ ap toldOf (sym (refuse-no 1 [] (judge (modelOf l).axes (length before)) (le-ltb 16 (length (modelOf l).axes) (omega (arith, length_first_axes l.axes l.rank)))))
+    go : (16 < l.rank) ⊎ (l.rank ≤ 16) → judged_of answer ≡ told_of (refuse_if (is_too_long (model_of l).axes) 1 [] >> judge (model_of l).axes (length before))
+    go (inl h) = (many h).told ∙ ap told_of (sym (refuse-yes 1 [] (judge (model_of l).axes (length before)) (lt-ltb 16 (length (model_of l).axes) (omega (arith, length_first_axes l.axes l.rank)))))
+    go (inr h) = (few h).told ∙ ap told_of (sym (refuse-no 1 [] (judge (model_of l).axes (length before)) (le-ltb 16 (length (model_of l).axes) (omega (arith, length_first_axes l.axes l.rank)))))
 
 -- the verdict of two lists
 module _ (extents : List ℕ) (strides : List ℤ) where
   steady_lists : Steady (verdict extents strides)
   unfolding verdict
   steady_lists =
-      steady_checked (tooLong extents || tooLong strides) 1 [] (λ words. refuseIf (not (eqb (length extents) (length strides))) 2 [] >> judge (axesOf extents strides) words)
-      (steady_checked (not (eqb (length extents) (length strides))) 2 [] (judge (axesOf extents strides)) (steady_judge (axesOf extents strides)))
+      steady_checked (is_too_long extents || is_too_long strides) 1 [] (λ words. refuse_if (not (eqb (length extents) (length strides))) 2 [] >> judge (axes_of_lists extents strides) words)
+      (steady_checked (not (eqb (length extents) (length strides))) 2 [] (judge (axes_of_lists extents strides)) (steady_judge (axes_of_lists extents strides)))
 
-  pub lists_first : (words : Option ℕ) (first : Result Judgement Refusal) → judgedOf first ≡ toldOf (verdict extents strides (unwrap_or words 0)) → words_lacking words first ≡ None
-      → judgedOf first ≡ toldOf (verdict extents strides (or_most words))
-  lists_first = first_answer (verdict extents strides) steady_lists toldOf (λ number values. refl) verdict_told
+  pub lists_first : (words : Option ℕ) (first : Result Judgement Refusal) → judged_of first ≡ told_of (verdict extents strides (unwrap_or words 0)) → words_lacking words first ≡ None
+      → judged_of first ≡ told_of (verdict extents strides (or_most words))
+  lists_first = first_answer (verdict extents strides) steady_lists told_of (λ number values. refl) verdict_told
 
-  pub lists_second : (words : Option ℕ) (first second : Result Judgement Refusal) (k m n : ℕ) → judgedOf first ≡ toldOf (verdict extents strides k) → k ≡ unwrap_or words 0 → words_lacking words first ≡ Some n
-      → judgedOf second ≡ toldOf (verdict extents strides m) → m ≡ n → judgedOf second ≡ toldOf (verdict extents strides (or_most words))
-  lists_second = second_answer (verdict extents strides) steady_lists toldOf (λ number values. refl) verdict_told
+  pub lists_second : (words : Option ℕ) (first second : Result Judgement Refusal) (k m n : ℕ) → judged_of first ≡ told_of (verdict extents strides k) → k ≡ unwrap_or words 0 → words_lacking words first ≡ Some n
+      → judged_of second ≡ told_of (verdict extents strides m) → m ≡ n → judged_of second ≡ told_of (verdict extents strides (or_most words))
+  lists_second = second_answer (verdict extents strides) steady_lists told_of (λ number values. refl) verdict_told
 
 -- the layout of a record
 module _ (bytes : List ℕ) where
   steady_read : Steady (read_of bytes)
   unfolding read_of
   steady_read =
-      steady_checked (not (fieldsRight bytes)) 11 [] _ (steady_checked (not (isNormal (layoutFrom bytes))) 11 [] _
-      (steady_by (judge (layoutFrom bytes).axes) (λ o. o >>= λ j. refuseIf (not (eqb (verdictByte j.answer) (verdict_field bytes))) 11 [] >> done (record { layout = layoutFrom bytes; answer = j.answer })) (λ values. bind-refused _ refl)
-      (steady_judge (layoutFrom bytes).axes)))
+      steady_checked (not (fields_right bytes)) 11 [] _ (steady_checked (not (is_normal_form (layout_from bytes))) 11 [] _
+      (steady_by (judge (layout_from bytes).axes) (λ o. o >>= λ j. refuse_if (not (eqb (verdict_byte j.answer) (verdict_field bytes))) 11 [] >> done (record { layout = layout_from bytes; answer = j.answer })) (λ values. bind-refused _ refl)
+      (steady_judge (layout_from bytes).axes)))
 
   pub read_first : (words : Option ℕ) (first : Result Layout Refusal) → layout_outcome first ≡ layout_read (read_of bytes (unwrap_or words 0)) → words_lacking words first ≡ None
       → layout_outcome first ≡ layout_read (read_of bytes (or_most words))
-  read_first = first_answer (read_of bytes) steady_read layout_read (λ number values. refl) modelOf
+  read_first = first_answer (read_of bytes) steady_read layout_read (λ number values. refl) model_of
 
   pub read_second : (words : Option ℕ) (first second : Result Layout Refusal) (k m n : ℕ) → layout_outcome first ≡ layout_read (read_of bytes k) → k ≡ unwrap_or words 0 → words_lacking words first ≡ Some n
       → layout_outcome second ≡ layout_read (read_of bytes m) → m ≡ n → layout_outcome second ≡ layout_read (read_of bytes (or_most words))
-  read_second = second_answer (read_of bytes) steady_read layout_read (λ number values. refl) modelOf
+  read_second = second_answer (read_of bytes) steady_read layout_read (λ number values. refl) model_of
 
 -- ---- the record of a layout
 
 -- the front of the output is the record that the answer tells of
-bytes_written : (o : Outcome Made) (answer : Result BytePlace Refusal) (before after : List ℕ) → wroteOf answer ≡ writeAnswer o → after ≡ outputAfter o before → front_written after answer ≡ bytes_made o
-unfolding writeAnswer
+bytes_written : (o : Outcome Made) (answer : Result BytePlace Refusal) (before after : List ℕ) → wrote_of answer ≡ write_answer o → after ≡ output_after o before → front_written after answer ≡ bytes_made o
+unfolding write_answer
 bytes_written (done m) (Ok place) before after e out =
     let n : place.0 ≡ length m.bytes = cc in
     ap done (ap (take place.0) out ∙ take_at m.bytes (drop (length m.bytes) before) place.0 (sym n))
@@ -237,40 +237,40 @@ bytes_written (refused number values) (Ok place) before after e out = absurd (cl
 bytes_written (refused number values) (Err why) before after e out = cc
 
 -- a call that lacked words leaves the output
-output_kept : (o : Outcome Made) (words : Option ℕ) (n : ℕ) (answer : Result BytePlace Refusal) (before : List ℕ) → wroteOf answer ≡ writeAnswer o → words_lacking words answer ≡ Some n → outputAfter o before ≡ before
-unfolding writeAnswer
+output_kept : (o : Outcome Made) (words : Option ℕ) (n : ℕ) (answer : Result BytePlace Refusal) (before : List ℕ) → wrote_of answer ≡ write_answer o → words_lacking words answer ≡ Some n → output_after o before ≡ before
+unfolding write_answer
 output_kept (refused number values) words n answer before e lacks = refl
 output_kept (done m) None n (Err why) before e lacks = absurd (clash (sym e))
 output_kept (done m) None n (Ok place) before e lacks = absurd cc
 output_kept (done m) (Some words) n answer before e lacks = absurd cc
 
-module _ (l : LayoutM) where
+module _ (l : LayoutModel) where
   steady_written : (room : ℕ) → Steady (written l room)
   unfolding written
-  steady_written room = steady_bound (normalForm l) _ (λ n.
-      steady_checked (ltb room (recordLength (rank n))) 10 (recordLength (rank n) ∷ []) _
-      (steady_by (judge n.axes) (λ o. o >>= λ j. done (record { bytes = recordBytes n j.answer; freed = j.freed })) (λ values. bind-refused _ refl) (steady_judge n.axes)))
+  steady_written room = steady_bound (normal_form l) _ (λ n.
+      steady_checked (ltb room (record_length (rank n))) 10 (record_length (rank n) ∷ []) _
+      (steady_by (judge n.axes) (λ o. o >>= λ j. done (record { bytes = record_bytes n j.answer; freed = j.freed })) (λ values. bind-refused _ refl) (steady_judge n.axes)))
 
-  tells : (number : ℕ) (values : List ℕ) → writeAnswer (refused number values) ≡ refused number values
-  unfolding writeAnswer
+  tells : (number : ℕ) (values : List ℕ) → write_answer (refused number values) ≡ refused number values
+  unfolding write_answer
   tells number values = refl
 
-  module _ (words : Option ℕ) (first : Result BytePlace Refusal) (output output1 scratch scratch1 : List ℕ) (wrote : Writing l output scratch (wroteOf first) output1 scratch1) (lent : length scratch ≡ unwrap_or words 0) where
+  module _ (words : Option ℕ) (first : Result BytePlace Refusal) (output output1 scratch scratch1 : List ℕ) (wrote : Writing l output scratch (wrote_of first) output1 scratch1) (lent : length scratch ≡ unwrap_or words 0) where
     abbrev written-with : ℕ → Outcome Made
     written-with = written l (length output)
 
-    answer-is : wroteOf first ≡ writeAnswer (written-with (unwrap_or words 0))
-    answer-is = rw lent at wrote.answer-is
+    answer_is : wrote_of first ≡ write_answer (written-with (unwrap_or words 0))
+    answer_is = rw lent at wrote.answer_is
 
     pub written_first : words_lacking words first ≡ None → front_written output1 first ≡ bytes_made (written-with (or_most words))
     written_first lacks =
-        bytes_written (written-with (length scratch)) first output output1 wrote.answer-is wrote.output-is
-        ∙ ap bytes_made (ap written-with lent ∙ sym (first_stands written-with (steady_written (length output)) writeAnswer tells (λ (place : BytePlace). place.0) words first answer-is lacks))
+        bytes_written (written-with (length scratch)) first output output1 wrote.answer_is wrote.output_is
+        ∙ ap bytes_made (ap written-with lent ∙ sym (first_stands written-with (steady_written (length output)) write_answer tells (λ (place : BytePlace). place.0) words first answer_is lacks))
 
-    pub written_second : (n : ℕ) → words_lacking words first ≡ Some n → (second : Result BytePlace Refusal) (output2 lent2 scratch2 : List ℕ) → Writing l output1 lent2 (wroteOf second) output2 scratch2 → length lent2 ≡ n
+    pub written_second : (n : ℕ) → words_lacking words first ≡ Some n → (second : Result BytePlace Refusal) (output2 lent2 scratch2 : List ℕ) → Writing l output1 lent2 (wrote_of second) output2 scratch2 → length lent2 ≡ n
         → front_written output2 second ≡ bytes_made (written-with (or_most words))
     written_second n lacks second output2 lent2 scratch2 again lent-again =
-        let kept : output1 ≡ output = wrote.output-is ∙ output_kept (written-with (length scratch)) words n first output wrote.answer-is lacks in
-        bytes_written (written l (length output1) (length lent2)) second output1 output2 again.answer-is again.output-is
+        let kept : output1 ≡ output = wrote.output_is ∙ output_kept (written-with (length scratch)) words n first output wrote.answer_is lacks in
+        bytes_written (written l (length output1) (length lent2)) second output1 output2 again.answer_is again.output_is
         ∙ ap bytes_made (ap (λ out. written l (length out) (length lent2)) kept ∙ ap written-with lent-again
-        ∙ sym (second_stands written-with (steady_written (length output)) writeAnswer tells (λ (place : BytePlace). place.0) words first n answer-is lacks))
+        ∙ sym (second_stands written-with (steady_written (length output)) write_answer tells (λ (place : BytePlace). place.0) words first n answer_is lacks))

@@ -1,19 +1,19 @@
 -- What a command answers, and the layout after it: each by the definition of the call that it makes. Assumes nothing.
 use Rattle.std.specs.Prelude.{ℕ, ℤ, List, [], ◌∷◌, ◌==◌, length, take, codes, string_bytes, Option, Some, None, Ok, Err, if◌then◌else◌}
 use Rattle.std.specs.Fmt.{decimal, signed_decimal}
-use Rattle.specification.specs.Axis.{axesOf}
-use Rattle.specification.specs.Outcome.{Outcome, done, refused, refuseIf, ◌>>◌}
-use Rattle.specification.specs.Layout.{LayoutM, tooLong}
-use Rattle.specification.specs.CheckIn.{checkIn}
-use Rattle.specification.specs.Views.{After, permute, broadcast, diagonalView}
-use Rattle.specification.specs.Normal.{normalForm}
+use Rattle.specification.specs.Axis.{axes_of_lists}
+use Rattle.specification.specs.Outcome.{Outcome, done, refused, refuse_if, ◌>>◌}
+use Rattle.specification.specs.Layout.{LayoutModel, is_too_long}
+use Rattle.specification.specs.CheckIn.{check_in}
+use Rattle.specification.specs.Views.{After, permute, broadcast, diagonal_view}
+use Rattle.specification.specs.Normal.{normal_form}
 use Rattle.specification.specs.Verdict.{Judged, judge, verdict}
 use Rattle.specification.specs.Record.{written, read_of, rest_of}
-use Rattle.specification.specs.Beside.{colMajor, rowMajor, indexOrder, indexedOffset}
-use Rattle.view.specs.Model.{modelOf, modelFrom, first_axes}
-use Rattle.view.specs.Ties.{pairsIn}
+use Rattle.specification.specs.Beside.{col_major, row_major, index_order, indexed_offset}
+use Rattle.view.specs.Model.{model_of, model_from, first_axes}
+use Rattle.view.specs.Ties.{pairs_in}
 use Rattle.record.specs.Reading.{layout_read}
-use Rattle.injectivity.specs.Judgement.{toldOf, verdict_told}
+use Rattle.injectivity.specs.Judgement.{told_of, verdict_told}
 use Rattle.commands.specs.declared.command.Command.{Command}
 use Rattle.commands.specs.declared.command.Command.TheVariants.{New, Bounds, Set, Show, Permute, Diagonal, Broadcast, Offset, Normal, Verdict, Injective, Record, Read, Rest, Order, Column, Row, Help}
 use Rattle.commands.specs.declared.fault.Form.TheVariants.{Unsigned, Signed, Pair, Lent}
@@ -30,7 +30,7 @@ told (done x) = Ok x
 told (refused number values) = Err (refusal_text number values)
 
 -- the layout that a view hands back, or its refusal
-abbrev pub told_after : After → Told LayoutM
+abbrev pub told_after : After → Told LayoutModel
 told_after a = told a.answer >>= λ _. Ok a.layout
 
 -- ---- the commands that change the layout
@@ -44,33 +44,33 @@ four_parts (len, offset, extents, strides) = do
   strides ← list_of signed Signed strides
   Ok (len, offset, extents, strides)
 
-unfoldable pub new_layout : Numbered × Numbered × Numbered × Numbered → Told LayoutM
+unfoldable pub new_layout : Numbered × Numbered × Numbered × Numbered → Told LayoutModel
 new_layout four = do
   parts ← four_parts four
-  told (checkIn parts.0 parts.1 parts.2 parts.3)
+  told (check_in parts.0 parts.1 parts.2 parts.3)
 
--- a layout of any rank with no check, its first 16 axes in place
-unfoldable pub unchecked : ℕ → ℤ → List ℕ → List ℤ → Told LayoutM
+-- a layout of any rank with no check: the first 16 axes of the lists, and any past them with extent and stride 0
+unfoldable pub unchecked : ℕ → ℤ → List ℕ → List ℤ → Told LayoutModel
 unchecked len offset extents strides =
-    if length extents == length strides then Ok (modelFrom len offset (first_axes (axesOf (take 16 extents) (take 16 strides)) (length extents)))
+    if length extents == length strides then Ok (model_from len offset (first_axes (axes_of_lists (take 16 extents) (take 16 strides)) (length extents)))
     else Err unequal_lists
 
-unfoldable pub set_layout : Numbered × Numbered × Numbered × Numbered → Told LayoutM
+unfoldable pub set_layout : Numbered × Numbered × Numbered × Numbered → Told LayoutModel
 set_layout four = do
   parts ← four_parts four
   unchecked parts.0 parts.1 parts.2 parts.3
 
-unfoldable pub permuted : LayoutM → Numbered → Told LayoutM
+unfoldable pub permuted : LayoutModel → Numbered → Told LayoutModel
 permuted l order = do
   order ← list_of unsigned Unsigned order
   told_after (permute l order)
 
-unfoldable pub tied : LayoutM → Numbered → Told LayoutM
+unfoldable pub tied : LayoutModel → Numbered → Told LayoutModel
 tied l pairs = do
   pairs ← list_of pair Pair pairs
-  told_after (diagonalView l (pairsIn pairs))
+  told_after (diagonal_view l (pairs_in pairs))
 
-unfoldable pub stretched : LayoutM → Numbered → Told LayoutM
+unfoldable pub stretched : LayoutModel → Numbered → Told LayoutModel
 stretched l targets = do
   targets ← list_of unsigned Unsigned targets
   told_after (broadcast l targets)
@@ -87,7 +87,7 @@ abbrev pub or_most : Option ℕ → ℕ
 or_most None = 16777217
 or_most (Some words) = words
 
-unfoldable pub read_layout : Numbered × Option Numbered → Told LayoutM
+unfoldable pub read_layout : Numbered × Option Numbered → Told LayoutModel
 read_layout (bytes, words) = do
   bytes ← bytes_of bytes
   words ← words_given words
@@ -98,31 +98,31 @@ read_layout (bytes, words) = do
 unfoldable pub bounds_text : Numbered × Numbered × Numbered × Numbered → Told (List ℕ)
 bounds_text four = do
   parts ← four_parts four
-  l ← told (checkIn parts.0 parts.1 parts.2 parts.3)
+  l ← told (check_in parts.0 parts.1 parts.2 parts.3)
   Ok (codes "ok")
 
-unfoldable pub offset_text : LayoutM → Numbered → Told (List ℕ)
+unfoldable pub offset_text : LayoutModel → Numbered → Told (List ℕ)
 offset_text l index = do
   index ← list_of unsigned Unsigned index
-  offset ← told (indexedOffset l index)
+  offset ← told (indexed_offset l index)
   Ok (signed_decimal offset)
 
-unfoldable pub normal_text : LayoutM → Told (List ℕ)
+unfoldable pub normal_text : LayoutModel → Told (List ℕ)
 normal_text l = do
-  form ← told (normalForm l)
+  form ← told (normal_form l)
   Ok (layout_text form)
 
 -- a verdict and its count, or a refusal
 unfoldable pub judged_text : Outcome Judged → Told (List ℕ)
 judged_text outcome = do
-  j ← told (toldOf outcome)
+  j ← told (told_of outcome)
   Ok (verdict_text j.answer j.count)
 
 -- a layout of more than 16 axes is refused as a list of so many is
-unfoldable pub layout_judged : LayoutM → ℕ → Outcome Judged
-layout_judged l words = refuseIf (tooLong l.axes) 1 [] >> judge l.axes words
+unfoldable pub layout_judged : LayoutModel → ℕ → Outcome Judged
+layout_judged l words = refuse_if (is_too_long l.axes) 1 [] >> judge l.axes words
 
-unfoldable pub verdict_of : LayoutM → Option Numbered → Told (List ℕ)
+unfoldable pub verdict_of : LayoutModel → Option Numbered → Told (List ℕ)
 verdict_of l words = do
   words ← words_given words
   judged_text (layout_judged l (or_most words))
@@ -134,7 +134,7 @@ injective_text (extents, strides, words) = do
   words ← words_given words
   judged_text (verdict extents strides (or_most words))
 
-unfoldable pub record_text : LayoutM → Numbered × Option Numbered → Told (List ℕ)
+unfoldable pub record_text : LayoutModel → Numbered × Option Numbered → Told (List ℕ)
 record_text l (room, words) = do
   room ← one_of lent Lent room
   words ← words_given words
@@ -150,7 +150,7 @@ unfoldable pub order_text : Numbered × Numbered → Told (List ℕ)
 order_text (strides, places) = do
   strides ← list_of signed Signed strides
   places ← one_of unsigned Unsigned places
-  order ← told (indexOrder strides places)
+  order ← told (index_order strides places)
   Ok (list_text decimal order)
 
 -- dense strides by a rule
@@ -173,16 +173,16 @@ help_text (Some (number, name)) = elim (named name) [
 -- a text to print, and the layout afterwards
 pub record Answered : Type 0 where
   pub text : List ℕ
-  pub layout : LayoutM
+  pub layout : LayoutModel
 
-abbrev pub changed : LayoutM → Answered
+abbrev pub changed : LayoutModel → Answered
 changed l = record { text = codes "ok"; layout = l }
 
-abbrev pub asked : LayoutM → List ℕ → Answered
+abbrev pub asked : LayoutModel → List ℕ → Answered
 asked l text = record { text = text; layout = l }
 
 -- a command with the words behind its name
-unfoldable pub run : LayoutM → Command → List (List ℕ) → Told Answered
+unfoldable pub run : LayoutModel → Command → List (List ℕ) → Told Answered
 run l New words = do
   four ← four_words New words
   next ← new_layout four
@@ -244,11 +244,11 @@ run l Order words = do
   Ok (asked l text)
 run l Column words = do
   extents ← one_word Column words
-  text ← dense_text colMajor extents
+  text ← dense_text col_major extents
   Ok (asked l text)
 run l Row words = do
   extents ← one_word Row words
-  text ← dense_text rowMajor extents
+  text ← dense_text row_major extents
   Ok (asked l text)
 run l Help words = do
   name ← up_to_one_word Help words
@@ -256,7 +256,7 @@ run l Help words = do
   Ok (asked l text)
 
 -- a line by its name and the words behind it
-unfoldable pub obeyed : LayoutM → List ℕ → List (List ℕ) → Told Answered
+unfoldable pub obeyed : LayoutModel → List ℕ → List (List ℕ) → Told Answered
 obeyed l name words = elim (named name) [
   | None ↦ Err (unknown_command 1 name)
   | Some command ↦ run l command words
@@ -265,7 +265,7 @@ obeyed l name words = elim (named name) [
 -- what a reply prints
 abbrev pub reply_text : Reply → List ℕ
 reply_text reply.Done = codes "ok"
-reply_text (reply.Current l) = layout_text (modelOf l)
+reply_text (reply.Current l) = layout_text (model_of l)
 reply_text (reply.Offset z) = signed_decimal z
 reply_text (reply.Judged judgement) = verdict_text (verdict_told judgement).answer (verdict_told judgement).count
 reply_text (reply.Bytes digits) = string_bytes digits

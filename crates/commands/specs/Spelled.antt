@@ -1,13 +1,13 @@
 -- What texts spell: numbers, pairs of axes, and sizes that are lent. Assumes nothing.
 use Rattle.std.specs.Prelude.{ℕ, ℤ, ◌+◌, List, Option, Some, None, ◌==◌, nat_le, take, drop, if◌then◌else◌}
 use Rattle.std.specs.List.{position}
-use Rattle.spelling.specs.Number.{unsignedOf, signed_of}
+use Rattle.spelling.specs.Number.{unsigned_of, signed_of}
 use Rattle.view.specs.declared.diagonal.AxisPair.{AxisPair}
 use Rattle.commands.specs.declared.spelled.Lent.{Lent}
 
 -- a number below 2^64
 abbrev pub unsigned : List ℕ → Option ℕ
-unsigned text = unsignedOf text
+unsigned text = unsigned_of text
 
 -- a number of 64 bits with its sign
 abbrev pub signed : List ℕ → Option ℤ

@@ -4,7 +4,7 @@ use Rattle.std.specs.List.{flat_map}
 use Rattle.std.specs.Fmt.{decimal, signed_decimal}
 use Rattle.hex.specs.Hex.{encode_lower}
 use Rattle.bstr.specs.Escape.{escaped}
-use Rattle.specification.specs.Layout.{LayoutM}
+use Rattle.specification.specs.Layout.{LayoutModel}
 use Rattle.specification.specs.Verdict.{Verdict, Distinct, Repeated, Undecided}
 use Rattle.view.specs.Answers.{number_of, values_of}
 use Rattle.view.specs.declared.layout.Refusal.{Refusal}
@@ -105,7 +105,7 @@ list_text text_of [] = codes "-"
 list_text text_of (first ∷ others) = joined (codes ",") text_of (first ∷ others)
 
 -- LEN OFFSET EXTENTS STRIDES; above rank 16 the 16 axes that a layout holds
-unfoldable pub layout_text : LayoutM → List ℕ
+unfoldable pub layout_text : LayoutModel → List ℕ
 layout_text l =
     decimal l.buffer ++ 32 ∷ (signed_decimal l.offset
     ++ 32 ∷ (list_text (λ a. decimal a.extent) (take 16 l.axes)

@@ -1,8 +1,8 @@
 // The commands that change the current layout: each hands back the one that takes its place.
 ghost use Rattle.std.specs.Prelude.{◌≡◌, IfOk, length, take};
-ghost use Rattle.specification.specs.Axis.{axesOf};
+ghost use Rattle.specification.specs.Axis.{axes_of_lists};
 ghost use Rattle.specification.specs.Record.{read_of};
-ghost use Rattle.view.specs.Model.{modelOf, first_axes, layout_outcome};
+ghost use Rattle.view.specs.Model.{model_of, first_axes, layout_outcome};
 ghost use Rattle.record.specs.Reading.{layout_read};
 ghost use Rattle.commands.specs.Words.{Gives, numbered, numbered_if};
 ghost use Rattle.commands.specs.Obeyed.{or_most, four_parts, new_layout, set_layout, permuted, tied, stretched, read_layout};
@@ -50,7 +50,7 @@ impl Given {
 /// A layout that is checked in.
 #[tactic(auto, unfolding(crate::specs::Obeyed::new_layout))]
 pub fn new_layout<'a>(alloc: Global, words: Four<'a>) -> Result<Layout, Problem<'a>>
-    ensures { Gives modelOf result (new_layout
+    ensures { Gives model_of result (new_layout
         (numbered words.entry.0, numbered words.entry.1, numbered words.entry.2, numbered words.entry.3)) }
 {
     let given = Given::read(alloc, words)?;
@@ -63,7 +63,7 @@ pub fn new_layout<'a>(alloc: Global, words: Four<'a>) -> Result<Layout, Problem<
 fn sixteen(given: &Given) -> [Axis; 16]
     requires { length given.now.strides.items ≡ length given.now.extents.items }
     ensures { first_axes result (length given.now.extents.items)
-        ≡ first_axes (axesOf (take 16 given.now.extents.items) (take 16 given.now.strides.items))
+        ≡ first_axes (axes_of_lists (take 16 given.now.extents.items) (take 16 given.now.strides.items))
         (length given.now.extents.items) }
 {
     let extents = given.extents.as_slice();
@@ -81,7 +81,7 @@ fn sixteen(given: &Given) -> [Axis; 16]
 /// A layout of any rank with no check, its first 16 axes in place.
 #[tactic(auto, unfolding(crate::specs::Obeyed::set_layout, crate::specs::Obeyed::unchecked))]
 pub fn set_layout<'a>(alloc: Global, words: Four<'a>) -> Result<Layout, Problem<'a>>
-    ensures { Gives modelOf result (set_layout
+    ensures { Gives model_of result (set_layout
         (numbered words.entry.0, numbered words.entry.1, numbered words.entry.2, numbered words.entry.3)) }
 {
     let given = Given::read(alloc, words)?;
@@ -100,7 +100,7 @@ pub fn set_layout<'a>(alloc: Global, words: Four<'a>) -> Result<Layout, Problem<
 /// The axes in the order of a list.
 #[tactic(auto, unfolding(crate::specs::Obeyed::permuted))]
 pub fn permute<'a>(alloc: Global, current: Layout, order: Word<'a>) -> Result<Layout, Problem<'a>>
-    ensures { Gives modelOf result (permuted (modelOf current) (numbered order.entry)) }
+    ensures { Gives model_of result (permuted (model_of current) (numbered order.entry)) }
 {
     let order = order.list(alloc)?;
     Ok(current.permute(order.as_slice()).accepted()?)
@@ -109,7 +109,7 @@ pub fn permute<'a>(alloc: Global, current: Layout, order: Word<'a>) -> Result<La
 /// The axes of each pair tied into one.
 #[tactic(auto, unfolding(crate::specs::Obeyed::tied))]
 pub fn diagonal<'a>(alloc: Global, current: Layout, pairs: Word<'a>) -> Result<Layout, Problem<'a>>
-    ensures { Gives modelOf result (tied (modelOf current) (numbered pairs.entry)) }
+    ensures { Gives model_of result (tied (model_of current) (numbered pairs.entry)) }
 {
     let pairs = pairs.list::<AxisPair>(alloc)?;
     Ok(current.diagonal_view(pairs.as_slice()).accepted()?)
@@ -122,7 +122,7 @@ pub fn broadcast<'a>(
     current: Layout,
     targets: Word<'a>,
 ) -> Result<Layout, Problem<'a>>
-    ensures { Gives modelOf result (stretched (modelOf current) (numbered targets.entry)) }
+    ensures { Gives model_of result (stretched (model_of current) (numbered targets.entry)) }
 {
     let targets = targets.list(alloc)?;
     Ok(current.broadcast(targets.as_slice()).accepted()?)
@@ -152,7 +152,7 @@ pub fn read<'a>(
     memory: &mut Memory,
     words: (Word<'a>, Option<Word<'a>>),
 ) -> Result<Layout, Problem<'a>>
-    ensures { Gives modelOf result (read_layout (numbered words.entry.0, numbered_if words.entry.1)) }
+    ensures { Gives model_of result (read_layout (numbered words.entry.0, numbered_if words.entry.1)) }
 {
     let (bytes, words) = words;
     let bytes = bytes.bytes(alloc)?;

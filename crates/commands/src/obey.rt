@@ -1,6 +1,6 @@
 // A line of words obeyed: which function each command is.
 ghost use Rattle.std.specs.Prelude.{◌≡◌, OnErr, map};
-ghost use Rattle.view.specs.Model.{modelOf};
+ghost use Rattle.view.specs.Model.{model_of};
 ghost use Rattle.commands.specs.Words.{Gives};
 ghost use Rattle.commands.specs.Obeyed.{reply_text, run, obeyed};
 
@@ -25,8 +25,8 @@ fn run<'a>(
     memory: &mut Memory,
     words: Words<'a>,
 ) -> Result<Reply, Problem<'a>>
-    ensures told { Gives (λ reply. record { text = reply_text reply; layout = modelOf current.new }) result
-        (run (modelOf current.old) words.entry.command (map (λ text. text.now) words.entry.texts.now)) }
+    ensures told { Gives (λ reply. record { text = reply_text reply; layout = model_of current.new }) result
+        (run (model_of current.old) words.entry.command (map (λ text. text.now) words.entry.texts.now)) }
     ensures kept { OnErr result (current.new ≡ current.old) }
 {
     match words.command {
@@ -84,8 +84,8 @@ pub fn obey<'a>(
     name: &'a [u8],
     texts: &'a [&'a [u8]],
 ) -> Result<Reply, Problem<'a>>
-    ensures told { Gives (λ reply. record { text = reply_text reply; layout = modelOf current.new }) result
-        (obeyed (modelOf current.old) name.now (map (λ text. text.now) texts.now)) }
+    ensures told { Gives (λ reply. record { text = reply_text reply; layout = model_of current.new }) result
+        (obeyed (model_of current.old) name.now (map (λ text. text.now) texts.now)) }
     ensures kept { OnErr result (current.new ≡ current.old) }
 {
     match Command::named(name) {

@@ -2,10 +2,10 @@
 ghost use Rattle.std.specs.Prelude.{◌≡◌, ◌≢◌, Err, IfOk, length};
 ghost use Rattle.specification.specs.Record.{written};
 ghost use Rattle.specification.specs.Verdict.{verdict};
-ghost use Rattle.specification.specs.Beside.{colMajor, rowMajor};
-ghost use Rattle.view.specs.Model.{modelOf};
+ghost use Rattle.specification.specs.Beside.{col_major, row_major};
+ghost use Rattle.view.specs.Model.{model_of};
 ghost use Rattle.commands.specs.Words.{Gives, numbered, numbered_if};
-ghost use Rattle.injectivity.specs.Judgement.{judgedOf, toldOf};
+ghost use Rattle.injectivity.specs.Judgement.{judged_of, told_of};
 ghost use Rattle.commands.specs.declared.fault.Problem.TheVariants.{Memory as out_of_memory};
 ghost use Rattle.commands.specs.Scratch.{bytes_made, front_written};
 ghost use Rattle.commands.specs.Obeyed.{or_most, layout_judged, reply_text, bounds_text, offset_text, normal_text, verdict_of, injective_text, record_text, rest_text, order_text, dense_text, help_text};
@@ -47,7 +47,7 @@ pub fn bounds<'a>(alloc: Global, words: Four<'a>) -> Result<Reply, Problem<'a>>
 /// The offset of an index vector.
 #[tactic(auto, unfolding(crate::specs::Obeyed::offset_text))]
 pub fn offset<'a>(alloc: Global, current: &Layout, index: Word<'a>) -> Result<Reply, Problem<'a>>
-    ensures { Gives reply_text result (offset_text (modelOf current.now) (numbered index.entry)) }
+    ensures { Gives reply_text result (offset_text (model_of current.now) (numbered index.entry)) }
 {
     let index = index.list(alloc)?;
     let ReadingOffset(offset) = current.indexed_offset(index.as_slice())?;
@@ -57,7 +57,7 @@ pub fn offset<'a>(alloc: Global, current: &Layout, index: Word<'a>) -> Result<Re
 /// The normal form of the current layout.
 #[tactic(auto, unfolding(crate::specs::Obeyed::normal_text))]
 pub fn normal<'a>(current: &Layout) -> Result<Reply, Problem<'a>>
-    ensures told { Gives reply_text result (normal_text (modelOf current.now)) }
+    ensures told { Gives reply_text result (normal_text (model_of current.now)) }
     ensures allocates_nothing { result ≢ Err out_of_memory }
 {
     Ok(Reply::Current(normal_form(current)?))
@@ -71,7 +71,7 @@ fn judge(
     words: Option<usize>,
 ) -> Result<Result<Judgement, Refusal>, AllocError>
     ensures { IfOk result
-        (λ answer. judgedOf answer ≡ toldOf (layout_judged (modelOf current.now) (or_most words))) }
+        (λ answer. judged_of answer ≡ told_of (layout_judged (model_of current.now) (or_most words))) }
 {
     let first = judge_layout(current, lend(scratch, words.unwrap_or(0), 0)?);
     match lacking(words, &first) {
@@ -87,7 +87,7 @@ pub fn verdict<'a>(
     memory: &mut Memory,
     words: Option<Word<'a>>,
 ) -> Result<Reply, Problem<'a>>
-    ensures { Gives reply_text result (verdict_of (modelOf current.now) (numbered_if words.entry)) }
+    ensures { Gives reply_text result (verdict_of (model_of current.now) (numbered_if words.entry)) }
 {
     let words = words_given(words)?;
     Ok(Reply::Judged(judge(current, &mut memory.scratch, words)??))
@@ -102,7 +102,7 @@ fn judge_lists(
     words: Option<usize>,
 ) -> Result<Result<Judgement, Refusal>, AllocError>
     ensures { IfOk result
-        (λ answer. judgedOf answer ≡ toldOf (verdict extents.now strides.now (or_most words))) }
+        (λ answer. judged_of answer ≡ told_of (verdict extents.now strides.now (or_most words))) }
 {
     let first = is_injective_layout(extents, strides, lend(scratch, words.unwrap_or(0), 0)?);
     match lacking(words, &first) {
@@ -143,7 +143,7 @@ fn write(
     words: Option<usize>,
 ) -> Result<Result<BytePlace, Refusal>, AllocError>
     ensures { IfOk result (λ answer. front_written room.new answer
-        ≡ bytes_made (written (modelOf current.now) (length room.old) (or_most words))) }
+        ≡ bytes_made (written (model_of current.now) (length room.old) (or_most words))) }
 {
     let first = write_record(current, room, lend(scratch, words.unwrap_or(0), 0)?);
     match lacking(words, &first) {
@@ -160,7 +160,7 @@ pub fn record<'a>(
     memory: &mut Memory,
     words: (Word<'a>, Option<Word<'a>>),
 ) -> Result<Reply, Problem<'a>>
-    ensures { Gives reply_text result (record_text (modelOf current.now)
+    ensures { Gives reply_text result (record_text (model_of current.now)
         (numbered words.entry.0, numbered_if words.entry.1)) }
 {
     let (room, words) = words;
@@ -196,7 +196,7 @@ pub fn order<'a>(alloc: Global, words: (Word<'a>, Word<'a>)) -> Result<Reply, Pr
 /// Dense strides by column.
 #[tactic(auto, unfolding(crate::specs::Obeyed::dense_text))]
 pub fn column<'a>(alloc: Global, extents: Word<'a>) -> Result<Reply, Problem<'a>>
-    ensures { Gives reply_text result (dense_text colMajor (numbered extents.entry)) }
+    ensures { Gives reply_text result (dense_text col_major (numbered extents.entry)) }
 {
     let extents = extents.list(alloc)?;
     Ok(Reply::Strides(checked_col_major_strides(extents.as_slice())?))
@@ -205,7 +205,7 @@ pub fn column<'a>(alloc: Global, extents: Word<'a>) -> Result<Reply, Problem<'a>
 /// Dense strides by row.
 #[tactic(auto, unfolding(crate::specs::Obeyed::dense_text))]
 pub fn row<'a>(alloc: Global, extents: Word<'a>) -> Result<Reply, Problem<'a>>
-    ensures { Gives reply_text result (dense_text rowMajor (numbered extents.entry)) }
+    ensures { Gives reply_text result (dense_text row_major (numbered extents.entry)) }
 {
     let extents = extents.list(alloc)?;
     Ok(Reply::Strides(checked_row_major_strides(extents.as_slice())?))

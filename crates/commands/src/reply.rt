@@ -42,10 +42,10 @@ struct Shown<'a>(&'a Layout);
 
 impl fmt::Display for Shown<'_> {
     ghost use Rattle.std.specs.Prelude.{Some};
-    ghost use Rattle.view.specs.Model.{modelOf};
+    ghost use Rattle.view.specs.Model.{model_of};
     ghost use Rattle.commands.specs.Texts.{layout_text};
 
-    ghost output = { λ shown. Some (layout_text (modelOf shown.0.now)) };
+    ghost output = { λ shown. Some (layout_text (model_of shown.0.now)) };
 
     fn fmt<W: fmt::Write>(&self, f: &mut fmt::Formatter<W>) -> fmt::Result {
         let layout = self.0;

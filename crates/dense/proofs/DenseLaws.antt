@@ -6,16 +6,16 @@ use mathlib.Core.List.{append-nil, reverse-cons, reverse-reverse}
 use native.Mathlib.Nat.{le_refl, sub_self}
 use lib.ListN.{set, drop_of_length-le}
 use borrow.Author.Tests.{le-ltb}
-use Rattle.integer.specs.Range.{mostSigned}
-use Rattle.specification.specs.Outcome.{Outcome, done, refused, refuseIf, ◌>>◌, ◌>>=◌}
-use Rattle.specification.specs.Beside.{nextStep, running, zeroAmong, colMajor, rowMajor}
+use Rattle.integer.specs.Range.{most_signed}
+use Rattle.specification.specs.Outcome.{Outcome, done, refused, refuse_if, ◌>>◌, ◌>>=◌}
+use Rattle.specification.specs.Beside.{next_step, running, zero_among, col_major, row_major}
 use Rattle.dense.specs.declared.Major.{Major}
 use Rattle.dense.specs.declared.Major.TheVariants.{Column, Row}
 use Rattle.dense.specs.Dense.{axis_after, dense_by}
 
 -- a step is at most 2^63 - 1
-pub step_most : (empty : Bool) (step extent next : ℕ) → nextStep empty step extent ≡ done next → next ≤ mostSigned
-unfolding nextStep
+pub step_most : (empty : Bool) (step extent next : ℕ) → next_step empty step extent ≡ done next → next ≤ most_signed
+unfolding next_step
 step_most empty step extent next e = grind arith
 
 -- ---- running products with steps that are passed
@@ -30,11 +30,11 @@ behind-append xs ys (done strides) = ap done (sym (append_assoc xs ys strides))
 behind-append xs ys (refused number values) = refl
 
 module _ (empty : Bool) (step extent : ℕ) (rest : List ℕ) where
-  running-on : (next : ℕ) → nextStep empty step extent ≡ done next → running empty step (extent ∷ rest) ≡ behind (pos step ∷ []) (running empty next rest)
+  running-on : (next : ℕ) → next_step empty step extent ≡ done next → running empty step (extent ∷ rest) ≡ behind (pos step ∷ []) (running empty next rest)
   unfolding running ◌>>=◌
   running-on next e = grind arith
 
-  running-refused : {number : ℕ} {values : List ℕ} → nextStep empty step extent ≡ refused number values → running empty step (extent ∷ rest) ≡ refused number values
+  running-refused : {number : ℕ} {values : List ℕ} → next_step empty step extent ≡ refused number values → running empty step (extent ∷ rest) ≡ refused number values
   unfolding running ◌>>=◌
   running-refused e = grind arith
 
@@ -78,32 +78,32 @@ stored-set Row rank passed strides s h k =
 
 module _ (major : Major) (empty : Bool) (es : List ℕ) (strides : List ℤ) (passed step : ℕ) {whole : Outcome (List ℤ)}
     (so_far : whole ≡ behind (stored major (length es) passed strides) (running empty step (drop passed (from_densest major es)))) where
-  pub turn : (next : ℕ) → passed < length es → length es ≤ length strides → nextStep empty step (get_or es (axis_after major (length es) passed) 0) ≡ done next
+  pub turn : (next : ℕ) → passed < length es → length es ≤ length strides → next_step empty step (get_or es (axis_after major (length es) passed) 0) ≡ done next
       → whole ≡ behind (stored major (length es) (passed + 1) (set strides (axis_after major (length es) passed) (pos step))) (running empty next (drop (passed + 1) (from_densest major es)))
   turn next h k e =
       so_far ∙ rw (left-cons major es passed h, running-on empty step _ _ next e, stored-set major (length es) passed strides (pos step) h k)
       (behind-append (stored major (length es) passed strides) (pos step ∷ []) _)
 
-  pub stop : {number : ℕ} {values : List ℕ} → passed < length es → nextStep empty step (get_or es (axis_after major (length es) passed) 0) ≡ refused number values → whole ≡ refused number values
+  pub stop : {number : ℕ} {values : List ℕ} → passed < length es → next_step empty step (get_or es (axis_after major (length es) passed) 0) ≡ refused number values → whole ≡ refused number values
   stop h e = so_far ∙ rw (left-cons major es passed h, running-refused empty step _ _ e)
 
 -- ---- the calls
 
 module _ (es : List ℕ) where
   pub many : (major : Major) → 16 < length es → dense_by major es ≡ refused 1 []
-  unfolding colMajor rowMajor refuseIf ◌>>◌
+  unfolding col_major row_major refuse_if ◌>>◌
   many Column h = grind arith
   many Row h = grind arith
 
-  pub refusal : (major : Major) {number : ℕ} {values : List ℕ} → length es ≤ 16 → running (zeroAmong es) 1 (from_densest major es) ≡ refused number values → dense_by major es ≡ refused number values
-  unfolding colMajor rowMajor refuseIf ◌>>◌ ◌>>=◌
+  pub refusal : (major : Major) {number : ℕ} {values : List ℕ} → length es ≤ 16 → running (zero_among es) 1 (from_densest major es) ≡ refused number values → dense_by major es ≡ refused number values
+  unfolding col_major row_major refuse_if ◌>>◌ ◌>>=◌
   refusal Column h e = grind arith
   refusal Row h e = grind arith
 
   pub answered : (major : Major) (strides : List ℤ) (passed step : ℕ) → length es ≤ 16 → passed ≡ length es
-      → running (zeroAmong es) 1 (from_densest major es) ≡ behind (stored major (length es) passed strides) (running (zeroAmong es) step (drop passed (from_densest major es)))
+      → running (zero_among es) 1 (from_densest major es) ≡ behind (stored major (length es) passed strides) (running (zero_among es) step (drop passed (from_densest major es)))
       → dense_by major es ≡ done (take (length es) strides)
-  unfolding colMajor rowMajor running refuseIf ◌>>◌ ◌>>=◌
+  unfolding col_major row_major running refuse_if ◌>>◌ ◌>>=◌
   answered Column strides passed step h p e = rw (le-ltb 16 (length es) h, e, p, drop_of_length-le es (le_refl (length es))) (ap done (append-nil _))
   answered Row strides passed step h p e =
       let all : length (reverse es) ≤ length es = omega (arith, length-reverse es) in

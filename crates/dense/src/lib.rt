@@ -2,9 +2,9 @@
 #![tactic(auto)]
 
 ghost use Rattle.std.specs.Prelude.{◌≡◌, ◌≤◌, ◌<◌, List, ℤ, take, length, IfOk};
-ghost use Rattle.specification.specs.Beside.{nextStep, colMajor, rowMajor};
+ghost use Rattle.specification.specs.Beside.{next_step, col_major, row_major};
 ghost use Rattle.specification.specs.BesideClaims.{DenseClaims};
-ghost use Rattle.view.specs.Answers.{outcomeOf};
+ghost use Rattle.view.specs.Answers.{outcome_of};
 ghost use Rattle.dense.specs.Dense.{fitting_step, dense_by, axis_after};
 
 use std::marker::Model;
@@ -58,9 +58,9 @@ fn fitting_step(step: u64, extent: u64) -> Option<u64>
 }
 
 /// The step after an extent. One that does not fit is the largest one in an empty layout.
-#[tactic(auto, unfolding(specification::specs::Beside::nextStep))]
+#[tactic(auto, unfolding(specification::specs::Beside::next_step))]
 fn next_step(empty: bool, step: u64, extent: u64) -> Result<u64, Refusal>
-    ensures { outcomeOf result ≡ nextStep empty step extent }
+    ensures { outcome_of result ≡ next_step empty step extent }
 {
     match fitting_step(step, extent) {
         Some(next) => Ok(next),
@@ -72,7 +72,7 @@ fn next_step(empty: bool, step: u64, extent: u64) -> Result<u64, Refusal>
 /// The step at each axis, from the densest axis on.
 #[tactic(auto, using(crate::proofs::DenseLaws::stop, crate::proofs::DenseLaws::many, crate::proofs::DenseLaws::refusal, crate::proofs::DenseLaws::answered))]
 fn running_products(extents: &[u64], major: Major) -> Result<DenseStrides, Refusal>
-    ensures answer { outcomeOf result ≡ dense_by major extents.now }
+    ensures answer { outcome_of result ≡ dense_by major extents.now }
     ensures as_many { IfOk result (λ strides. length strides ≡ length extents.now) }
 {
     let rank = extents.len();
@@ -107,7 +107,7 @@ fn axis_after(major: Major, rank: usize, passed: usize) -> usize
 /// The strides of a dense layout by column, where the first axis is the densest; refusal 1 for more than 16 extents, 3 where
 /// a running product or an extent is above 2^63 - 1 and no extent is 0.
 pub fn checked_col_major_strides(extents: &[u64]) -> Result<DenseStrides, Refusal>
-    ensures answer { outcomeOf result ≡ colMajor extents.now }
+    ensures answer { outcome_of result ≡ col_major extents.now }
     ensures as_many { IfOk result (λ strides. length strides ≡ length extents.now) }
 {
     running_products(extents, Major::Column)
@@ -115,7 +115,7 @@ pub fn checked_col_major_strides(extents: &[u64]) -> Result<DenseStrides, Refusa
 
 /// The strides of a dense layout by row, where the last axis is the densest; refusals as by column.
 pub fn checked_row_major_strides(extents: &[u64]) -> Result<DenseStrides, Refusal>
-    ensures answer { outcomeOf result ≡ rowMajor extents.now }
+    ensures answer { outcome_of result ≡ row_major extents.now }
     ensures as_many { IfOk result (λ strides. length strides ≡ length extents.now) }
 {
     running_products(extents, Major::Row)

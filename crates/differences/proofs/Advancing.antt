@@ -1,7 +1,7 @@
 -- A vector with another difference at one of its axes: the next one, or the first, which leaves the step to the axis after it.
 use Rattle.std.proofs.Common.{◌≡◌, refl, ap, ℕ, ◌+◌, ◌*◌, ◌-◌, ◌<◌, ◌≤◌, List, ◌++◌, ◌∙◌, length, set, take, drop, All, arith, take_all, take_at, length-take-le}
 use Rattle.std.proofs.lemmas.List.Elements.{All-set, All-get_or}
-use Rattle.specification.specs.Search.{spanSum, box}
+use Rattle.specification.specs.Search.{span_sum, box}
 use Rattle.differences.specs.declared.AxisDifference.{AxisDifference}
 use Rattle.differences.specs.AxisDifferences.{axes_of, number_of, digit_of, above, below, up_of, down_of, IsSmall}
 use Rattle.differences.proofs.DistanceLaws.{distance-of}
@@ -12,9 +12,9 @@ pub entry_within : (ds : List AxisDifference) (j : ℕ) → j < length ds → Al
     → (entry ds j ≡ entry ds j) × IsSmall (entry ds j)
     × ((entry ds j).above * (entry ds j).axis.stride ≤ up_of ds) × ((entry ds j).below * (entry ds j).axis.stride ≤ down_of ds)
     × (up_of ds + ((entry ds j).axis.extent - 1) * (entry ds j).axis.stride
-    ≤ (entry ds j).above * (entry ds j).axis.stride + spanSum (axes_of ds))
+    ≤ (entry ds j).above * (entry ds j).axis.stride + span_sum (axes_of ds))
     × (down_of ds + ((entry ds j).axis.extent - 1) * (entry ds j).axis.stride
-    ≤ (entry ds j).below * (entry ds j).axis.stride + spanSum (axes_of ds))
+    ≤ (entry ds j).below * (entry ds j).axis.stride + span_sum (axes_of ds))
 entry_within ds j h all =
     let c = entry ds j in
     let m : IsSmall c = All-get_or IsSmall ds j nothing h all in
@@ -25,24 +25,24 @@ entry_within ds j h all =
       m,
       omega (arith, sum-set above ds j down h),
       omega (arith, sum-set below ds j up h),
-      omega (arith, sum-set above ds j up h, sum-low above (λ d s. s.0) (set ds j up) (with up (omega arith, omega arith)), ap spanSum (axes-set ds j up refl)),
+      omega (arith, sum-set above ds j up h, sum-low above (λ d s. s.0) (set ds j up) (with up (omega arith, omega arith)), ap span_sum (axes-set ds j up refl)),
       omega (
         arith,
         sum-set below ds j down h,
         sum-low below (λ d s. s.1) (set ds j down) (with down (omega arith, omega arith)),
-        ap spanSum (axes-set ds j down refl),
+        ap span_sum (axes-set ds j down refl),
       ),
     )
 
 module _ (ds : List AxisDifference) (j : ℕ) (d : AxisDifference) where
   pub stands_set : j < length ds → All IsSmall ds → IsSmall d → d.axis ≡ (entry ds j).axis
-      → (set ds j d ≡ set ds j d) × All IsSmall (set ds j d) × (spanSum (axes_of (set ds j d)) ≡ spanSum (axes_of ds))
+      → (set ds j d ≡ set ds j d) × All IsSmall (set ds j d) × (span_sum (axes_of (set ds j d)) ≡ span_sum (axes_of ds))
       × (up_of (set ds j d) + (entry ds j).above * (entry ds j).axis.stride ≡ up_of ds + d.above * (entry ds j).axis.stride)
       × (down_of (set ds j d) + (entry ds j).below * (entry ds j).axis.stride ≡ down_of ds + d.below * (entry ds j).axis.stride)
   stands_set h all small a = (
     refl,
     All-set IsSmall ds j d small all,
-    ap spanSum (axes-set ds j d a),
+    ap span_sum (axes-set ds j d a),
     omega (arith, sum-set above ds j d h, ap (λ z. d.above * z.stride) a),
     omega (arith, sum-set below ds j d h, ap (λ z. d.below * z.stride) a),
   )

@@ -5,7 +5,7 @@ use Rattle.std.proofs.Math.Decide.{dec_lt, dec_le}
 use Rattle.std.proofs.Math.Nat.{mod-add-div}
 use Rattle.std.proofs.lemmas.Nat.{same_from_place}
 use Rattle.specification.specs.Axis.{product, index_at}
-use Rattle.specification.specs.Search.{ActiveAxis, total, reach, spanSum, box, half}
+use Rattle.specification.specs.Search.{ActiveAxis, total, reach, span_sum, box, half}
 use Rattle.differences.specs.Differences.{IsDistance, distance_at}
 use Rattle.differences.proofs.BoxLaws.{head-some}
 use Rattle.differences.proofs.ZeroVector.{half-doubled}
@@ -22,8 +22,8 @@ fills w b r r' q q' l l' e = go (dec_lt (r + r' + 1) w)
         (omega (arith, s.1), s.0)
 
 -- the digits of opposite vectors sum to twice the span
-opposite-sum : (axes : List ActiveAxis) (j k : ℕ) → j + k + 1 ≡ box axes → digit_sum axes j + digit_sum axes k ≡ 2 * spanSum axes
-unfolding index_at reach spanSum product
+opposite-sum : (axes : List ActiveAxis) (j k : ℕ) → j + k + 1 ≡ box axes → digit_sum axes j + digit_sum axes k ≡ 2 * span_sum axes
+unfolding index_at reach span_sum product
 opposite-sum [] j k e = omega arith
 opposite-sum (a ∷ rest) j k e =
     let w : ℕ = 2 * a.extent - 1 in
@@ -34,7 +34,7 @@ opposite-sum (a ∷ rest) j k e =
     omega (arith, opposite-sum rest (j / w) (k / w) f.1, ap (λ (n : ℕ). n * a.stride) d)
 
 -- that of the zero vector is the span
-pub half-sum : (axes : List ActiveAxis) → 0 < total axes → digit_sum axes (half axes) ≡ spanSum axes
+pub half-sum : (axes : List ActiveAxis) → 0 < total axes → digit_sum axes (half axes) ≡ span_sum axes
 half-sum axes h = omega (arith, opposite-sum axes (half axes) (half axes) (omega (arith, half-doubled axes h)))
 
 module _ {axes : List ActiveAxis} (h : 0 < total axes) where
@@ -58,7 +58,7 @@ pub record Apart (axes : List ActiveAxis) (less more : ℕ) : Type 0 where
   pub number : ℕ
   pub below : number < box axes
   pub other : number ≢ half axes
-  pub is : digit_sum axes number + less ≡ spanSum axes + more
+  pub is : digit_sum axes number + less ≡ span_sum axes + more
 
 module _ {axes : List ActiveAxis} (h : 0 < total axes) where
   -- the opposite one
@@ -73,11 +73,11 @@ module _ {axes : List ActiveAxis} (h : 0 < total axes) where
       }
 
   pub distance-apart : {n : ℕ} → IsDistance axes n → Apart axes 0 n
-  distance-apart {n} d = go (dec_le (spanSum axes) (digit_sum axes d.number))
+  distance-apart {n} d = go (dec_le (span_sum axes) (digit_sum axes d.number))
     where
       other : d.number ≢ half axes
       other = omega (arith, d.above)
 
-      go : Dec (spanSum axes ≤ digit_sum axes d.number) → Apart axes 0 n
+      go : Dec (span_sum axes ≤ digit_sum axes d.number) → Apart axes 0 n
       go (yes l) = record { number = d.number; below = d.below; other = other; is = omega (arith, d.is, distance-is axes d.number) }
       go (no l) = turned (record { number = d.number; below = d.below; other = other; is = omega (arith, d.is, distance-is axes d.number) })

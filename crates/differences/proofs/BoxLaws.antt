@@ -4,7 +4,7 @@ use Rattle.std.proofs.Common.{◌≡◌, ◌∙◌, sym, ap, refl, ℕ, zero, su
 use Rattle.std.proofs.lemmas.Int.{ints}
 use Rattle.std.proofs.lemmas.List.{take_more, take_rest}
 use Rattle.specification.specs.Axis.{product}
-use Rattle.specification.specs.Search.{ActiveAxis, lengths, total, box, spanSum}
+use Rattle.specification.specs.Search.{ActiveAxis, lengths, total, box, span_sum}
 use Rattle.specification.proofs.Digits.{PositiveExtents, none, more}
 
 -- what is read past the end
@@ -43,8 +43,8 @@ unfolding product
 total-append [] v = omega arith
 total-append (a ∷ u) v = let z = ap (λ (n : ℕ). a.extent * n) (total-append u v) in omega arith
 
-pub span-append : (u v : List ActiveAxis) → spanSum (u ++ v) ≡ spanSum u + spanSum v
-unfolding spanSum
+pub span-append : (u v : List ActiveAxis) → span_sum (u ++ v) ≡ span_sum u + span_sum v
+unfolding span_sum
 span-append [] v = omega arith
 span-append (a ∷ u) v = omega (arith, span-append u v)
 

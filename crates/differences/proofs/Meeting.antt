@@ -5,13 +5,13 @@ use Rattle.std.proofs.Math.Decide.{ℕ_discrete}
 use Rattle.std.proofs.Math.Nat.{mod-add-div, add-mul-mod_self_left, add-mul-div_left}
 use Rattle.std.proofs.lemmas.Nat.{same_from_place, mul-add-lt}
 use Rattle.specification.specs.Axis.{product, index_at}
-use Rattle.specification.specs.Search.{ActiveAxis, reach, widths, total, spanSum, box, half, SameSum}
-use Rattle.specification.specs.Decided.{sameSum?}
-use Rattle.specification.proofs.Digits.{place, quotient-below, indexAt-within, place-indexAt, indexAt-place, place-lt, place-inj}
+use Rattle.specification.specs.Search.{ActiveAxis, reach, widths, total, span_sum, box, half, SameSum}
+use Rattle.specification.specs.Decided.{same_sum?}
+use Rattle.specification.proofs.Digits.{place, quotient-below, index_at-within, place-index_at, index_at-place, place-lt, place-inj}
 use Rattle.specification.proofs.Differences.{EqualSums, pair-zero, zero-pair}
-use Rattle.specification.proofs.DifferenceWalk.{middle, noDifference-within, widths-positive}
+use Rattle.specification.proofs.DifferenceWalk.{middle, no_difference-within, widths-positive}
 use Rattle.specification.proofs.SearchLaws.{half_is, same-pair, no_same}
-use Rattle.differences.specs.Differences.{IsDistance, Meets, in_first, in_second, in_both, Walkable, distance_at}
+use Rattle.differences.specs.Differences.{IsDistance, Meets, in_first, in_second, in_both, IsWalkable, distance_at}
 use Rattle.differences.proofs.BoxLaws.{head-some, positive-extents, some-total, box-append, box-some}
 pub use Rattle.differences.proofs.BoxLaws.{total-append, span-append}
 use Rattle.differences.proofs.ZeroVector.{half-doubled}
@@ -21,7 +21,7 @@ use Rattle.differences.proofs.Apart.{half-sum, distance-from, turned, distance-a
 -- ---- positions of one sum
 
 pair-same : (l : List ActiveAxis) → EqualSums l → SameSum l
-pair-same l p = go (sameSum? l)
+pair-same l p = go (same_sum? l)
   where
     go : Dec (SameSum l) → SameSum l
     go (yes s) = s
@@ -34,15 +34,15 @@ clash-distance l h s =
     let p = positive-extents l h in
     let z = pair-zero l (same-pair l p s) in
     distance-from h (place (widths l) z.d) (place-lt z.box)
-    (λ e. z.some (place-inj z.box (noDifference-within l p) (e ∙ half_is l p)))
-    (omega (arith, distance-is l (place (widths l) z.d), ap (reach l) (indexAt-place z.box), z.sum))
+    (λ e. z.some (place-inj z.box (no_difference-within l p) (e ∙ half_is l p)))
+    (omega (arith, distance-is l (place (widths l) z.d), ap (reach l) (index_at-place z.box), z.sum))
 
 pub distance-clash : (l : List ActiveAxis) → IsDistance l 0 → SameSum l
 unfolding middle
 distance-clash l d =
     let p = positive-extents l (some-total l (omega (arith, d.below))) in
-    let b = indexAt-within (widths-positive l p) d.number d.below in
-    let k = place-indexAt (widths-positive l p) d.number d.below in
+    let b = index_at-within (widths-positive l p) d.number d.below in
+    let k = place-index_at (widths-positive l p) d.number d.below in
     pair-same l (zero-pair l (record {
       d = index_at (widths l) d.number;
       box = b;
@@ -74,7 +74,7 @@ module _ (u v : List ActiveAxis) (h : 0 < total (u ++ v)) where
       omega (arith, half-doubled (u ++ v) h, box-append u v, ap₂ (λ (m n : ℕ). m * n) a b, ap (λ (n : ℕ). n * half v) a)
 
   -- a vector of each part, not both zero, whose digits sum to the span together
-  together : (i k : ℕ) → i < box u → k < box v → (i ≡ half u → k ≢ half v) → digit_sum u i + digit_sum v k ≡ spanSum u + spanSum v
+  together : (i k : ℕ) → i < box u → k < box v → (i ≡ half u → k ≢ half v) → digit_sum u i + digit_sum v k ≡ span_sum u + span_sum v
       → IsDistance (u ++ v) 0
   together i k li lk o e =
       distance-from h (i + box u * k) (omega (arith, mul-add-lt k (box u) i (box v) lk li, box-append u v))
@@ -114,7 +114,7 @@ module _ (u v : List ActiveAxis) (h : 0 < total (u ++ v)) where
       lk : k < box v
       lk = quotient-below d.number (box u) (box v) (omega (arith, half-doubled u some.0)) (omega (arith, d.below, box-append u v))
 
-      sums : digit_sum u i + digit_sum v k ≡ spanSum u + spanSum v
+      sums : digit_sum u i + digit_sum v k ≡ span_sum u + span_sum v
       sums = omega (arith, digits-append u v i k li, ap (digit_sum (u ++ v)) is, span-append u v, distance-is (u ++ v) d.number, d.is)
 
       go : Dec (i ≡ half u) → Dec (k ≡ half v) → Meets u v
@@ -131,8 +131,8 @@ module _ (u v : List ActiveAxis) (h : 0 < total (u ++ v)) where
   meets-same = (λ m. distance-clash (u ++ v) (meets-whole m), λ s. whole_meets (clash-distance (u ++ v) h s))
 
 -- axes that can be walked over, cut anywhere (the first part shows `grind` the call to match)
-pub cut_at : (block : List ActiveAxis) (c : ℕ) → Walkable block
-    → (take c block ≡ take c block) × Walkable (take c block) × Walkable (drop c block) × (0 < box (take c block))
+pub cut_at : (block : List ActiveAxis) (c : ℕ) → IsWalkable block
+    → (take c block ≡ take c block) × IsWalkable (take c block) × IsWalkable (drop c block) × (0 < box (take c block))
     × (Meets (take c block) (drop c block) ↔ SameSum block)
 cut_at block c w =
     let u = take c block in
@@ -142,8 +142,8 @@ cut_at block c w =
     let few = length-append u v in
     let fits = span-append u v in (
       refl,
-      record { few = omega (arith, w.few, few, ap length e); some = s.0; fits = omega (arith, w.fits, fits, ap spanSum e) },
-      record { few = omega (arith, w.few, few, ap length e); some = s.1; fits = omega (arith, w.fits, fits, ap spanSum e) },
+      record { few = omega (arith, w.few, few, ap length e); some = s.0; fits = omega (arith, w.fits, fits, ap span_sum e) },
+      record { few = omega (arith, w.few, few, ap length e); some = s.1; fits = omega (arith, w.fits, fits, ap span_sum e) },
       box-some u s.0,
       subst (λ b. Meets u v ↔ SameSum b) e (meets-same u v (rw e w.some)),
     )

@@ -5,7 +5,7 @@ use Rattle.std.proofs.lemmas.List.{length-map, map-set, set-get_or}
 use Rattle.std.proofs.lemmas.List.Elements.{All-head, All-tail}
 use Rattle.std.proofs.lemmas.List.Sums.{sum_by-cons, sum_by-set}
 use Rattle.specification.specs.Axis.{product}
-use Rattle.specification.specs.Search.{spanSum, box}
+use Rattle.specification.specs.Search.{span_sum, box}
 use Rattle.differences.specs.declared.AxisDifference.{AxisDifference}
 pub use Rattle.differences.specs.AxisDifferences.{digit_of}
 use Rattle.differences.specs.AxisDifferences.{axes_of, number_of, sum_of, IsSmall}
@@ -59,8 +59,8 @@ box-more ds j h =
 
 -- no sum is above the span, where its part is below the extent
 pub sum-low : (part : AxisDifference → ℕ) → ((d : AxisDifference) → IsSmall d → part d < d.axis.extent)
-    → (ds : List AxisDifference) → All IsSmall ds → sum_of part ds ≤ spanSum (axes_of ds)
-unfolding spanSum
+    → (ds : List AxisDifference) → All IsSmall ds → sum_of part ds ≤ span_sum (axes_of ds)
+unfolding span_sum
 sum-low part low [] h = omega arith
 sum-low part low (d ∷ ds) h =
     let l : part d ≤ d.axis.extent - 1 = omega (arith, low d (All-head IsSmall d ds h)) in

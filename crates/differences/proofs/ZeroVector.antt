@@ -7,7 +7,7 @@ use Rattle.specification.proofs.Digits.{place}
 use Rattle.specification.proofs.DifferenceWalk.{middle, half-half}
 use Rattle.specification.proofs.SearchLaws.{half_is}
 use Rattle.differences.specs.declared.AxisDifference.{AxisDifference}
-use Rattle.differences.specs.Differences.{Walkable}
+use Rattle.differences.specs.Differences.{IsWalkable}
 use Rattle.differences.specs.AxisDifferences.{axes_of, number_of, above, below, sum_of, IsSmall, Stands}
 use Rattle.differences.proofs.BoxLaws.{head-some, positive-extents}
 use Rattle.differences.proofs.VectorLaws.{sum-cons}
@@ -46,12 +46,12 @@ zero-number axes h = zero-middle axes ∙ sym (half_is axes (positive-extents ax
 pub half-doubled : (axes : List ActiveAxis) → 0 < total axes → 2 * half axes + 1 ≡ box axes
 half-doubled axes h = let p = positive-extents axes h in omega (arith, half-half axes p, half_is axes p)
 
-pub zero-stands : (axes : List ActiveAxis) → Walkable axes → Stands (zero_vector axes) (record { up = 0; down = 0 })
+pub zero-stands : (axes : List ActiveAxis) → IsWalkable axes → Stands (zero_vector axes) (record { up = 0; down = 0 })
 zero-stands axes w = record {
   small = zero-small axes w.some;
   fits = rw (zero-axes axes) w.fits;
-  up-is = sym (zero-sum above (λ a. refl) axes);
-  down-is = sym (zero-sum below (λ a. refl) axes);
+  up_is = sym (zero-sum above (λ a. refl) axes);
+  down_is = sym (zero-sum below (λ a. refl) axes);
 }
 
 -- where as many axes as there are were set up

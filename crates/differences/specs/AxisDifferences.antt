@@ -1,7 +1,7 @@
 -- A difference vector as the code holds it: an axis and a difference of its indices, in two parts.
 use Rattle.std.specs.Prelude.{List, [], ◌∷◌, ℕ, ◌+◌, ◌*◌, ◌-◌, ◌^◌, ◌<◌, ◌≤◌, ◌≡◌, map, sum_by}
 use Rattle.std.specs.List.{All}
-use Rattle.specification.specs.Search.{ActiveAxis, spanSum}
+use Rattle.specification.specs.Search.{ActiveAxis, span_sum}
 use Rattle.differences.specs.declared.AxisDifference.{AxisDifference}
 use Rattle.differences.specs.declared.Sums.{Sums}
 
@@ -42,14 +42,14 @@ IsSmall d = (d.above < d.axis.extent) × (d.below < d.axis.extent)
 -- a difference in the sums of a vector, which fit a word wherever the difference goes on its axis
 pub record IsWithin (d : AxisDifference) (sums : Sums) : Type 0 where
   pub small : IsSmall d
-  pub up-has : d.above * d.axis.stride ≤ sums.up
-  pub down-has : d.below * d.axis.stride ≤ sums.down
-  pub up-fits : sums.up + (d.axis.extent - 1) * d.axis.stride < d.above * d.axis.stride + 2 ^ 64
-  pub down-fits : sums.down + (d.axis.extent - 1) * d.axis.stride < d.below * d.axis.stride + 2 ^ 64
+  pub up_has : d.above * d.axis.stride ≤ sums.up
+  pub down_has : d.below * d.axis.stride ≤ sums.down
+  pub up_fits : sums.up + (d.axis.extent - 1) * d.axis.stride < d.above * d.axis.stride + 2 ^ 64
+  pub down_fits : sums.down + (d.axis.extent - 1) * d.axis.stride < d.below * d.axis.stride + 2 ^ 64
 
 -- a vector with its sums, which fit a word
 pub record Stands (vector : List AxisDifference) (sums : Sums) : Type 0 where
   pub small : All IsSmall vector
-  pub fits : spanSum (axes_of vector) < 2 ^ 64
-  pub up-is : sums.up ≡ up_of vector
-  pub down-is : sums.down ≡ down_of vector
+  pub fits : span_sum (axes_of vector) < 2 ^ 64
+  pub up_is : sums.up ≡ up_of vector
+  pub down_is : sums.down ≡ down_of vector

@@ -17,7 +17,7 @@ pub mod boxes;
 
 ghost use Rattle.std.specs.Prelude.{◌≡◌, ◌+◌, ◌-◌, ◌*◌, ◌<◌, length, IfSome, IfNone, IsTrue, IsFalse};
 ghost use Rattle.specification.specs.Search.{box, half};
-ghost use Rattle.differences.specs.Differences.{Walkable, distance_at};
+ghost use Rattle.differences.specs.Differences.{IsWalkable, distance_at};
 ghost use Rattle.differences.specs.AxisDifferences.{axes_of, number_of, digit_of, IsSmall, IsWithin, Stands};
 
 use axis::ActiveAxis;
@@ -124,7 +124,7 @@ impl Model for Differences {
 impl Differences {
     /// The walk at the zero vector.
     pub fn new(axes: &[ActiveAxis]) -> Differences
-        requires { Walkable axes.now }
+        requires { IsWalkable axes.now }
         ensures { result ≡ record { axes = axes.now; number = half axes.now } }
     {
         let mut differences = [AxisDifference::NONE; 16];

@@ -1,4 +1,4 @@
--- The laws of step 6, lowest first.
+-- The laws of the enumeration, lowest first.
 mod TableLaws
 mod Visits
 mod OutcomeLaws

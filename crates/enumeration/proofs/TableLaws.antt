@@ -11,7 +11,7 @@ use Rattle.std.proofs.lemmas.Int.{ints}
 use Rattle.std.proofs.lemmas.List.{get_or_default, get_or_past, get_or-replicate, length-replicate, drop-replicate}
 use Rattle.std.proofs.lemmas.List.Folds.{list_any_at, Any-from_list_any, sum_by-replicate}
 use Rattle.std.proofs.lemmas.List.Sums.{sum_by-cons}
-use Rattle.enumeration.specs.Homes.{numbers_in, free_behind, is_free, home_of, IsNumberAt, IsReached, IsPlaceFor, Placed}
+use Rattle.enumeration.specs.Homes.{numbers_in, free_behind, is_free, home_of, IsNumberAt, IsReached, IsPlaceFor, IsPlaced}
 
 abbrev at : List ℕ → ℕ → ℕ
 at words i = get_or words i 0
@@ -106,12 +106,12 @@ none_free (w ∷ words) (suc homes) h = none_free words homes (λ k l m. h (suc 
 -- ---- a table
 
 -- a number above all is not among them
-pub too-large : (homes : ℕ) (words : List ℕ) (most n : ℕ) → Placed homes words most → most < n → contains (numbers_in words) n ≡ false
+pub too-large : (homes : ℕ) (words : List ℕ) (most n : ℕ) → IsPlaced homes words most → most < n → contains (numbers_in words) n ≡ false
 too-large homes words most n t l = both_ways _ _
     (λ h. let q = place_of words n h in absurd (omega (arith, q.2.1, t.low q.0)))
     (λ e. absurd (true≢false (sym e)))
 
-module _ (homes : ℕ) (words : List ℕ) (most n place : ℕ) (t : Placed homes words most) (p : IsPlaceFor homes words n place) where
+module _ (homes : ℕ) (words : List ℕ) (most n place : ℕ) (t : IsPlaced homes words most) (p : IsPlaceFor homes words n place) where
   -- n is at no place: not before this one, and at this one a look for it ends
   missing : contains (numbers_in words) n ≡ false
   missing = both_ways _ _ (λ h. let q = place_of words n h in absurd (never q.0 q.2.0 q.2.1)) (λ e. absurd (true≢false (sym e)))
@@ -167,7 +167,7 @@ module _ (homes : ℕ) (words : List ℕ) (most n place : ℕ) (t : Placed homes
               let i = place_of words q e in
               stands (set words place n) q i.0 (i.2.0, kept i.0 (λ o. i.2.0 (sym i.2.1 ∙ o)) ∙ i.2.1)
 
-      pub placed-put : (most' : ℕ) → most ≤ most' → n ≤ most' → Placed homes (set words place n) most'
+      pub placed-put : (most' : ℕ) → most ≤ most' → n ≤ most' → IsPlaced homes (set words place n) most'
       placed-put most' a b = record {
         some = t.some;
         within = omega (arith, t.within, length-set words place n);
@@ -183,7 +183,7 @@ module _ (homes : ℕ) (words : List ℕ) (most n place : ℕ) (t : Placed homes
           reached k o (inr e) = rw (e.1) (still (t.reached k (λ y. o (e.1 ∙ y))))
 
 -- what the look for n tells
-pub find-tells : (homes : ℕ) (words : List ℕ) (most n : ℕ) → Placed homes words most → (r : Result ℕ ℕ) → IfOk r (IsNumberAt words n)
+pub find-tells : (homes : ℕ) (words : List ℕ) (most n : ℕ) → IsPlaced homes words most → (r : Result ℕ ℕ) → IfOk r (IsNumberAt words n)
     → IfErr r (IsPlaceFor homes words n) → is_ok r ≡ contains (numbers_in words) n
 find-tells homes words most n t (Ok place) a p = sym (stands words n place a)
 find-tells homes words most n t (Err place) a p = sym (missing homes words most n place t p)

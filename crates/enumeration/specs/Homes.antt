@@ -1,6 +1,6 @@
 -- Numbers above 0 among words, of which 0 is free. A number stands at its home, one of the first `homes` words, or behind it
 -- with no free word between.
-use Rattle.std.specs.Prelude.{List, ◌≢◌, ◌≡◌, refl, ℕ, ◌+◌, ◌*◌, ◌/◌, ◌%◌, ◌<◌, ◌≤◌, Bool, ◌==◌, length, drop, count_by, slice_index_or}
+use Rattle.std.specs.Prelude.{List, ◌≢◌, ◌≡◌, refl, ℕ, ◌+◌, ◌*◌, ◌/◌, ◌%◌, ◌<◌, ◌≤◌, Bool, ◌==◌, length, drop, count_by, slice_index}
 use Rattle.std.specs.Ordering.{nat_cmp}
 use Rattle.std.specs.FinSet.{FinSet, from_list, remove, code}
 use Rattle.std.specs.Coded.{Coded, code_by, coded×, coded_ℕ}
@@ -32,23 +32,23 @@ home_of homes n = (n % 4294967296 * 2654435769 + n / 4294967296 * 1597334677) / 
 
 -- the number n stands at the place
 abbrev pub IsNumberAt : List ℕ → ℕ → ℕ → Type 0
-IsNumberAt words n place = (n ≢ 0) × (slice_index_or words place 0 ≡ n)
+IsNumberAt words n place = (n ≢ 0) × (slice_index words place ≡ n)
 
 -- a look for n from its home on comes to the place: no word before it is free
 pub record IsReached (homes : ℕ) (words : List ℕ) (n place : ℕ) : Type 0 where
   pub from : home_of homes n ≤ place
-  pub taken : (k : ℕ) → home_of homes n ≤ k → k < place → slice_index_or words k 0 ≢ 0
+  pub taken : (k : ℕ) → home_of homes n ≤ k → k < place → slice_index words k ≢ 0
 
 -- the first free word from the home of n on, or the end of the words; n does not stand before it
 pub record IsPlaceFor (homes : ℕ) (words : List ℕ) (n place : ℕ) : Type 0 where
   pub reached : IsReached homes words n place
   pub within : place ≤ length words
-  pub free : slice_index_or words place 0 ≡ 0
-  pub missed : (k : ℕ) → home_of homes n ≤ k → k < place → slice_index_or words k 0 ≢ n
+  pub free : slice_index words place ≡ 0
+  pub missed : (k : ℕ) → home_of homes n ≤ k → k < place → slice_index words k ≢ n
 
 -- each number is at most `most`, and a look for it comes to it
-pub record Placed (homes : ℕ) (words : List ℕ) (most : ℕ) : Type 0 where
+pub record IsPlaced (homes : ℕ) (words : List ℕ) (most : ℕ) : Type 0 where
   pub some : 0 < homes
   pub within : homes ≤ length words
-  pub low : (i : ℕ) → slice_index_or words i 0 ≤ most
-  pub reached : (i : ℕ) → slice_index_or words i 0 ≢ 0 → IsReached homes words (slice_index_or words i 0) i
+  pub low : (i : ℕ) → slice_index words i ≤ most
+  pub reached : (i : ℕ) → slice_index words i ≢ 0 → IsReached homes words (slice_index words i) i

@@ -1,4 +1,4 @@
--- The definitions that the contracts of step 6 cite.
+-- The definitions that the contracts of the enumeration cite.
 pub mod Homes
 pub mod Sound
 pub mod Parts

@@ -8,7 +8,7 @@ use Rattle.differences.specs.Differences.{IsDistance}
 -- the first part: the axes before `place`, with so many difference vectors, all of which have room in so many words
 pub record SplitFor (axes : List ActiveAxis) (words place vectors : ℕ) : Type 0 where
   pub within : place ≤ length axes
-  pub vectors-are : vectors ≡ box (take place axes)
+  pub vectors_are : vectors ≡ box (take place axes)
   pub room : 2 * vectors ≤ words + 1
 
 -- the numbers are the distances

@@ -16,18 +16,18 @@ mod parts;
 mod table;
 
 ghost use Rattle.std.specs.Prelude.{◌≡◌, ◌↔◌, ◌<◌, ◌≤◌, length, IsTrue};
-ghost use Rattle.specification.specs.Search.{total as total_of, spanSum, wordsFor, SameSum};
-ghost use Rattle.specification.specs.Verdict.{enumerated, carryOut, freedBy, ScratchAfter};
-ghost use Rattle.differences.specs.Differences.{Walkable};
-ghost use Rattle.enumeration.specs.Enumeration.{outcomeOf};
+ghost use Rattle.specification.specs.Search.{total as total_of, span_sum, words_for, SameSum};
+ghost use Rattle.specification.specs.Verdict.{enumerated, carry_out, freed_by, ScratchAfter};
+ghost use Rattle.differences.specs.Differences.{IsWalkable};
+ghost use Rattle.enumeration.specs.Enumeration.{outcome_of};
 
 use crate::parts::{Split, meet, split_axes};
 use axis::ActiveAxis;
 
 // How many words the enumeration needs.
-#[tactic(auto, unfolding(specification::specs::Search::wordsFor))]
+#[tactic(auto, unfolding(specification::specs::Search::words_for))]
 fn words_needed(total: u64, span: u64) -> u64
-    ensures { result ≡ wordsFor total span }
+    ensures { result ≡ words_for total span }
 {
     let words = span / 64;
     if words <= total { words + 1 } else { total }
@@ -37,7 +37,7 @@ fn words_needed(total: u64, span: u64) -> u64
 // only make the first part longer.
 #[tactic(auto, using(differences::proofs::Meeting::cut_at))]
 fn has_equal_sums(block: &[ActiveAxis], words: &mut [u64]) -> bool
-    requires walkable { Walkable block.now }
+    requires walkable { IsWalkable block.now }
     requires words { 0 < length words.old }
     ensures { IsTrue result ↔ SameSum block.now }
 {
@@ -47,9 +47,10 @@ fn has_equal_sums(block: &[ActiveAxis], words: &mut [u64]) -> bool
     meet(first, second, &mut words[..room])
 }
 
-/// Step 6 for a block of at most 16 axes with its total and its span: `Ok(true)` where no two positions have one sum, `Ok(false)` where
-/// two have. Only the words needed are lent on, so the others stay as they are; on `Err`, which has their number, all do.
-#[tactic(auto, using(crate::proofs::OutcomeLaws::outcomes), unfolding(specification::specs::Verdict::freedBy))]
+/// The enumeration of a block of at most 16 axes with its total and its span: `Ok(true)` where no two positions have one sum,
+/// `Ok(false)` where two have. Only the words needed are lent on, so the others stay as they are; on `Err`, which has their
+/// number, all do.
+#[tactic(auto, using(crate::proofs::OutcomeLaws::outcomes), unfolding(specification::specs::Verdict::freed_by))]
 pub fn enumerate(
     block: &[ActiveAxis],
     total: u64,
@@ -59,9 +60,9 @@ pub fn enumerate(
     requires few { length block.now ≤ 16 }
     requires some { 0 < total }
     requires total { total ≡ total_of block.now }
-    requires span { span ≡ spanSum block.now }
-    ensures outcome { outcomeOf (wordsFor total span) result ≡ carryOut (length scratch.old) (enumerated block.now) }
-    ensures scratch { ScratchAfter (freedBy (carryOut (length scratch.old) (enumerated block.now))) scratch.old scratch.new }
+    requires span { span ≡ span_sum block.now }
+    ensures outcome { outcome_of (words_for total span) result ≡ carry_out (length scratch.old) (enumerated block.now) }
+    ensures scratch { ScratchAfter (freed_by (carry_out (length scratch.old) (enumerated block.now))) scratch.old scratch.new }
 {
     let need = words_needed(total, span);
     if (scratch.len() as u64) < need {

@@ -2,7 +2,7 @@
 // and those of the second are looked up there.
 ghost use Rattle.std.specs.Prelude.{◌≡◌, ◌↔◌, ◌+◌, ◌*◌, ◌<◌, ◌≤◌, ◌^◌, length, IsTrue, IsNone, IfSome};
 ghost use Rattle.specification.specs.Search.{total, box};
-ghost use Rattle.differences.specs.Differences.{Walkable, IsDistance, Meets};
+ghost use Rattle.differences.specs.Differences.{IsWalkable, IsDistance, Meets};
 ghost use Rattle.enumeration.specs.Parts.{SplitFor, AreDistances, MeetsNumbers};
 
 use crate::table::Table;
@@ -44,7 +44,7 @@ pub fn split_axes(axes: &[ActiveAxis], words: usize) -> Split
 // The distances of the part in a table, in words that hold anything; `None` if one is 0.
 #[tactic(auto, using(crate::proofs::Visits::visits))]
 fn fill<'a>(axes: &[ActiveAxis], words: &'a mut [u64]) -> Option<Table<'a>>
-    requires walkable { Walkable axes.now }
+    requires walkable { IsWalkable axes.now }
     requires room { box axes.now ≤ length words.old }
     ensures zero { IsNone result ↔ IsDistance axes.now 0 }
     ensures filled { IfSome result (λ table. AreDistances axes.now table.numbers) }
@@ -63,7 +63,7 @@ fn fill<'a>(axes: &[ActiveAxis], words: &'a mut [u64]) -> Option<Table<'a>>
 // Whether some distance of the part is 0, or one that the table holds.
 #[tactic(auto, using(crate::proofs::Visits::visits))]
 fn meets(axes: &[ActiveAxis], table: &Table) -> bool
-    requires { Walkable axes.now }
+    requires { IsWalkable axes.now }
     ensures { IsTrue result ↔ MeetsNumbers axes.now table.now.numbers }
 {
     let mut differences = Differences::new(axes);
@@ -78,8 +78,8 @@ fn meets(axes: &[ActiveAxis], table: &Table) -> bool
 // Whether two index vectors of both parts together have one sum, in words that hold anything, at least as many as the first
 // part has difference vectors.
 pub fn meet(first: &[ActiveAxis], second: &[ActiveAxis], words: &mut [u64]) -> bool
-    requires first { Walkable first.now }
-    requires second { Walkable second.now }
+    requires first { IsWalkable first.now }
+    requires second { IsWalkable second.now }
     requires room { box first.now ≤ length words.old }
     ensures { IsTrue result ↔ Meets first.now second.now }
 {

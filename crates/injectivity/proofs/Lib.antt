@@ -1,4 +1,4 @@
--- The laws behind the call, in the order of its steps.
+-- The laws behind the call, in the order of the verdict's parts.
 pub mod InputsLaws
 pub mod PlanLaws
 pub mod ActiveLaws

@@ -1,23 +1,23 @@
 -- What axes are planned as, test by test; and what two lists, or axes that are lent, are judged as.
+use Rattle.std.specs.List.{list_any}
 use Rattle.std.specs.Prelude.{if◌then◌else◌}
 use Rattle.std.proofs.Common.{◌≡◌, ◌==◌, ℕ, ◌≤◌, ◌<◌, true, false, List, [], ◌∷◌, length, refl, sym, ap, ◌∙◌, inl, arith}
 use lib.IntN.{ℤ}
 use Rattle.std.proofs.lemmas.Bool.Decides.{nat_tests}
 use Rattle.std.proofs.lemmas.Int.{ints}
-use Rattle.specification.specs.Tests.{some}
-use Rattle.specification.specs.Axis.{Axis, axesOf, extents, strides, positions, is_empty}
-use Rattle.specification.specs.Outcome.{done, refused, refuseIf, ◌>>◌, ◌>>=◌}
+use Rattle.specification.specs.Axis.{Axis, axes_of_lists, extents, strides, positions, is_empty}
+use Rattle.specification.specs.Outcome.{done, refused, refuse_if, ◌>>◌, ◌>>=◌}
 use Rattle.specification.specs.Normal.{overfull}
-use Rattle.specification.specs.BlockClaims.{inOrder}
-use Rattle.specification.specs.Verdict.{upToLast, Verdict, Distinct, Repeated, answered, block_of, byBlock, still, outOfRange}
-use Rattle.specification.specs.Verdict.{plan_of, carryOut, judge, verdict}
+use Rattle.specification.specs.BlockClaims.{sorted_active}
+use Rattle.specification.specs.Verdict.{up_to_last, Verdict, Distinct, Repeated, answered, block_of, by_block_size, still, is_out_of_range}
+use Rattle.specification.specs.Verdict.{plan_of, carry_out, judge, verdict}
 use Rattle.specification.proofs.NormalAxes.{positions-pos}
 use Rattle.specification.proofs.NormalLaws.{empty-none, full-pos}
 use Rattle.specification.proofs.VerdictLaws.{verdict_call_claims}
 use Rattle.view.specs.Lists.{paired}
-use Rattle.view.specs.Count.{elementCount, count_of}
+use Rattle.view.specs.Count.{element_count, count_of}
 use Rattle.view.proofs.CountLaws.{length-extents, element-count-of-axes}
-use Rattle.injectivity.specs.Inputs.{LeftToBlock}
+use Rattle.injectivity.specs.Inputs.{IsLeftToBlock}
 
 -- ---- plans
 
@@ -31,21 +31,21 @@ plan_is : (axes : List Axis) → plan_of axes ≡ (
     if is_empty axes then done (answered Distinct 0)
     else if overfull axes then refused 8 []
     else if positions axes == 1 then done (answered Distinct 0)
-    else if some still axes then done (answered Repeated 0)
-    else if outOfRange axes then refused 3 []
-    else done (byBlock (block_of axes)))
-unfolding plan_of refuseIf ◌>>◌
+    else if list_any still axes then done (answered Repeated 0)
+    else if is_out_of_range axes then refused 3 []
+    else done (by_block_size (block_of axes)))
+unfolding plan_of refuse_if ◌>>◌
 plan_is axes = grind (arith, ints)
 
 module _ (axes : List Axis) (few : length axes ≤ 16) where
-  count_is : elementCount (extents axes) ≡ (if overfull axes then refused 8 [] else done (positions axes))
-  unfolding count_of refuseIf ◌>>◌
+  count_is : element_count (extents axes) ≡ (if overfull axes then refused 8 [] else done (positions axes))
+  unfolding count_of refuse_if ◌>>◌
   count_is = element-count-of-axes axes few ∙ grind (arith, ints)
 
-  pub counted : {n : ℕ} → done n ≡ elementCount (extents axes) → (overfull axes ≡ false) × (positions axes ≡ n)
+  pub counted : {n : ℕ} → done n ≡ element_count (extents axes) → (overfull axes ≡ false) × (positions axes ≡ n)
   counted e = grind (arith, ints, count_is)
 
-  pub not_counted : {n : ℕ} {vs : List ℕ} → refused n vs ≡ elementCount (extents axes) → plan_of axes ≡ refused n vs
+  pub not_counted : {n : ℕ} {vs : List ℕ} → refused n vs ≡ element_count (extents axes) → plan_of axes ≡ refused n vs
   unfolding overfull
   not_counted e = grind (arith, ints, count_is, plan_is axes)
 
@@ -54,10 +54,10 @@ module _ (axes : List Axis) (fits : overfull axes ≡ false) where
   plan_few h = grind (arith, nat_tests, plan_is axes, some_position axes)
 
   module _ (many : 1 < positions axes) where
-    pub plan_still : some still axes ≡ true → plan_of axes ≡ done (answered Repeated 0)
+    pub plan_still : list_any still axes ≡ true → plan_of axes ≡ done (answered Repeated 0)
     plan_still s = grind (arith, nat_tests, plan_is axes, not-empty axes many)
 
-    pub plan_out : some still axes ≡ false → outOfRange axes ≡ true → plan_of axes ≡ refused 3 []
+    pub plan_out : list_any still axes ≡ false → is_out_of_range axes ≡ true → plan_of axes ≡ refused 3 []
     plan_out s o = grind (arith, nat_tests, plan_is axes, not-empty axes many)
 
 -- what is planned before the block is looked for
@@ -67,14 +67,14 @@ pub ruleset planning = (counted, not_counted, plan_few, plan_still, plan_out)
 
 pub settled : (axes : List Axis) (words : ℕ) {v : Verdict} {count : ℕ} → plan_of axes ≡ done (answered v count)
     → judge axes words ≡ done (record { answer = v; count = count; freed = 0 })
-unfolding judge carryOut ◌>>=◌
+unfolding judge carry_out ◌>>=◌
 settled axes words p = rw p
 
 pub turned_down : (axes : List Axis) (words : ℕ) {n : ℕ} {vs : List ℕ} → plan_of axes ≡ refused n vs → judge axes words ≡ refused n vs
 unfolding judge ◌>>=◌
 turned_down axes words p = rw p
 
-pub by_block : (axes : List Axis) (words : ℕ) → LeftToBlock axes → judge axes words ≡ carryOut words (byBlock (upToLast 0 (inOrder axes)))
+pub by_block : (axes : List Axis) (words : ℕ) → IsLeftToBlock axes → judge axes words ≡ carry_out words (by_block_size (up_to_last 0 (sorted_active axes)))
 unfolding judge block_of ◌>>=◌
 by_block axes words l = grind (arith, nat_tests, plan_is axes, not-empty axes l.many)
 
@@ -82,7 +82,7 @@ by_block axes words l = grind (arith, nat_tests, plan_is axes, not-empty axes l.
 
 -- two lists that are paired, or refused as they are, decide a verdict's first two refusals
 by_pairs : (es : List ℕ) (ss : List ℤ) (words : ℕ) → verdict es ss words ≡ (paired es ss >>= λ axes. judge axes words)
-unfolding verdict paired refuseIf ◌>>◌ ◌>>=◌
+unfolding verdict paired refuse_if ◌>>◌ ◌>>=◌
 by_pairs es ss words = grind (arith, ints)
 
 pub unpaired : (es : List ℕ) (ss : List ℤ) (words : ℕ) {n : ℕ} {vs : List ℕ}
@@ -105,8 +105,8 @@ length-strides [] = refl
 length-strides (a ∷ axes) = rw (length-strides axes)
 
 -- axes are those of their extents and strides
-parts_of_axes : (axes : List Axis) → axesOf (extents axes) (strides axes) ≡ axes
-unfolding axesOf
+parts_of_axes : (axes : List Axis) → axes_of_lists (extents axes) (strides axes) ≡ axes
+unfolding axes_of_lists
 parts_of_axes [] = refl
 parts_of_axes (a ∷ axes) = ap (λ (rest : List Axis). a ∷ rest) (parts_of_axes axes)
 
@@ -115,7 +115,7 @@ crowd axes words h = verdict_call_claims.one (extents axes) (strides axes) words
 
 pub few_axes : (axes : List Axis) (words : ℕ) → length axes ≤ 16 → verdict (extents axes) (strides axes) words ≡ judge axes words
 few_axes axes words h =
-    verdict_call_claims.then-judged (extents axes) (strides axes) words (omega (arith, length-extents axes))
+    verdict_call_claims.then_judged (extents axes) (strides axes) words (omega (arith, length-extents axes))
     (length-extents axes ∙ sym (length-strides axes))
     ∙ ap (λ (l : List Axis). judge l words) (parts_of_axes axes)
 

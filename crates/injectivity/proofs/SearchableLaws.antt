@@ -2,10 +2,10 @@
 use Rattle.std.proofs.Common.{ℕ, zero, suc, ◌≤◌, ◌<◌, List, [], ◌∷◌, length, take, arith}
 use native.Mathlib.Nat.{mul-le-mul_left}
 use Rattle.specification.specs.Axis.{product}
-use Rattle.specification.specs.Search.{ActiveAxis, lengths, total, spanSum}
+use Rattle.specification.specs.Search.{ActiveAxis, lengths, total, span_sum}
 use Rattle.specification.specs.BlockClaims.{entry_at}
 use Rattle.specification.proofs.Digits.{PositiveExtents, product-positive}
-use Rattle.sorting.specs.Numbered.{IsFree, Numbered}
+use Rattle.sorting.specs.Numbered.{IsFree, IsNumbered}
 use Rattle.search.specs.Block.{Side, Sides}
 
 pub side-at : (l : List ActiveAxis) → Sides l → (i : ℕ) → i < length l → Side (entry_at l i).extent (entry_at l i).stride
@@ -28,7 +28,7 @@ module _ (n : ℕ) where
   free-take (suc k) [] f = tt
   free-take (suc k) (a ∷ l) f = (f.0, free-take k l f.1)
 
-pub numbered-take : (k : ℕ) (l : List ActiveAxis) → Numbered l → Numbered (take k l)
+pub numbered-take : (k : ℕ) (l : List ActiveAxis) → IsNumbered l → IsNumbered (take k l)
 numbered-take zero l d = tt
 numbered-take (suc k) [] d = tt
 numbered-take (suc k) (a ∷ l) d = (free-take a.axis k l d.0, numbered-take k l d.1)
@@ -38,8 +38,8 @@ sides-take zero l s = tt
 sides-take (suc k) [] s = tt
 sides-take (suc k) (a ∷ l) s = (s.0, sides-take k l s.1)
 
-pub span-take : (k : ℕ) (l : List ActiveAxis) → spanSum (take k l) ≤ spanSum l
-unfolding spanSum
+pub span-take : (k : ℕ) (l : List ActiveAxis) → span_sum (take k l) ≤ span_sum l
+unfolding span_sum
 span-take zero l = omega arith
 span-take (suc k) [] = omega arith
 span-take (suc k) (a ∷ l) = omega (arith, span-take k l)

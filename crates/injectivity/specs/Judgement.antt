@@ -1,7 +1,7 @@
 -- What the call answers and leaves in the scratch, as an outcome of the verdict.
 use Rattle.std.specs.Prelude.{List, ◌≡◌, ℕ, Result}
 use Rattle.specification.specs.Outcome.{Outcome, done, refused}
-use Rattle.specification.specs.Verdict.{Verdict, Judged, freedBy, ScratchAfter}
+use Rattle.specification.specs.Verdict.{Verdict, Judged, freed_by, ScratchAfter}
 use Rattle.specification.specs.Verdict as verdict
 use Rattle.view.specs.Answers.{outcome_by}
 use Rattle.injectivity.specs.declared.Judgement.{Judgement}
@@ -14,9 +14,9 @@ pub record Told : Type 0 where
   pub count : ℕ
 
 -- what is told of an outcome: all but how many words it frees
-abbrev pub toldOf : Outcome Judged → Outcome Told
-toldOf (done j) = done (record { answer = j.answer; count = j.count })
-toldOf (refused number values) = refused number values
+abbrev pub told_of : Outcome Judged → Outcome Told
+told_of (done j) = done (record { answer = j.answer; count = j.count })
+told_of (refused number values) = refused number values
 
 -- a judgement in the definitions' words; the count of Undecided is 0
 abbrev pub verdict_told : Judgement → Told
@@ -25,8 +25,8 @@ verdict_told (Repeated count) = record { answer = verdict.Repeated; count = coun
 verdict_told Undecided = record { answer = verdict.Undecided; count = 0 }
 
 -- the answer of the call as an outcome
-abbrev pub judgedOf : Result Judgement Refusal → Outcome Told
-judgedOf = outcome_by verdict_told
+abbrev pub judged_of : Result Judgement Refusal → Outcome Told
+judged_of = outcome_by verdict_told
 
 -- the number of a verdict in a record and at the border to C, and its count
 abbrev pub number_told : Judgement → ℕ
@@ -40,6 +40,6 @@ count_told (Repeated count) = count
 count_told Undecided = 0
 
 -- answer and scratch of the call are those of an outcome: the scratch is `before` it and `after` it
-pub record JudgedAs (outcome : Outcome Judged) (before after : List ℕ) (answer : Result Judgement Refusal) : Type 0 where
-  pub told : judgedOf answer ≡ toldOf outcome
-  pub scratch : ScratchAfter (freedBy outcome) before after
+pub record IsJudgedAs (outcome : Outcome Judged) (before after : List ℕ) (answer : Result Judgement Refusal) : Type 0 where
+  pub told : judged_of answer ≡ told_of outcome
+  pub scratch : ScratchAfter (freed_by outcome) before after

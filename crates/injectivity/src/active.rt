@@ -1,6 +1,6 @@
 //! The active axes of a layout, gathered from its axes.
 ghost use Rattle.std.specs.Prelude.{◌≡◌, ◌≤◌, length, nat_abs, take};
-ghost use Rattle.specification.specs.Verdict.{activeFrom};
+ghost use Rattle.specification.specs.Verdict.{active_from};
 
 use axis::{ActiveAxis, Axis};
 
@@ -30,8 +30,8 @@ fn active_axis(axis: usize, layout_axis: &Axis) -> ActiveAxis
 #[tactic(auto, using(crate::proofs::ActiveLaws::gathering))]
 pub fn gather_active(axes: &[Axis], active: &mut [ActiveAxis; 16]) -> usize
     requires { length axes.now ≤ 16 }
-    ensures count { result ≡ length (activeFrom 0 axes.now) }
-    ensures gathered { take result active.new ≡ activeFrom 0 axes.now }
+    ensures count { result ≡ length (active_from 0 axes.now) }
+    ensures gathered { take result active.new ≡ active_from 0 axes.now }
 {
     let mut count: usize = 0;
     for (axis, layout_axis) in axes.iter().enumerate() {

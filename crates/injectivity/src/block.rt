@@ -1,11 +1,11 @@
 //! The block of axes whose spans reach into each other, and its verdict: crowded, of two axes,
 //! searched, enumerated.
 ghost use Rattle.std.specs.Prelude.{[], ◌≡◌, ◌↔◌, ◌-◌, ◌^◌, ◌<◌, ◌≤◌, length, IsTrue, IfSome, IfNone};
-ghost use Rattle.specification.specs.Tests.{sortBy};
-ghost use Rattle.specification.specs.Search.{total as total_of, spanSum};
-ghost use Rattle.specification.specs.Verdict.{upToLast, enumerated, longer, pastSearch, byMany, byBlock, carryOut};
-ghost use Rattle.search.specs.Block.{Searchable, planOf};
-ghost use Rattle.injectivity.specs.Judgement.{JudgedAs};
+ghost use Rattle.specification.specs.Tests.{sort_by};
+ghost use Rattle.specification.specs.Search.{total as total_of, span_sum};
+ghost use Rattle.specification.specs.Verdict.{up_to_last, enumerated, longer, plan_past_search, by_many, by_block_size, carry_out};
+ghost use Rattle.search.specs.Block.{IsSearchable, block_plan};
+ghost use Rattle.injectivity.specs.Judgement.{IsJudgedAs};
 
 use crate::Judgement;
 use axis::ActiveAxis;
@@ -43,14 +43,14 @@ impl InterleavedBlock<'_> {
     /// Whether there is a sum for each position: sums go from 0 to the span, and of more positions
     /// some two share one.
     fn may_be_injective(&self) -> bool
-        ensures { IsTrue result ↔ (total_of self.now - 1 ≤ spanSum self.now) }
+        ensures { IsTrue result ↔ (total_of self.now - 1 ≤ span_sum self.now) }
     {
         self.total - 1 <= self.span
     }
 
     /// The enumeration, within its budget.
     fn offsets_unique(&self, scratch: &mut [u64]) -> Result<Judgement, Refusal>
-        ensures { JudgedAs (carryOut (length scratch.old) (enumerated self.now))
+        ensures { IsJudgedAs (carry_out (length scratch.old) (enumerated self.now))
             scratch.old scratch.new result }
     {
         match enumerate(self.axes, self.total, self.span, scratch) {
@@ -61,9 +61,9 @@ impl InterleavedBlock<'_> {
     }
 
     /// Past the budget of the search.
-    #[tactic(auto, unfolding(specification::specs::Verdict::pastSearch, specification::specs::Verdict::carryOut))]
+    #[tactic(auto, unfolding(specification::specs::Verdict::plan_past_search, specification::specs::Verdict::carry_out))]
     fn judge_past_search(&self, scratch: &mut [u64]) -> Result<Judgement, Refusal>
-        ensures { JudgedAs (carryOut (length scratch.old) (pastSearch self.now))
+        ensures { IsJudgedAs (carry_out (length scratch.old) (plan_past_search self.now))
             scratch.old scratch.new result }
     {
         if self.total <= EXACT_BLOCK_BUDGET {
@@ -74,10 +74,10 @@ impl InterleavedBlock<'_> {
     }
 
     /// The search, and what is past it.
-    #[tactic(auto, unfolding(specification::specs::Verdict::carryOut))]
+    #[tactic(auto, unfolding(specification::specs::Verdict::carry_out))]
     fn judge_many(&self, scratch: &mut [u64]) -> Result<Judgement, Refusal>
-        ensures { JudgedAs
-            (carryOut (length scratch.old) (byMany self.now (sortBy longer self.now)))
+        ensures { IsJudgedAs
+            (carry_out (length scratch.old) (by_many self.now (sort_by longer self.now)))
             scratch.old scratch.new result }
     {
         match search_block(self.axes) {
@@ -88,9 +88,9 @@ impl InterleavedBlock<'_> {
 
     /// The block judged. The error is that the enumeration needs more words of scratch, with their
     /// number; then every word stays.
-    #[tactic(auto, using(crate::proofs::JudgeLaws::plans), unfolding(specification::specs::Verdict::carryOut))]
+    #[tactic(auto, using(crate::proofs::JudgeLaws::plans), unfolding(specification::specs::Verdict::carry_out))]
     pub fn judge(&self, scratch: &mut [u64]) -> Result<Judgement, Refusal>
-        ensures { JudgedAs (carryOut (length scratch.old) (byBlock self.now))
+        ensures { IsJudgedAs (carry_out (length scratch.old) (by_block_size self.now))
             scratch.old scratch.new result }
     {
         if !self.may_be_injective() {
@@ -116,14 +116,14 @@ struct Front {
     span: u64,
 }
 
-/// Of sorted axes, those up to the last whose absolute stride is at most the sum of absolute spans
-/// before it; none, where every axis is separated.
+/// Of sorted axes, those up to the last that the ones before it reach: its absolute stride is at
+/// most the sum of their absolute spans. None, where every axis is separated.
 #[tactic(auto, using(crate::proofs::CoverLaws::passing, crate::proofs::CoverLaws::in_front))]
 pub fn interleaved_block(sorted: &[ActiveAxis]) -> Option<InterleavedBlock<'_>>
-    requires searchable { Searchable sorted.now }
+    requires searchable { IsSearchable sorted.now }
     requires total_fits { total_of sorted.now < 2 ^ 64 }
-    ensures some { IfSome result (λ block. block ≡ upToLast 0 sorted.now) }
-    ensures none { IfNone result (upToLast 0 sorted.now ≡ []) }
+    ensures some { IfSome result (λ block. block ≡ up_to_last 0 sorted.now) }
+    ensures none { IfNone result (up_to_last 0 sorted.now ≡ []) }
 {
     let mut block = Front {
         len: 0,

@@ -1,8 +1,8 @@
 //! What is answered or refused before the block is looked for.
+ghost use Rattle.std.specs.List.{list_any};
 ghost use Rattle.std.specs.Prelude.{◌≡◌, ◌≤◌, length};
-ghost use Rattle.specification.specs.Tests.{some};
-ghost use Rattle.specification.specs.Verdict.{still, outOfRange};
-ghost use Rattle.injectivity.specs.Inputs.{Validated, unfit};
+ghost use Rattle.specification.specs.Verdict.{still, is_out_of_range};
+ghost use Rattle.injectivity.specs.Inputs.{IsValidated, unfit};
 
 use crate::Judgement;
 use axis::Axis;
@@ -26,12 +26,12 @@ fn is_still(axis: &Axis) -> bool
 
 /// Whether some axis is.
 fn some_still(axes: &[Axis]) -> bool
-    ensures { result ≡ some still axes.now }
+    ensures { result ≡ list_any still axes.now }
 {
     axes.iter().any(is_still)
 }
 
-/// Whether an axis is active, and its extent minus 1 is above 2^63 - 1 or its stride is -2^63.
+/// Whether an extent is above 2^63, or an active axis's stride is -2^63.
 #[tactic(auto, using(crate::proofs::InputsLaws::axis_tests))]
 fn is_unfit(axis: &Axis) -> bool
     ensures { result ≡ unfit axis.now }
@@ -41,7 +41,7 @@ fn is_unfit(axis: &Axis) -> bool
 
 /// Whether some axis is.
 fn some_unfit(axes: &[Axis]) -> bool
-    ensures { result ≡ some unfit axes.now }
+    ensures { result ≡ list_any unfit axes.now }
 {
     axes.iter().any(is_unfit)
 }
@@ -50,7 +50,7 @@ fn some_unfit(axes: &[Axis]) -> bool
 /// in range.
 #[tactic(auto, using(crate::proofs::InputsLaws::out_is))]
 fn out_of_range(axes: &[Axis]) -> bool
-    ensures { result ≡ outOfRange axes.now }
+    ensures { result ≡ is_out_of_range axes.now }
 {
     some_unfit(axes) || sum_spans(axes, MOST_UP, MOST_DOWN).is_none()
 }
@@ -60,7 +60,7 @@ fn out_of_range(axes: &[Axis]) -> bool
 #[tactic(auto, using(crate::proofs::PlanLaws::planning))]
 pub fn validate_injective_layout_inputs(axes: &[Axis]) -> Result<Option<Judgement>, Refusal>
     requires { length axes.now ≤ 16 }
-    ensures { Validated axes.now result }
+    ensures { IsValidated axes.now result }
 {
     let total = element_count(axes)?;
     if total <= 1 {

@@ -21,8 +21,8 @@ mod inputs;
 ghost use Rattle.std.specs.Prelude.{◌≤◌, length};
 ghost use Rattle.specification.specs.Axis.{extents, strides};
 ghost use Rattle.specification.specs.Verdict.{judge as judged, verdict};
-ghost use Rattle.injectivity.specs.Inputs.{LeftToBlock};
-ghost use Rattle.injectivity.specs.Judgement.{JudgedAs};
+ghost use Rattle.injectivity.specs.Inputs.{IsLeftToBlock};
+ghost use Rattle.injectivity.specs.Judgement.{IsJudgedAs};
 ghost use Rattle.injectivity.specs.Meaning.{Means, JudgementClaims};
 
 use active::{NO_ACTIVE_AXIS, gather_active};
@@ -93,7 +93,7 @@ pub fn is_injective_layout(
     strides: &[i64],
     scratch: &mut [u64],
 ) -> Result<Judgement, Refusal>
-    ensures judged { JudgedAs (verdict extents.now strides.now (length scratch.old))
+    ensures judged { IsJudgedAs (verdict extents.now strides.now (length scratch.old))
         scratch.old scratch.new result }
     ensures means { Means extents.now strides.now scratch.old scratch.new result }
 {
@@ -110,7 +110,7 @@ pub fn is_injective_layout(
 /// refusal leaves them all.
 #[tactic(auto, using(crate::proofs::PlanLaws::lent, crate::proofs::MeaningProved::told_means))]
 pub fn is_injective_axes(axes: &[Axis], scratch: &mut [u64]) -> Result<Judgement, Refusal>
-    ensures judged { JudgedAs (verdict (extents axes.now) (strides axes.now) (length scratch.old))
+    ensures judged { IsJudgedAs (verdict (extents axes.now) (strides axes.now) (length scratch.old))
         scratch.old scratch.new result }
     ensures means { Means (extents axes.now) (strides axes.now) scratch.old scratch.new result }
 {
@@ -124,7 +124,7 @@ pub fn is_injective_axes(axes: &[Axis], scratch: &mut [u64]) -> Result<Judgement
 #[tactic(auto, using(crate::proofs::PlanLaws::settled, crate::proofs::PlanLaws::turned_down))]
 fn judge_axes(axes: &[Axis], scratch: &mut [u64]) -> Result<Judgement, Refusal>
     requires { length axes.now ≤ 16 }
-    ensures { JudgedAs (judged axes.now (length scratch.old)) scratch.old scratch.new result }
+    ensures { IsJudgedAs (judged axes.now (length scratch.old)) scratch.old scratch.new result }
 {
     match validate_injective_layout_inputs(axes)? {
         Some(judgement) => Ok(judgement),
@@ -133,11 +133,11 @@ fn judge_axes(axes: &[Axis], scratch: &mut [u64]) -> Result<Judgement, Refusal>
 }
 
 /// The verdict where the block decides. No block is Distinct: every axis is separated.
-#[tactic(auto, using(crate::proofs::ReadyLaws::sorted_axes), unfolding(specification::specs::Verdict::carryOut))]
+#[tactic(auto, using(crate::proofs::ReadyLaws::sorted_axes), unfolding(specification::specs::Verdict::carry_out))]
 fn judge_active_axes(axes: &[Axis], scratch: &mut [u64]) -> Result<Judgement, Refusal>
     requires few { length axes.now ≤ 16 }
-    requires left { LeftToBlock axes.now }
-    ensures { JudgedAs (judged axes.now (length scratch.old)) scratch.old scratch.new result }
+    requires left { IsLeftToBlock axes.now }
+    ensures { IsJudgedAs (judged axes.now (length scratch.old)) scratch.old scratch.new result }
 {
     let mut room = [NO_ACTIVE_AXIS; 16];
     let count = gather_active(axes, &mut room);

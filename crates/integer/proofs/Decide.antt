@@ -3,9 +3,9 @@ use Rattle.std.proofs.Common.{◌≡◌, ◌⊎◌, Bool, T, false, not, true, �
 use native.Mathlib.Decide.{ℕ_discrete}
 
 -- A test that decides, with what it says where it holds and where it does not.
-unfoldable pub byTest : {P : Type 0} → (t : Bool) → (T t → P) → (T (not t) → P → ⊥) → Dec P
-byTest true f g = yes (f tt)
-byTest false f g = no (λ p. g tt p)
+unfoldable pub by_test : {P : Type 0} → (t : Bool) → (T t → P) → (T (not t) → P → ⊥) → Dec P
+by_test true f g = yes (f tt)
+by_test false f g = no (λ p. g tt p)
 
 -- A bounded search: the greatest number below n that has the property, or that none has it.
 pub find : (P : ℕ → Type 0) → ((i : ℕ) → Dec (P i)) → (n : ℕ) → ((i : ℕ) × (i < n) × P i) ⊎ ((i : ℕ) → i < n → ¬ (P i))

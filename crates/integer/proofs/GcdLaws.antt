@@ -3,21 +3,21 @@ use Rattle.std.proofs.Common.{◌≡◌, ℕ, zero, suc, ◌%◌, ◌*◌, ◌/�
 use Rattle.std.proofs.lemmas.Nat.Gcd.{IsGcd-from_mod, IsGcd-from_zero, same_from_IsGcd}
 use Rattle.std.specs.Int.{IsGcd, ◌∣◌}
 use native.Mathlib.Nat.{div-mul_cancel, mod-lt, pos_of_dvd_of_pos}
-use Rattle.integer.specs.Gcd.{GcdClaims, gcd, gcdWithin}
+use Rattle.integer.specs.Gcd.{GcdClaims, gcd, gcd_within}
 
-gcdWithin-is : (f a b : ℕ) → b ≤ f → IsGcd a b (gcdWithin f a b)
-unfolding gcdWithin
-gcdWithin-is zero a b h = IsGcd-from_zero a b (omega arith)
-gcdWithin-is (suc f) a zero h = IsGcd-from_zero a zero refl
-gcdWithin-is (suc f) a (suc b) h = let l = mod-lt a {m = suc b} (omega arith) in IsGcd-from_mod a (suc b) _ (gcdWithin-is f (suc b) (a % suc b) (omega arith))
+gcd_within-is : (f a b : ℕ) → b ≤ f → IsGcd a b (gcd_within f a b)
+unfolding gcd_within
+gcd_within-is zero a b h = IsGcd-from_zero a b (omega arith)
+gcd_within-is (suc f) a zero h = IsGcd-from_zero a zero refl
+gcd_within-is (suc f) a (suc b) h = let l = mod-lt a {m = suc b} (omega arith) in IsGcd-from_mod a (suc b) _ (gcd_within-is f (suc b) (a % suc b) (omega arith))
 
 -- The definition has the meaning that its name says.
 pub gcd-is : (a b : ℕ) → IsGcd a b (gcd a b)
 unfolding gcd
-gcd-is a b = gcdWithin-is b a b (omega arith)
+gcd-is a b = gcd_within-is b a b (omega arith)
 
 pub gcd_claims : GcdClaims
-gcd_claims = record { is-gcd = gcd-is }
+gcd_claims = record { is_gcd = gcd-is }
 
 -- The two rules by which the code computes it.
 pub gcd-zero : (a b : ℕ) → b ≡ 0 → gcd a b ≡ a

@@ -12,10 +12,10 @@ pub record Meet (s₁ d₁ s₂ d₂ : ℕ) : Type 0 where
   pub i₂ : ℕ
   pub j₁ : ℕ
   pub j₂ : ℕ
-  pub i₁-below : i₁ < d₁
-  pub i₂-below : i₂ < d₂
-  pub j₁-below : j₁ < d₁
-  pub j₂-below : j₂ < d₂
+  pub i₁_below : i₁ < d₁
+  pub i₂_below : i₂ < d₂
+  pub j₁_below : j₁ < d₁
+  pub j₂_below : j₂ < d₂
   pub other : ¬ ((i₁ ≡ j₁) × (i₂ ≡ j₂))
   pub same : i₁ * s₁ + i₂ * s₂ ≡ j₁ * s₁ + j₂ * s₂
 
@@ -47,10 +47,10 @@ module _ (s₁ s₂ : ℕ) (h₁ : 0 < s₁) (h₂ : 0 < s₂) where
     i₂ = 0;
     j₁ = 0;
     j₂ = a;
-    i₁-below = k₁;
-    i₂-below = omega arith;
-    j₁-below = omega arith;
-    j₂-below = k₂;
+    i₁_below = k₁;
+    i₂_below = omega arith;
+    j₁_below = omega arith;
+    j₂_below = k₂;
     other = λ w. omega (arith, w.0, right-pos s₁ s₂ h₂);
     same = omega (arith, ap (λ (z : ℕ). b * z) (left_back s₁ s₂), ap (λ (z : ℕ). a * z) (right-back s₁ s₂));
   }
@@ -73,8 +73,8 @@ module _ (s₁ s₂ : ℕ) (h₁ : 0 < s₁) (h₂ : 0 < s₂) where
   meet-only-if d₁ d₂ m = go (dec_lt m.i₁ m.j₁) (dec_lt m.j₁ m.i₁)
     where
       go : Dec (m.i₁ < m.j₁) → Dec (m.j₁ < m.i₁) → (b < d₁) × (a < d₂)
-      go (yes p) d = meet-ordered d₁ d₂ m.i₁ m.i₂ m.j₁ m.j₂ m.j₁-below m.i₂-below p m.same
-      go (no p) (yes q) = meet-ordered d₁ d₂ m.j₁ m.j₂ m.i₁ m.i₂ m.i₁-below m.j₂-below q (sym m.same)
+      go (yes p) d = meet-ordered d₁ d₂ m.i₁ m.i₂ m.j₁ m.j₂ m.j₁_below m.i₂_below p m.same
+      go (no p) (yes q) = meet-ordered d₁ d₂ m.j₁ m.j₂ m.i₁ m.i₂ m.i₁_below m.j₂_below q (sym m.same)
       go (no p) (no q) =
           let e : m.i₁ ≡ m.j₁ = omega arith in
           let f : m.i₂ * s₂ ≡ m.j₂ * s₂ = omega (arith, m.same, ap (λ (z : ℕ). z * s₁) e) in

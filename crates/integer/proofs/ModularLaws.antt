@@ -3,22 +3,22 @@ use Rattle.std.proofs.Common.{◌≡◌, ◌∙◌, Bool, false, not, true, ℕ,
 use native.Mathlib.Nat.{div-add-mod', mod-lt, mul-le-mul_left}
 use Rattle.integer.proofs.Congruence.{congruent-mul, congruent-of-equal, congruent-sym, congruent-trans, equal-of-congruent, mod-congruent}
 use Rattle.integer.proofs.GcdLaws.{gcd-step, gcd-zero}
-use Rattle.integer.specs.Congruence.{Congruent, IsGcdInverse}
+use Rattle.integer.specs.Congruence.{IsCongruent, IsGcdInverse}
 use Rattle.integer.specs.Gcd.{gcd}
 use Rattle.std.specs.Prelude.{if◌then◌else◌}
 
 -- The product by doubling: what is summed up and what is left to add make the product.
 pub record Doubling (x y m sum base left : ℕ) : Type 0 where
   pub sum_below : sum < m
-  pub base-below : base < m
-  pub whole : Congruent m (sum + base * left) (x * y)
+  pub base_below : base < m
+  pub whole : IsCongruent m (sum + base * left) (x * y)
 
 -- One bit of `left` goes into the sum, and the base is doubled.
-doubling-next : (x y m sum base left s b : ℕ) → Doubling x y m sum base left → s < m → Congruent m s (sum + left % 2 * base)
+doubling-next : (x y m sum base left s b : ℕ) → Doubling x y m sum base left → s < m → IsCongruent m s (sum + left % 2 * base)
     → b < m → b ≡ (base + base) % m → Doubling x y m s b (left / 2)
 doubling-next x y m sum base left s b d hs cs hb eb = record {
   sum_below = hs;
-  base-below = hb;
+  base_below = hb;
   whole =
       let k = congruent-mul (left / 2) (congruent-of-equal m b (base + base) eb) in
       let e : base * left ≡ (base + base) * (left / 2) + left % 2 * base = omega (arith, ap (λ (z : ℕ). base * z) (div-add-mod' left 2)) in
@@ -46,15 +46,15 @@ doubling-end x y m sum base left d h =
 
 -- r is t times a modulo b, or minus t times a.
 abbrev pub SignedMultiple : Bool → ℕ → ℕ → ℕ → ℕ → Type 0
-SignedMultiple true b a r t = Congruent b r (t * a)
-SignedMultiple false b a r t = Congruent b (r + t * a) 0
+SignedMultiple true b a r t = IsCongruent b r (t * a)
+SignedMultiple false b a r t = IsCongruent b (r + t * a) 0
 
 -- Euclid's loop: two remainders r0, r1 of b and a, each a signed multiple of a, with signs that differ. That `total` is b bounds the multiples.
 pub record EuclidLoop (a b r0 r1 t0 t1 : ℕ) (positive : Bool) : Type 0 where
   pub total : t0 * r1 + t1 * r0 ≡ b
   pub above : 0 < r0
   pub at_most : t0 ≤ b
-  pub same-gcd : gcd r0 r1 ≡ gcd a b
+  pub same_gcd : gcd r0 r1 ≡ gcd a b
   pub first : SignedMultiple positive b a r0 t0
   pub second : SignedMultiple (not positive) b a r1 t1
 
@@ -63,7 +63,7 @@ euclid-start a b h = record {
   total = omega arith;
   above = h;
   at_most = omega arith;
-  same-gcd = sym (gcd-step a b);
+  same_gcd = sym (gcd-step a b);
   first = record { p = 0; q = 1; eq = omega arith };
   second = let c = mod-congruent b a in record { p = c.p; q = c.q; eq = omega (arith, c.eq) };
 }
@@ -83,7 +83,7 @@ euclid-next a b r0 r1 t0 t1 positive h u =
       total = omega (arith, u.total, ap (λ (z : ℕ). z * t1) d);
       above = h;
       at_most = omega (arith, u.total, mul-le-mul_left t1 u.above);
-      same-gcd = sym (gcd-step r0 r1) ∙ u.same-gcd;
+      same_gcd = sym (gcd-step r0 r1) ∙ u.same_gcd;
       first = u.second;
       second = signed-multiple-next positive b a r0 r1 t0 t1 u.first u.second (r0 / r1) (r0 % r1) d;
     }
@@ -92,12 +92,12 @@ euclid-next a b r0 r1 t0 t1 positive h u =
 pub euclid-ends : (a b r0 r1 t0 t1 : ℕ) (positive : Bool) → EuclidLoop a b r0 r1 t0 t1 positive → 0 < b → r1 ≡ 0
     → IsGcdInverse a b r0 (if positive then t0 % b else (b - t0) % b)
 euclid-ends a b r0 r1 t0 t1 true u h e = record {
-  is-gcd = sym (gcd-zero r0 r1 e) ∙ u.same-gcd;
+  is_gcd = sym (gcd-zero r0 r1 e) ∙ u.same_gcd;
   below = mod-lt t0 h;
   multiple = congruent-trans u.first (congruent-sym (congruent-mul a (mod-congruent b t0)));
 }
 euclid-ends a b r0 r1 t0 t1 false u h e = record {
-  is-gcd = sym (gcd-zero r0 r1 e) ∙ u.same-gcd;
+  is_gcd = sym (gcd-zero r0 r1 e) ∙ u.same_gcd;
   below = mod-lt (b - t0) h;
   multiple =
       let k = congruent-mul a (mod-congruent b (b - t0)) in

@@ -3,19 +3,19 @@ use Rattle.std.proofs.Common.{◌≡◌, ◌≢◌, T, not, ℕ, ◌+◌, ◌*�
 use Rattle.std.specs.Prelude.{◌+ℤ◌, pos, ℤ}
 use Rattle.integer.specs.Multiple.{◌·◌}
 use Rattle.std.specs.Ordering.{int_eq}
-use Rattle.integer.specs.Parts.{negPart, posPart}
+use Rattle.integer.specs.Parts.{negative_part, positive_part}
 use Rattle.std.proofs.lemmas.Int.{ints}
 
 -- A multiple scales both parts.
-pub posPart-· : (k : ℕ) (s : ℤ) → posPart (k · s) ≡ k * posPart s
+pub positive_part-· : (k : ℕ) (s : ℤ) → positive_part (k · s) ≡ k * positive_part s
 unfolding ◌·◌
-posPart-· k s = grind (arith, ints)
+positive_part-· k s = grind (arith, ints)
 
-pub negPart-· : (k : ℕ) (s : ℤ) → negPart (k · s) ≡ k * negPart s
+pub negative_part-· : (k : ℕ) (s : ℤ) → negative_part (k · s) ≡ k * negative_part s
 unfolding ◌·◌
-negPart-· k s = grind (arith, ints)
+negative_part-· k s = grind (arith, ints)
 
-pub ruleset multiples = (ints, posPart-·, negPart-·)
+pub ruleset multiples = (ints, positive_part-·, negative_part-·)
 
 -- Multiples add, multiply and distribute.
 pub ·-zero : (s : ℤ) → 0 · s ≡ pos 0
@@ -25,7 +25,7 @@ pub ·-one : (s : ℤ) → 1 · s ≡ s
 ·-one s = omega (arith, multiples)
 
 pub ·-mul : (q n : ℕ) (s : ℤ) → q · (n · s) ≡ (q * n) · s
-·-mul q n s = omega (arith, multiples, ap (λ (z : ℕ). q * z) (posPart-· n s), ap (λ (z : ℕ). q * z) (negPart-· n s))
+·-mul q n s = omega (arith, multiples, ap (λ (z : ℕ). q * z) (positive_part-· n s), ap (λ (z : ℕ). q * z) (negative_part-· n s))
 
 pub ·-add : (a b : ℕ) (s : ℤ) → (a + b) · s ≡ a · s +ℤ b · s
 ·-add a b s = omega (arith, multiples)

@@ -5,6 +5,6 @@ use Rattle.std.specs.Prelude.{◌≡◌, ℕ, ◌+◌, ◌*◌, ◌≤◌}
 pub record Solution (a b mu mv c : ℕ) : Type 0 where
   pub u : ℕ
   pub v : ℕ
-  pub u-within : u ≤ mu
-  pub v-within : v ≤ mv
+  pub u_within : u ≤ mu
+  pub v_within : v ≤ mv
   pub sum : u * a + v * b ≡ c

@@ -1,6 +1,6 @@
 // Arithmetic modulo m, for any m below 2^64, in words of 64 bits.
 ghost use Rattle.std.specs.Prelude.{◌≡◌, ◌+◌, ◌*◌, ◌%◌, ◌<◌};
-ghost use Rattle.integer.specs.Congruence.{Congruent, IsGcdInverse};
+ghost use Rattle.integer.specs.Congruence.{IsCongruent, IsGcdInverse};
 
 // 2^32: two numbers below it have a product that fits a word.
 const HALF_WORD: u64 = 0x1_0000_0000;
@@ -24,7 +24,7 @@ pub fn add_mod(x: u64, y: u64, m: u64) -> u64
 /// -x modulo m.
 pub fn neg_mod(x: u64, m: u64) -> u64
     requires { x < m }
-    ensures { (result < m) × Congruent m (result + x) 0 }
+    ensures { (result < m) × IsCongruent m (result + x) 0 }
 {
     if x == 0 { 0 } else { m - x }
 }

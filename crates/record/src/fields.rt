@@ -1,9 +1,9 @@
 //! The fields of a record: how many bytes they take, and how they are put to the front of an
 //! output.
 ghost use Rattle.std.specs.Prelude.{◌≡◌, ◌++◌, ◌≤◌, ◌*◌, length, drop};
-ghost use Rattle.specification.specs.Record.{recordLength, axisBytes, head_length, axis_length};
-ghost use Rattle.view.specs.Model.{modelOf};
-ghost use Rattle.record.specs.Fields.{headBytes, recordFields};
+ghost use Rattle.specification.specs.Record.{record_length, axis_bytes, head_length, axis_length};
+ghost use Rattle.view.specs.Model.{model_of};
+ghost use Rattle.record.specs.Fields.{head_bytes, record_fields};
 
 use axis::Axis;
 use view::layout::Layout;
@@ -12,13 +12,13 @@ use view::layout::Layout;
 #[derive(Clone, Copy, Debug, PartialEq, Eq, PartialOrd, Ord)]
 pub struct BytePlace(pub usize);
 
-/// Where the offset stands: behind length of the whole (2), version (1), verdict (1), rank (1).
+/// Where the offset stands: behind the length of the record in 2 bytes, and version, verdict and rank in one each.
 pub(crate) const OFFSET_PLACE: BytePlace = BytePlace(5);
 
-/// The bytes before the axes: those, and the offset (8).
+/// The bytes before the axes: those, and 8 of the offset.
 pub(crate) const HEAD_BYTES: usize = OFFSET_PLACE.0 + 8;
 
-/// The bytes of an axis: extent (8), stride (8).
+/// The bytes of an axis: 8 of its extent, 8 of its stride.
 pub(crate) const AXIS_BYTES: usize = 16;
 
 /// The version that stands in a record.
@@ -27,17 +27,17 @@ pub(crate) const VERSION: u8 = 1;
 /// How many bytes the record of so many axes has.
 pub(crate) fn record_length(rank: usize) -> usize
     requires { rank ≤ 16 }
-    ensures { result ≡ recordLength rank }
+    ensures { result ≡ record_length rank }
 {
     HEAD_BYTES + AXIS_BYTES * rank
 }
 
-/// Length of the whole, version, verdict, rank and offset, into the bytes of a head.
-#[tactic(auto, using(view::proofs::ListedLaws::rank_model_of), unfolding(crate::specs::Fields::headBytes))]
+/// The length of the record, version, verdict, rank and offset, into the bytes of a head.
+#[tactic(auto, using(view::proofs::ListedLaws::rank_model_of), unfolding(crate::specs::Fields::head_bytes))]
 fn put_head(head: &mut [u8], layout: &Layout, verdict: u8)
     requires few { layout.now.rank ≤ 16 }
     requires room { length head.old ≡ head_length }
-    ensures { head.new ≡ headBytes (modelOf layout.now) verdict }
+    ensures { head.new ≡ head_bytes (model_of layout.now) verdict }
 {
     let [high, low] = (record_length(layout.rank) as u16).to_be_bytes();
     let (fields, offset) = head.split_at_mut(OFFSET_PLACE.0);
@@ -46,10 +46,10 @@ fn put_head(head: &mut [u8], layout: &Layout, verdict: u8)
 }
 
 /// Extent and stride of each axis, one axis behind the other, into as many bytes as they take.
-#[tactic(auto, unfolding(specification::specs::Record::axisBytes))]
+#[tactic(auto, unfolding(specification::specs::Record::axis_bytes))]
 fn put_axes(out: &mut [u8], axes: &[Axis])
     requires { length out.old ≡ axis_length * length axes.now }
-    ensures { out.new ≡ axisBytes axes.now }
+    ensures { out.new ≡ axis_bytes axes.now }
 {
     let Some((axis, axes)) = axes.split_first() else {
         return;
@@ -63,9 +63,9 @@ fn put_axes(out: &mut [u8], axes: &[Axis])
 /// The record of a layout with a verdict byte at the front; the bytes past it stay.
 pub(crate) fn put_record(out: &mut [u8], layout: &Layout, verdict: u8)
     requires few { layout.now.rank ≤ 16 }
-    requires room { recordLength layout.now.rank ≤ length out.old }
-    ensures { out.new ≡ recordFields (modelOf layout.now) verdict
-        ++ drop (recordLength layout.now.rank) out.old }
+    requires room { record_length layout.now.rank ≤ length out.old }
+    ensures { out.new ≡ record_fields (model_of layout.now) verdict
+        ++ drop (record_length layout.now.rank) out.old }
 {
     let (record, _) = out.split_at_mut(record_length(layout.rank));
     let (head, axes) = record.split_at_mut(HEAD_BYTES);

@@ -1,7 +1,7 @@
 //! The reader's test for a normal form, and the buffer length that it gives.
 ghost use Rattle.std.specs.Prelude.{◌≡◌, ◌≤◌, length};
 ghost use Rattle.specification.specs.Normal.{overfull};
-ghost use Rattle.specification.specs.Record.{isMerged, isEmptyForm};
+ghost use Rattle.specification.specs.Record.{is_merged, is_empty_form};
 ghost use Rattle.record.specs.Reader.{fields_told, length_to_highest, needed_length};
 
 use crate::normal::continues;
@@ -11,9 +11,9 @@ use view::count::element_count;
 use view::layout::{NO_AXIS, ReadingOffset};
 
 /// Whether each extent is above 1 and no axis continues the one before it.
-#[tactic(auto, unfolding(specification::specs::Record::isMerged))]
+#[tactic(auto, unfolding(specification::specs::Record::is_merged))]
 fn is_merged(axes: &[Axis]) -> bool
-    ensures { result ≡ isMerged axes.now }
+    ensures { result ≡ is_merged axes.now }
 {
     match axes {
         [] => true,
@@ -26,7 +26,7 @@ fn is_merged(axes: &[Axis]) -> bool
 
 /// Whether this is an empty layout's normal form: offset 0, and one axis of extent 0 and stride 0.
 fn is_empty_form(offset: ReadingOffset, axes: &[Axis]) -> bool
-    ensures { result ≡ isEmptyForm (fields_told offset.0 axes.now) }
+    ensures { result ≡ is_empty_form (fields_told offset.0 axes.now) }
 {
     offset == ReadingOffset(0) && axes == [NO_AXIS].as_slice()
 }
@@ -54,8 +54,8 @@ fn length_to_highest(offset: ReadingOffset, axes: &[Axis]) -> Option<u64>
 }
 
 /// The buffer length, in readings, that an offset and axes need, if they are a normal form of at
-/// most 2^64 - 1 positions with offsets within 0 to 2^63 - 1: the highest offset + 1, or 0 where
-/// there is no position.
+/// most 2^64 - 1 positions with no offset below 0 or above 2^63 - 1: the highest offset + 1, or 0
+/// where there is no position.
 #[tactic(auto, using(crate::proofs::FormLaws::needed_by_parts))]
 pub(crate) fn buffer_length(offset: ReadingOffset, axes: &[Axis]) -> Option<u64>
     requires { length axes.now ≤ 16 }

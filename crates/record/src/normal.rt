@@ -1,9 +1,9 @@
 //! The normal form of a layout: axes of extent 1 dropped, neighbours merged.
 ghost use Rattle.std.specs.Prelude.{◌≡◌, ◌≤◌, ◌<◌, ◌+◌, ◌*◌, ◌^◌};
 ghost use Rattle.specification.specs.Axis.{positions};
-ghost use Rattle.specification.specs.Normal.{continues, normalOf, normalForm};
-ghost use Rattle.specification.specs.Views.{withAxes};
-ghost use Rattle.view.specs.Model.{modelOf, layout_outcome};
+ghost use Rattle.specification.specs.Normal.{continues, normal_of, normal_form};
+ghost use Rattle.specification.specs.Views.{with_axes};
+ghost use Rattle.view.specs.Model.{model_of, layout_outcome};
 ghost use Rattle.record.specs.Normal.{with_axis};
 
 use axis::Axis;
@@ -25,11 +25,11 @@ pub(crate) fn continues(before: Axis, axis: Axis) -> bool
 #[tactic(auto, using(crate::proofs::MergeLaws::appended))]
 fn append(form: &mut Layout, axis: Axis)
     requires room { form.old.rank < 16 }
-    requires full { 0 < positions (modelOf form.old).axes }
-    requires within { positions (modelOf form.old).axes * axis.extent < 2 ^ 64 }
+    requires full { 0 < positions (model_of form.old).axes }
+    requires within { positions (model_of form.old).axes * axis.extent < 2 ^ 64 }
     ensures rank { form.new.rank ≤ form.old.rank + 1 }
-    ensures form { modelOf form.new
-        ≡ withAxes (modelOf form.old) (with_axis (modelOf form.old).axes axis) }
+    ensures form { model_of form.new
+        ≡ with_axes (model_of form.old) (with_axis (model_of form.old).axes axis) }
 {
     if axis.extent == 1 {
         return;
@@ -46,9 +46,9 @@ fn append(form: &mut Layout, axis: Axis)
 #[tactic(auto, using(crate::proofs::MergeLaws::passed))]
 fn merged(layout: &Layout) -> Layout
     requires few { layout.now.rank ≤ 16 }
-    requires full { 0 < positions (modelOf layout.now).axes }
-    requires within { positions (modelOf layout.now).axes < 2 ^ 64 }
-    ensures { modelOf result ≡ normalOf (modelOf layout.now) }
+    requires full { 0 < positions (model_of layout.now).axes }
+    requires within { positions (model_of layout.now).axes < 2 ^ 64 }
+    ensures { model_of result ≡ normal_of (model_of layout.now) }
 {
     let axes = layout.axes();
     let mut form = Layout { rank: 0, ..*layout };
@@ -62,8 +62,8 @@ fn merged(layout: &Layout) -> Layout
 /// length stays.
 #[tactic(auto, using(crate::proofs::MergeLaws::no_position), unfolding(view::specs::Table::table))]
 fn empty_form(layout: &Layout) -> Layout
-    requires { positions (modelOf layout.now).axes ≡ 0 }
-    ensures { modelOf result ≡ normalOf (modelOf layout.now) }
+    requires { positions (model_of layout.now).axes ≡ 0 }
+    ensures { model_of result ≡ normal_of (model_of layout.now) }
 {
     Layout {
         len: layout.len,
@@ -77,7 +77,7 @@ fn empty_form(layout: &Layout) -> Layout
 /// offset outside the buffer, 8 more than 2^64 - 1 positions.
 #[tactic(auto, using(crate::proofs::NormalAnswers::by_tests))]
 pub fn normal_form(layout: &Layout) -> Result<Layout, Refusal>
-    ensures { layout_outcome result ≡ normalForm (modelOf layout.now) }
+    ensures { layout_outcome result ≡ normal_form (model_of layout.now) }
 {
     layout.handed_refusal(0)?;
     let count = element_count(layout.axes())?;

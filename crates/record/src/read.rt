@@ -10,7 +10,7 @@ use view::layout::{Layout, Refusal};
 /// readings, is its highest offset + 1. Refusal 11 is that no record is there, 9 a scratch of fewer
 /// words than the verdict needs, then 11 a verdict that is false. Words of scratch past those that
 /// are needed stay, and all stay where no verdict was judged.
-#[tactic(auto, using(specification::proofs::OutcomeLaws::chains, std::proofs::lemmas::Bool::Decides::nat_tests), unfolding(specification::specs::Record::read_of, specification::specs::Record::readFrees, specification::specs::Verdict::freedBy))]
+#[tactic(auto, using(specification::proofs::OutcomeLaws::chains, std::proofs::lemmas::Bool::Decides::nat_tests), unfolding(specification::specs::Record::read_of, specification::specs::Record::read_frees, specification::specs::Verdict::freed_by))]
 pub fn read_record(bytes: &[u8], scratch: &mut [u64]) -> Result<Layout, Refusal>
     ensures { Reading bytes.now scratch.old (layout_outcome result) scratch.new }
 {

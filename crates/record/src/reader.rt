@@ -1,7 +1,7 @@
 //! The reader's first part: a whole record at the front of bytes, up to the verdict that its byte
 //! claims.
 ghost use Rattle.std.specs.Prelude.{◌≡◌, ◌≤◌, ◌+◌, ◌*◌, length, take, option_map, IfSome};
-ghost use Rattle.specification.specs.Record.{recordLength, axesFrom, head_length, axis_length, number_at};
+ghost use Rattle.specification.specs.Record.{record_length, axes_from, head_length, axis_length, number_at};
 ghost use Rattle.record.specs.Reader.{axis_told, head_told, front_told, front_model};
 
 use crate::fields::{AXIS_BYTES, BytePlace, HEAD_BYTES, OFFSET_PLACE, VERSION, record_length};
@@ -30,7 +30,7 @@ pub struct Front {
 
 /// The head, where the front bytes hold every field: length, version, verdict, rank, and as many
 /// bytes as these ask for.
-#[tactic(auto, unfolding(specification::specs::Record::fieldsRight))]
+#[tactic(auto, unfolding(specification::specs::Record::fields_right))]
 pub fn read_head(bytes: &[u8]) -> Option<Head>
     ensures { result ≡ head_told bytes.now }
 {
@@ -69,10 +69,10 @@ fn axis_at(bytes: &[u8], at: BytePlace) -> Axis
 }
 
 /// The axes that the bytes from a place on hold, one behind the other.
-#[tactic(auto, unfolding(specification::specs::Record::axesFrom))]
+#[tactic(auto, unfolding(specification::specs::Record::axes_from))]
 fn read_axes(axes: &mut [Axis], bytes: &[u8], at: BytePlace)
     requires { at.0 + axis_length * length axes.old ≤ length bytes.now }
-    ensures { axes.new ≡ axesFrom bytes.now at.0 (length axes.old) }
+    ensures { axes.new ≡ axes_from bytes.now at.0 (length axes.old) }
 {
     let Some((axis, axes)) = axes.split_first_mut() else {
         return;
@@ -85,8 +85,8 @@ fn read_axes(axes: &mut [Axis], bytes: &[u8], at: BytePlace)
 #[tactic(auto, using(std::proofs::lemmas::List::take_at))]
 fn axes_at_front(bytes: &[u8], rank: usize) -> [Axis; MOST_AXES]
     requires few { rank ≤ 16 }
-    requires whole { recordLength rank ≤ length bytes.now }
-    ensures { take rank result ≡ axesFrom bytes.now head_length rank }
+    requires whole { record_length rank ≤ length bytes.now }
+    ensures { take rank result ≡ axes_from bytes.now head_length rank }
 {
     let mut axes = [NO_AXIS; MOST_AXES];
     read_axes(&mut axes[..rank], bytes, BytePlace(HEAD_BYTES));

@@ -1,8 +1,8 @@
 //! Whether two lists of calls read the same places in the same order, told by two records.
 ghost use Rattle.std.specs.Prelude.{map};
-ghost use Rattle.specification.specs.Layout.{Accepted};
-ghost use Rattle.view.specs.Answers.{outcomeOf};
-ghost use Rattle.view.specs.Model.{modelOf};
+ghost use Rattle.specification.specs.Layout.{IsAccepted};
+ghost use Rattle.view.specs.Answers.{outcome_of};
+ghost use Rattle.view.specs.Model.{model_of};
 ghost use Rattle.record.specs.Calls.{call_in};
 ghost use Rattle.record.specs.SameReadings.{Compared, Means};
 
@@ -31,13 +31,13 @@ pub fn same_readings(
     scratch: &mut [u64],
 ) -> Result<bool, Refusal>
     ensures compared { Compared
-        (modelOf first) (modelOf second) (map call_in calls.now) (map call_in other_calls.now)
+        (model_of first) (model_of second) (map call_in calls.now) (map call_in other_calls.now)
         output.old other_output.old scratch.old
-        (outcomeOf result) output.new other_output.new scratch.new }
-    ensures means { Accepted (modelOf first) → Accepted (modelOf second) → Means
-        (modelOf first) (modelOf second) (map call_in calls.now) (map call_in other_calls.now)
+        (outcome_of result) output.new other_output.new scratch.new }
+    ensures means { IsAccepted (model_of first) → IsAccepted (model_of second) → Means
+        (model_of first) (model_of second) (map call_in calls.now) (map call_in other_calls.now)
         output.old other_output.old scratch.old
-        (outcomeOf result) output.new other_output.new scratch.new }
+        (outcome_of result) output.new other_output.new scratch.new }
 {
     let BytePlace(end) = write_record(&run(first, calls), output, scratch)?;
     let BytePlace(other_end) = write_record(&run(second, other_calls), other_output, scratch)?;

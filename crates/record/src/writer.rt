@@ -2,8 +2,8 @@
 ghost use Rattle.std.specs.Prelude.{[], ◌<◌, ◌≤◌, length};
 ghost use Rattle.specification.specs.Outcome.{refused};
 ghost use Rattle.specification.specs.Verdict.{judge};
-ghost use Rattle.view.specs.Model.{modelOf};
-ghost use Rattle.injectivity.specs.Judgement.{JudgedAs};
+ghost use Rattle.view.specs.Model.{model_of};
+ghost use Rattle.injectivity.specs.Judgement.{IsJudgedAs};
 ghost use Rattle.record.specs.Writer.{Wrote};
 
 use crate::fields::{BytePlace, put_record, record_length};
@@ -15,9 +15,9 @@ use view::layout::{Layout, MOST_AXES, Refusal};
 /// the scratch, are as `is_injective_axes` has them.
 #[tactic(auto, using(injectivity::proofs::PlanLaws::lent))]
 pub fn judge_layout(layout: &Layout, scratch: &mut [u64]) -> Result<Judgement, Refusal>
-    ensures many { 16 < layout.now.rank → JudgedAs (refused 1 []) scratch.old scratch.new result }
+    ensures many { 16 < layout.now.rank → IsJudgedAs (refused 1 []) scratch.old scratch.new result }
     ensures few { layout.now.rank ≤ 16
-        → JudgedAs (judge (modelOf layout.now).axes (length scratch.old))
+        → IsJudgedAs (judge (model_of layout.now).axes (length scratch.old))
         scratch.old scratch.new result }
 {
     if MOST_AXES < layout.rank {
@@ -31,7 +31,7 @@ pub fn judge_layout(layout: &Layout, scratch: &mut [u64]) -> Result<Judgement, R
 /// form, then 10 is an output of fewer bytes than the record has, 9 a scratch of fewer words than
 /// the verdict needs; then the output stays, and every word of the scratch. Else the words past
 /// those needed stay.
-#[tactic(auto, using(crate::proofs::WriterLaws::writings), unfolding(specification::specs::Record::written, specification::specs::Record::writeAnswer, specification::specs::Record::writeFrees, specification::specs::Verdict::freedBy))]
+#[tactic(auto, using(crate::proofs::WriterLaws::writings), unfolding(specification::specs::Record::written, specification::specs::Record::write_answer, specification::specs::Record::write_frees, specification::specs::Verdict::freed_by))]
 pub fn write_record(
     layout: &Layout,
     out: &mut [u8],

@@ -3,16 +3,16 @@ use Rattle.std.proofs.Common.{◌≡◌, ◌∙◌, ℕ, zero, suc, ◌+◌, ◌
 use borrow.Author.Tests.{le-leb, lt-leb}
 use Rattle.std.specs.List.{All}
 use Rattle.std.proofs.lemmas.List.Elements.{All-nil, All-cons}
-use Rattle.specification.specs.Tests.{sortBy}
-use Rattle.specification.specs.Search.{ActiveAxis, spanSum, half}
-use Rattle.specification.specs.Verdict.{lower, longer, othersOf, searched, pastSearch, byMany}
+use Rattle.specification.specs.Tests.{sort_by}
+use Rattle.specification.specs.Search.{ActiveAxis, span_sum, half}
+use Rattle.specification.specs.Verdict.{lower, longer, others_of, searched, plan_past_search, by_many}
 use Rattle.specification.proofs.AxisOrder.{Perm, nil, skip, swap, trans}
 use Rattle.specification.proofs.Sorting.{sort-perm, perm-length}
-use Rattle.sorting.specs.Numbered.{Numbered}
+use Rattle.sorting.specs.Numbered.{IsNumbered}
 use Rattle.sorting.proofs.SortedAxes.{perm-numbered}
 use Rattle.walk.specs.Underway.{IsCountable}
-use Rattle.search.specs.Block.{Sides, Searchable, searched_plan, planOf}
-use Rattle.search.specs.SetUp.{Parted}
+use Rattle.search.specs.Block.{Sides, IsSearchable, searched_plan, block_plan}
+use Rattle.search.specs.SetUp.{IsParted}
 use Rattle.search.specs.declared.Searched.{Searched}
 
 abbrev none : ActiveAxis
@@ -20,8 +20,8 @@ none = record { axis = 0; extent = 0; stride = 0 }
 
 -- ---- in any order
 
-pub span-perm : {l m : List ActiveAxis} → Perm l m → spanSum l ≡ spanSum m
-unfolding spanSum
+pub span-perm : {l m : List ActiveAxis} → Perm l m → span_sum l ≡ span_sum m
+unfolding span_sum
 span-perm nil = refl
 span-perm (skip {a} p) = ap (λ (k : ℕ). (a.extent - 1) * a.stride + k) (span-perm p)
 span-perm swap = omega arith
@@ -44,12 +44,12 @@ front-two [] h = absurd (omega arith)
 front-two (a ∷ []) h = absurd (omega arith)
 front-two (a ∷ b ∷ more) h = refl
 
-numbered-drop : (n : ℕ) (l : List ActiveAxis) → Numbered l → Numbered (drop n l)
+numbered-drop : (n : ℕ) (l : List ActiveAxis) → IsNumbered l → IsNumbered (drop n l)
 numbered-drop zero l n = n
 numbered-drop (suc k) [] n = n
 numbered-drop (suc k) (a ∷ l) n = numbered-drop k l n.1
 
-module _ (block sorted : List ActiveAxis) (e : sorted ≡ sortBy longer block) (many : 1 < length block) (w : Searchable block) where
+module _ (block sorted : List ActiveAxis) (e : sorted ≡ sort_by longer block) (many : 1 < length block) (w : IsSearchable block) where
   abbrev a : ActiveAxis
   a = get_or sorted 0 none
 
@@ -59,17 +59,17 @@ module _ (block sorted : List ActiveAxis) (e : sorted ≡ sortBy longer block) (
   by-extent : Perm block sorted
   by-extent = rw e (sort-perm longer block)
 
-  pub numbered-others : Numbered (drop 2 sorted)
+  pub numbered-others : IsNumbered (drop 2 sorted)
   numbered-others = numbered-drop 2 sorted (perm-numbered by-extent w.numbered)
 
-  in-front : sorted ≡ a ∷ b ∷ drop 2 sorted
-  in-front = front-two sorted (omega (arith, perm-length by-extent))
+  in_front : sorted ≡ a ∷ b ∷ drop 2 sorted
+  in_front = front-two sorted (omega (arith, perm-length by-extent))
 
-  module _ (others : List ActiveAxis) (o : others ≡ sortBy lower (drop 2 sorted)) where
+  module _ (others : List ActiveAxis) (o : others ≡ sort_by lower (drop 2 sorted)) where
     parts : Perm block (a ∷ b ∷ others)
-    parts = trans (subst (Perm block) in-front by-extent) (skip (skip (rw o (sort-perm lower (drop 2 sorted)))))
+    parts = trans (subst (Perm block) in_front by-extent) (skip (skip (rw o (sort-perm lower (drop 2 sorted)))))
 
-    pub parted : Parted a b others
+    pub parted : IsParted a b others
     parted =
         let s = sides-perm parts w.sides in
         record {
@@ -80,15 +80,15 @@ module _ (block sorted : List ActiveAxis) (e : sorted ≡ sortBy longer block) (
           fits = omega (arith, span-perm parts, w.fits);
         }
 
-    by-many : byMany block (sortBy longer block) ≡ (if leb (half others) 4194304 then searched a b others else pastSearch block)
-    unfolding byMany othersOf
+    by-many : by_many block (sort_by longer block) ≡ (if leb (half others) 4194304 then searched a b others else plan_past_search block)
+    unfolding by_many others_of
     by-many =
-        let l : sortBy longer block ≡ a ∷ b ∷ drop 2 sorted = sym e ∙ in-front in
-        let q : othersOf block ≡ others = ap (λ (z : List ActiveAxis). sortBy lower (drop 2 z)) (sym e) ∙ sym o in
-        ap (byMany block) l ∙ ap (λ (z : List ActiveAxis). if leb (half z) 4194304 then searched a b z else pastSearch block) q
+        let l : sort_by longer block ≡ a ∷ b ∷ drop 2 sorted = sym e ∙ in_front in
+        let q : others_of block ≡ others = ap (λ (z : List ActiveAxis). sort_by lower (drop 2 z)) (sym e) ∙ sym o in
+        ap (by_many block) l ∙ ap (λ (z : List ActiveAxis). if leb (half z) 4194304 then searched a b z else plan_past_search block) q
 
     pub searched-block : (r : Option Searched) → IfSome r (λ s. (half others ≤ 4194304) × (searched_plan s ≡ searched a b others))
         → IfNone r (4194304 < half others)
-        → planOf r (pastSearch block) ≡ byMany block (sortBy longer block)
+        → block_plan r (plan_past_search block) ≡ by_many block (sort_by longer block)
     searched-block None f g = rw (by-many, lt-leb (half others) 4194304 g) refl
     searched-block (Some s) f g = rw (by-many, le-leb (half others) 4194304 f.0) f.1

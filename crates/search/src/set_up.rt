@@ -1,9 +1,9 @@
 //! The two axes that are set apart, set up for the walk.
 ghost use Rattle.std.specs.Prelude.{◌≡◌, ◌⊎◌, IsTrue, IsFalse, true, ◌/◌, ◌<◌, ◌≤◌};
 ghost use Rattle.integer.specs.Gcd.{gcd};
-ghost use Rattle.specification.specs.Search.{twoDistinct};
+ghost use Rattle.specification.specs.Search.{two_distinct};
 ghost use Rattle.search.specs.Block.{Side};
-ghost use Rattle.search.specs.SetUp.{SetFor};
+ghost use Rattle.search.specs.SetUp.{IsSetFor};
 
 use axis::ActiveAxis;
 use walk::TwoAxes;
@@ -22,12 +22,12 @@ fn solves_first(d1: u64, s2g: u64, d2: u64, s1g: u64) -> bool
 
 // The two axes set up for the walk, solved for one of them; they do not collide by themselves, and g is the greatest common
 // divisor of their strides.
-#[tactic(auto, using(crate::proofs::Coupling::quotients), unfolding(specification::specs::Search::twoDistinct))]
+#[tactic(auto, using(crate::proofs::Coupling::quotients), unfolding(specification::specs::Search::two_distinct))]
 pub fn couple(a: ActiveAxis, b: ActiveAxis, g: u64) -> TwoAxes
     requires sides { Side a.extent a.stride × Side b.extent b.stride }
-    requires distinct { twoDistinct a b ≡ true }
+    requires distinct { two_distinct a b ≡ true }
     requires divisor { g ≡ gcd a.stride b.stride }
-    ensures { SetFor a b result ⊎ SetFor b a result }
+    ensures { IsSetFor a b result ⊎ IsSetFor b a result }
 {
     if solves_first(a.extent, b.stride / g, b.extent, a.stride / g) {
         TwoAxes::solved_for(a, b)

@@ -3,12 +3,12 @@ use Rattle.std.proofs.Common.{◌≡◌, ◌≤◌, ℕ, List, Bool, true, false
 use Rattle.std.specs.Prelude.{nat_lt}
 use Rattle.std.proofs.lemmas.Bool.{lt-ltb, le-ltb, cases_lt}
 use Rattle.std.proofs.lemmas.List.{take_all}
-use Rattle.specification.specs.Layout.{LayoutM}
+use Rattle.specification.specs.Layout.{LayoutModel}
 use Rattle.lines.specs.Lines.{Holds}
 use Rattle.lines.specs.declared.line.Line.{Line}
 use Rattle.session.specs.Session.{answered, by_length}
 
-pub answered-held : (l : LayoutM) (line : Line) (whole : List ℕ) → Holds line whole → answered l whole ≡ by_length l line.is_long line.bytes.items
+pub answered-held : (l : LayoutModel) (line : Line) (whole : List ℕ) → Holds line whole → answered l whole ≡ by_length l line.is_long line.bytes.items
 unfolding answered
 answered-held l line whole held = by_case line.is_long refl
   where

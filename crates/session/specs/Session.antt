@@ -1,7 +1,7 @@
--- What is written for all that is read: a stated function of it. Assumes nothing.
+-- What is written for all that is read: a stated function of it (RULES, "The text program"). Assumes nothing.
 use Rattle.std.specs.Prelude.{ℕ, Bool, true, false, List, [], ◌∷◌, ◌++◌, ◌==◌, nat_lt, length, if◌then◌else◌, pos, take, Option, Ok, Err, ⊤}
 use Rattle.std.specs.Io.KnownBytes.{Appends}
-use Rattle.specification.specs.Layout.{LayoutM}
+use Rattle.specification.specs.Layout.{LayoutModel}
 use Rattle.lines.specs.Lines.{lines_of}
 use Rattle.lines.specs.declared.failure.Failure.{Failure}
 use Rattle.lines.specs.declared.failure.Failure.TheVariants.{Write}
@@ -14,35 +14,35 @@ begins_with byte [] = false
 begins_with byte (first ∷ rest) = first == byte
 
 -- nothing is answered
-abbrev pub unanswered : LayoutM → Answered
+abbrev pub unanswered : LayoutModel → Answered
 unanswered l = record { text = []; layout = l }
 
 -- an answer ends in a line feed (10); a line that is not obeyed leaves the layout
-abbrev pub in_line : LayoutM → Told Answered → Answered
+abbrev pub in_line : LayoutModel → Told Answered → Answered
 in_line l (Ok a) = record { text = a.text ++ 10 ∷ []; layout = a.layout }
 in_line l (Err text) = record { text = text ++ 10 ∷ []; layout = l }
 
 -- a line by its words: one with none is blank, and one whose first word begins with `#` (35) is a comment
-unfoldable pub by_words : LayoutM → List (List ℕ) → Answered
+unfoldable pub by_words : LayoutModel → List (List ℕ) → Answered
 by_words l [] = unanswered l
 by_words l (name ∷ words) = if begins_with 35 name then unanswered l else in_line l (obeyed l name words)
 
 -- a line that is longer than 4,096 bytes, or not
-abbrev pub by_length : LayoutM → Bool → List ℕ → Answered
+abbrev pub by_length : LayoutModel → Bool → List ℕ → Answered
 by_length l true line = in_line l (Err long_line)
 by_length l false line = by_words l (words line)
 
 -- what a line is answered, and the layout after it
-unfoldable pub answered : LayoutM → List ℕ → Answered
+unfoldable pub answered : LayoutModel → List ℕ → Answered
 answered l line = by_length l (nat_lt 4096 (length line)) line
 
 -- what is written for lines, one after another, from a layout on
-unfoldable pub written_for : LayoutM → List (List ℕ) → List ℕ
+unfoldable pub written_for : LayoutModel → List (List ℕ) → List ℕ
 written_for l [] = []
 written_for l (line ∷ lines) = (answered l line).text ++ written_for (answered l line).layout lines
 
 -- the layout at the start: one axis of extent 0
-abbrev pub empty_layout : LayoutM
+abbrev pub empty_layout : LayoutModel
 empty_layout = record { buffer = 0; offset = pos 0; axes = record { extent = 0; stride = pos 0 } ∷ [] }
 
 -- what is written for all that is read

@@ -2,7 +2,7 @@
 ghost use Rattle.std.specs.Prelude.{◌≡◌, ◌++◌, ◌∷◌, [], map, string_bytes, OnOk, IfErr, IfSome};
 ghost use Rattle.std.specs.Io.KnownBytes.{Appends};
 ghost use Rattle.lines.specs.Lines.{AppendsFront};
-ghost use Rattle.view.specs.Model.{modelOf};
+ghost use Rattle.view.specs.Model.{model_of};
 ghost use Rattle.session.specs.Session.{begins_with, empty_layout, by_words, by_length, output_of, Answers};
 
 use commands::fault::{Fault, Problem};
@@ -20,7 +20,7 @@ use view::layout::{Layout, MOST_AXES, NO_AXIS, ReadingOffset};
 // At the start the layout is empty.
 #[tactic(auto, unfolding(view::specs::Table::table))]
 fn empty() -> Layout
-    ensures { modelOf result ≡ empty_layout }
+    ensures { model_of result ≡ empty_layout }
 {
     Layout {
         len: 0,
@@ -56,9 +56,9 @@ fn answer_words(
     text: &mut String,
 ) -> Result<(), Failure>
     ensures text { OnOk result (string_bytes text.new ≡ string_bytes text.old
-        ++ (by_words (modelOf layout.old) (map (λ word. word.now) words.now)).text) }
-    ensures layout { OnOk result (modelOf layout.new
-        ≡ (by_words (modelOf layout.old) (map (λ word. word.now) words.now)).layout) }
+        ++ (by_words (model_of layout.old) (map (λ word. word.now) words.now)).text) }
+    ensures layout { OnOk result (model_of layout.new
+        ≡ (by_words (model_of layout.old) (map (λ word. word.now) words.now)).layout) }
 {
     let [name, texts @ ..] = words else {
         return Ok(());
@@ -82,9 +82,9 @@ fn answer(
     text: &mut String,
 ) -> Result<(), Failure>
     ensures text { OnOk result (string_bytes text.new
-        ≡ (by_length (modelOf layout.old) line.now.is_long line.now.bytes.items).text) }
-    ensures layout { OnOk result (modelOf layout.new
-        ≡ (by_length (modelOf layout.old) line.now.is_long line.now.bytes.items).layout) }
+        ≡ (by_length (model_of layout.old) line.now.is_long line.now.bytes.items).text) }
+    ensures layout { OnOk result (model_of layout.new
+        ≡ (by_length (model_of layout.old) line.now.is_long line.now.bytes.items).layout) }
 {
     text.clear();
     if line.is_long {

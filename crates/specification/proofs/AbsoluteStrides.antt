@@ -5,9 +5,9 @@ use mathlib.Core.List.{List, [], ◌∷◌}
 use Prim.Native.Nat.{ℕ, suc, ◌+◌, ◌*◌, ◌-◌, ◌<◌}
 use native.Mathlib.Omega.{arith}
 use lib.IntN.{ℤ, pos, negsuc, nat_abs}
-use Rattle.integer.specs.Parts.{negPart, posPart}
+use Rattle.integer.specs.Parts.{negative_part, positive_part}
 use Rattle.integer.proofs.MultipleLaws.{multiples}
-use Rattle.specification.specs.Axis.{Axis, extents, offsetSum, downward}
+use Rattle.specification.specs.Axis.{Axis, extents, offset_sum, downward}
 use Rattle.specification.specs.Search.{ActiveAxis, lengths, reach}
 use Rattle.specification.proofs.Positions.{IndexVector, empty, ◌and◌, Apart}
 use Rattle.std.proofs.lemmas.Int.{ints}
@@ -60,13 +60,13 @@ turned-turned (a ∷ r) (◌and◌ {i = i} h b) = ap₂ (λ (y : ℕ) (z : List 
 -- ---- sums
 
 -- of one axis: index × stride plus the negative span without its sign is the turned index × the absolute stride
-reach-of-one : (n : ℕ) (s : ℤ) (i : ℕ) → i < n → i * posPart s + (n - 1) * negPart s ≡ i * negPart s + turn n s i * nat_abs s
+reach-of-one : (n : ℕ) (s : ℤ) (i : ℕ) → i < n → i * positive_part s + (n - 1) * negative_part s ≡ i * negative_part s + turn n s i * nat_abs s
 reach-of-one n (pos s) i h = omega arith
 reach-of-one n (negsuc s) i h = let e : n - 1 ≡ i + (n - suc i) = omega arith in omega (arith, ap (λ (z : ℕ). z * suc s) e)
 
 -- of all axes
-pub offset-reach : (k : ℕ) (l : List Axis) {x : List ℕ} → IndexVector (extents l) x → posPart (offsetSum l x) + downward l ≡ negPart (offsetSum l x) + reach (absolute k l) (turned l x)
-unfolding offsetSum reach downward
+pub offset-reach : (k : ℕ) (l : List Axis) {x : List ℕ} → IndexVector (extents l) x → positive_part (offset_sum l x) + downward l ≡ negative_part (offset_sum l x) + reach (absolute k l) (turned l x)
+unfolding offset_sum reach downward
 offset-reach k [] empty = omega arith
 offset-reach k (a ∷ r) (◌and◌ {i = i} {is = x} h b) =
     omega (arith, multiples, reach-of-one a.extent a.stride i h, offset-reach (suc k) r b)
@@ -76,5 +76,5 @@ pub apart-of-sums : (k : ℕ) (l : List Axis) → SumsApart (absolute k l) → A
 apart-of-sums k l f x y bx by e =
     sym (turned-turned l bx)
     ∙ ap (λ (z : List ℕ). turned l z) (f (turned l x) (turned l y) (rw (lengths-absolute k l) (turned-within l bx)) (rw (lengths-absolute k l) (turned-within l by))
-    (omega (arith, offset-reach k l bx, offset-reach k l by, ap posPart e, ap negPart e)))
+    (omega (arith, offset-reach k l bx, offset-reach k l by, ap positive_part e, ap negative_part e)))
     ∙ turned-turned l by

@@ -1,4 +1,5 @@
 -- Check-in and the views yield only accepted layouts.
+use Rattle.std.specs.List.{list_any, range_with_len}
 use Rattle.std.specs.Prelude.{if◌then◌else◌}
 use mathlib.Core.Path.{◌≡◌, refl, sym, ap, subst, ◌∙◌}
 use mathlib.Core.Bool.{Bool, true, false, not, ◌||◌}
@@ -9,14 +10,13 @@ use lib.Dec.{T, eqb, ltb}
 use lib.IntN.{ℤ, pos, ◌+ℤ◌, ◌-ℤ◌}
 use lib.ListN.{length, length-map}
 use borrow.Author.Tests.{ltb-false, eqb-true, ne_eqb}
-use Rattle.integer.specs.Parts.{posPart, negPart}
-use Rattle.integer.proofs.MultipleLaws.{posPart-·, negPart-·}
-use Rattle.specification.specs.Tests.{some, up_from}
-use Rattle.specification.specs.Axis.{Axis, axesOf, is_empty, span, upward, downward}
+use Rattle.integer.specs.Parts.{positive_part, negative_part}
+use Rattle.integer.proofs.MultipleLaws.{positive_part-·, negative_part-·}
+use Rattle.specification.specs.Axis.{Axis, axes_of_lists, is_empty, span, upward, downward}
 use Rattle.specification.specs.Outcome.{Check, done, pass}
-use Rattle.specification.specs.Layout.{LayoutM, rank, Accepted, lowest, highest, tooLong, handed}
-use Rattle.specification.specs.CheckIn.{bounds, checkIn}
-use Rattle.specification.specs.Views.{unlessRefused, withAxes, axisAt, permute, pairFault, class_of, kept, fused, diagonalAxes, sumFaults, diagonalView, targetFault, spread, broadcast}
+use Rattle.specification.specs.Layout.{LayoutModel, rank, IsAccepted, lowest, highest, is_too_long, handed}
+use Rattle.specification.specs.CheckIn.{bounds, check_in}
+use Rattle.specification.specs.Views.{unless_refused, with_axes, axis_at, permute, pair_fault, class_of, kept, fused, diagonal_axes, sum_faults, diagonal_view, target_fault, spread, broadcast}
 use Rattle.specification.specs.Calls.{Call, permuting, diagonal, broadcasting, after_call, end_of}
 use Rattle.specification.proofs.ReachLaws.{accepted-within, within-accepted, tested-no, bounds-reach}
 use Rattle.specification.proofs.NormalLaws.{empty-none}
@@ -31,67 +31,67 @@ pub use Rattle.specification.proofs.TestLaws.{or-true}
 
 -- ---- other axes with the same spans
 
-same-reach : (l : LayoutM) (axes : List Axis) → Accepted l → length axes ≤ 16 → upward axes ≡ upward l.axes → downward axes ≡ downward l.axes
-    → (is_empty l.axes ≡ true → is_empty axes ≡ true) → Accepted (withAxes l axes)
+same-reach : (l : LayoutModel) (axes : List Axis) → IsAccepted l → length axes ≤ 16 → upward axes ≡ upward l.axes → downward axes ≡ downward l.axes
+    → (is_empty l.axes ≡ true → is_empty axes ≡ true) → IsAccepted (with_axes l axes)
 same-reach l axes a n u d z = go (is_empty axes) (is_empty l.axes) refl refl
   where
-    go : (t v : Bool) → is_empty axes ≡ t → is_empty l.axes ≡ v → Accepted (withAxes l axes)
+    go : (t v : Bool) → is_empty axes ≡ t → is_empty l.axes ≡ v → IsAccepted (with_axes l axes)
     go true v e f = record { few = n; offsets = λ k h. absurd (omega (arith, empty-none axes e)) }
     go false true e f = absurd (true-not-false (z f) e)
     go false false e f =
         let w = accepted-within l f a in
-        let p : lowest (withAxes l axes) ≡ lowest l = ap (λ (k : ℕ). l.offset -ℤ pos k) d in
-        let q : highest (withAxes l axes) ≡ highest l = ap (λ (k : ℕ). l.offset +ℤ pos k) u in
-        within-accepted (withAxes l axes) e n (record {
-          w-low = omega (arith, w.w-low, ap posPart p, ap negPart p);
-          w-most = omega (arith, w.w-most, ap posPart q, ap negPart q);
-          w-in = omega (arith, w.w-in, ap posPart q, ap negPart q);
+        let p : lowest (with_axes l axes) ≡ lowest l = ap (λ (k : ℕ). l.offset -ℤ pos k) d in
+        let q : highest (with_axes l axes) ≡ highest l = ap (λ (k : ℕ). l.offset +ℤ pos k) u in
+        within-accepted (with_axes l axes) e n (record {
+          w_low = omega (arith, w.w_low, ap positive_part p, ap negative_part p);
+          w_most = omega (arith, w.w_most, ap positive_part q, ap negative_part q);
+          w_in = omega (arith, w.w_in, ap positive_part q, ap negative_part q);
         })
 
-sumAxes : (Axis → ℕ) → List Axis → ℕ
-sumAxes g [] = 0
-sumAxes g (a ∷ r) = g a + sumAxes g r
+sum_axes : (Axis → ℕ) → List Axis → ℕ
+sum_axes g [] = 0
+sum_axes g (a ∷ r) = g a + sum_axes g r
 
-sum-axes : (g : Axis → ℕ) (axes : List Axis) → left (λ i. g (axisAt axes i)) [] 0 (length axes) ≡ sumAxes g axes
-unfolding left some sumAxes
+sum-axes : (g : Axis → ℕ) (axes : List Axis) → left (λ i. g (axis_at axes i)) [] 0 (length axes) ≡ sum_axes g axes
+unfolding left sum_axes
 sum-axes g [] = refl
-sum-axes g (a ∷ r) = ap (λ (z : ℕ). g a + z) (left-shift (λ i. g (axisAt (a ∷ r) i)) 0 (length r) ∙ sum-axes g r)
+sum-axes g (a ∷ r) = ap (λ (z : ℕ). g a + z) (left-shift (λ i. g (axis_at (a ∷ r) i)) 0 (length r) ∙ sum-axes g r)
 
-sum-order : (g : Axis → ℕ) (axes : List Axis) (order : List ℕ) → sumAxes g (map (axisAt axes) order) ≡ sum_of (λ i. g (axisAt axes i)) order
-unfolding sumAxes sum_of
+sum-order : (g : Axis → ℕ) (axes : List Axis) (order : List ℕ) → sum_axes g (map (axis_at axes) order) ≡ sum_of (λ i. g (axis_at axes i)) order
+unfolding sum_axes sum_of
 sum-order g axes [] = refl
-sum-order g axes (i ∷ r) = ap (λ (z : ℕ). g (axisAt axes i) + z) (sum-order g axes r)
+sum-order g axes (i ∷ r) = ap (λ (z : ℕ). g (axis_at axes i) + z) (sum-order g axes r)
 
-up-sum : (l : List Axis) → upward l ≡ sumAxes (λ a. posPart (span a)) l
-unfolding upward sumAxes
+up-sum : (l : List Axis) → upward l ≡ sum_axes (λ a. positive_part (span a)) l
+unfolding upward sum_axes
 up-sum l = grind (arith, ints)
 
-down-sum : (l : List Axis) → downward l ≡ sumAxes (λ a. negPart (span a)) l
-unfolding downward sumAxes
+down-sum : (l : List Axis) → downward l ≡ sum_axes (λ a. negative_part (span a)) l
+unfolding downward sum_axes
 down-sum l = grind (arith, ints)
 
 abbrev is_zero : Axis → ℕ
 is_zero a = if eqb a.extent 0 then 1 else 0
 
-zero-sum : (l : List Axis) → is_empty l ≡ true → 0 < sumAxes is_zero l
-unfolding is_empty some sumAxes
+zero-sum : (l : List Axis) → is_empty l ≡ true → 0 < sum_axes is_zero l
+unfolding is_empty sum_axes
 zero-sum [] e = absurd (true-not-false e refl)
 zero-sum (a ∷ r) e = go (eqb a.extent 0) e (zero-sum r)
   where
-    go : (t : Bool) → (t || is_empty r) ≡ true → (is_empty r ≡ true → 0 < sumAxes is_zero r) → 0 < (if t then 1 else 0) + sumAxes is_zero r
+    go : (t : Bool) → (t || is_empty r) ≡ true → (is_empty r ≡ true → 0 < sum_axes is_zero r) → 0 < (if t then 1 else 0) + sum_axes is_zero r
     go true e ih = omega arith
     go false e ih = omega (arith, ih e)
 
-sum-zero : (l : List Axis) → is_empty l ≡ false → sumAxes is_zero l ≡ 0
-unfolding is_empty some sumAxes
+sum-zero : (l : List Axis) → is_empty l ≡ false → sum_axes is_zero l ≡ 0
+unfolding is_empty sum_axes
 sum-zero [] e = refl
 sum-zero (a ∷ r) e = go (eqb a.extent 0) e (sum-zero r)
   where
-    go : (t : Bool) → (t || is_empty r) ≡ false → (is_empty r ≡ false → sumAxes is_zero r ≡ 0) → (if t then 1 else 0) + sumAxes is_zero r ≡ 0
+    go : (t : Bool) → (t || is_empty r) ≡ false → (is_empty r ≡ false → sum_axes is_zero r ≡ 0) → (if t then 1 else 0) + sum_axes is_zero r ≡ 0
     go true e ih = absurd (subst T e tt)
     go false e ih = omega (arith, ih e)
 
-empty-by-sum : (l m : List Axis) → sumAxes is_zero m ≡ sumAxes is_zero l → is_empty l ≡ true → is_empty m ≡ true
+empty-by-sum : (l m : List Axis) → sum_axes is_zero m ≡ sum_axes is_zero l → is_empty l ≡ true → is_empty m ≡ true
 empty-by-sum l m q e = go (is_empty m) refl
   where
     go : (t : Bool) → is_empty m ≡ t → t ≡ true
@@ -101,49 +101,48 @@ empty-by-sum l m q e = go (is_empty m) refl
 -- ---- the three views
 
 -- what holds of the old layout, and of the new one if the check passes, holds of the layout after it
-pub old-or-new : (P : LayoutM → Type 0) (l n : LayoutM) (c : Check) → P l → (c ≡ pass → P n) → P (unlessRefused l c n).layout
-unfolding unlessRefused
+pub old-or-new : (P : LayoutModel → Type 0) (l n : LayoutModel) (c : Check) → P l → (c ≡ pass → P n) → P (unless_refused l c n).layout
+unfolding unless_refused
 old-or-new P l n c a f = grind (arith, ints)
 
-permute-keeps : (l : LayoutM) (order : List ℕ) → Accepted l → Accepted (permute l order).layout
+permute-keeps : (l : LayoutModel) (order : List ℕ) → IsAccepted l → IsAccepted (permute l order).layout
 unfolding permute
-permute-keeps l order a = old-or-new Accepted l _ _ a (λ e.
+permute-keeps l order a = old-or-new IsAccepted l _ _ a (λ e.
     let p = passed-check (handed l (length order)) e in
     let q = passed (not (eqb (length order) (rank l))) 4 (length order ∷ rank l ∷ []) p.1 in
     let n : length order ≡ rank l = eqb-true (length order) (rank l) (not-false (eqb (length order) (rank l)) q.0) in
-    let s : (g : Axis → ℕ) → sumAxes g (map (axisAt l.axes) order) ≡ sumAxes g l.axes = λ g. sum-order g l.axes order ∙ whole_sum (λ i. g (axisAt l.axes i)) order (rank l) n q.1 ∙ sum-axes g l.axes in
-    same-reach l (map (axisAt l.axes) order) a (omega (arith, length-map order (axisAt l.axes), a.few))
-    (up-sum (map (axisAt l.axes) order) ∙ s (λ a. posPart (span a)) ∙ sym (up-sum l.axes))
-    (down-sum (map (axisAt l.axes) order) ∙ s (λ a. negPart (span a)) ∙ sym (down-sum l.axes))
-    (empty-by-sum l.axes (map (axisAt l.axes) order) (s is_zero)))
+    let s : (g : Axis → ℕ) → sum_axes g (map (axis_at l.axes) order) ≡ sum_axes g l.axes = λ g. sum-order g l.axes order ∙ whole_sum (λ i. g (axis_at l.axes i)) order (rank l) n q.1 ∙ sum-axes g l.axes in
+    same-reach l (map (axis_at l.axes) order) a (omega (arith, length-map order (axis_at l.axes), a.few))
+    (up-sum (map (axis_at l.axes) order) ∙ s (λ a. positive_part (span a)) ∙ sym (up-sum l.axes))
+    (down-sum (map (axis_at l.axes) order) ∙ s (λ a. negative_part (span a)) ∙ sym (down-sum l.axes))
+    (empty-by-sum l.axes (map (axis_at l.axes) order) (s is_zero)))
 
-length_up : (k n : ℕ) → length (up_from k n) ≡ n
-unfolding up_from
+length_up : (k n : ℕ) → length (range_with_len k n) ≡ n
 length_up k zero = refl
-length_up k (suc n) = ap suc (length_up (suc k) n)
+length_up k (suc n) = ap suc (length_up (k + 1) n)
 
 length-kept : (pairs : List (ℕ × ℕ)) (n : ℕ) → length (kept pairs n) ≤ n
 unfolding kept
-length-kept pairs n = omega (arith, length-those (λ a. not (some (λ b. ltb b a) (class_of pairs n a))) (up_from 0 n), length_up 0 n)
+length-kept pairs n = omega (arith, length-those (λ a. not (list_any (λ b. ltb b a) (class_of pairs n a))) (range_with_len 0 n), length_up 0 n)
 
-diagonal-keeps : (l : LayoutM) (pairs : List (ℕ × ℕ)) → Accepted l → Accepted (diagonalView l pairs).layout
-unfolding diagonalView diagonalAxes
-diagonal-keeps l pairs a = old-or-new Accepted l _ _ a (λ e.
+diagonal-keeps : (l : LayoutModel) (pairs : List (ℕ × ℕ)) → IsAccepted l → IsAccepted (diagonal_view l pairs).layout
+unfolding diagonal_view diagonal_axes
+diagonal-keeps l pairs a = old-or-new IsAccepted l _ _ a (λ e.
     let p = passed-check (handed l 0) e in
-    let q = passed-check (pairFault (rank l) pairs) p.1 in
-    let s = passed-check (sumFaults l pairs (kept pairs (rank l))) q.1 in
-    tested-no (withAxes l (map (fused l pairs) (kept pairs (rank l)))) (omega (arith, length-map (kept pairs (rank l)) (fused l pairs), length-kept pairs (rank l), a.few)) (bounds-reach (withAxes l (map (fused l pairs) (kept pairs (rank l)))) s.1))
+    let q = passed-check (pair_fault (rank l) pairs) p.1 in
+    let s = passed-check (sum_faults l pairs (kept pairs (rank l))) q.1 in
+    tested-no (with_axes l (map (fused l pairs) (kept pairs (rank l)))) (omega (arith, length-map (kept pairs (rank l)) (fused l pairs), length-kept pairs (rank l), a.few)) (bounds-reach (with_axes l (map (fused l pairs) (kept pairs (rank l)))) s.1))
 
 -- an axis of extent 1, and one of stride 0, span nothing
 record Spread (axes new : List Axis) : Type 0 where
   s_len : length new ≤ length axes
-  s-up : upward new ≡ upward axes
-  s-down : downward new ≡ downward axes
-  s-empty : is_empty axes ≡ true → is_empty new ≡ true
+  s_up : upward new ≡ upward axes
+  s_down : downward new ≡ downward axes
+  s_empty : is_empty axes ≡ true → is_empty new ≡ true
 
-spreads : (i : ℕ) (axes : List Axis) (targets : List ℕ) → length targets ≡ length axes → targetFault i axes targets ≡ pass → Spread axes (spread axes targets)
-unfolding targetFault spread upward downward is_empty some
-spreads i [] targets n e = record { s_len = omega arith; s-up = refl; s-down = refl; s-empty = λ q. q }
+spreads : (i : ℕ) (axes : List Axis) (targets : List ℕ) → length targets ≡ length axes → target_fault i axes targets ≡ pass → Spread axes (spread axes targets)
+unfolding target_fault spread upward downward is_empty
+spreads i [] targets n e = record { s_len = omega arith; s_up = refl; s_down = refl; s_empty = λ q. q }
 spreads i (a ∷ r) [] n e = absurd (omega arith)
 spreads i (a ∷ r) (t ∷ ts) n e =
     let p = passed (not (eqb a.extent t || eqb a.extent 1)) 6 (i ∷ []) e in
@@ -153,9 +152,9 @@ spreads i (a ∷ r) (t ∷ ts) n e =
     go : (x y : Bool) → (x || y) ≡ true → (y ≡ true → a.extent ≡ 1) → Spread r (spread r ts) → Spread (a ∷ r) ((if x then a else record { extent = t; stride = pos 0 }) ∷ spread r ts)
     go true y q one s = record {
       s_len = omega (arith, s.s_len);
-      s-up = ap (λ (z : ℕ). posPart (span a) + z) s.s-up;
-      s-down = ap (λ (z : ℕ). negPart (span a) + z) s.s-down;
-      s-empty = either' (eqb a.extent 0) s.s-empty;
+      s_up = ap (λ (z : ℕ). positive_part (span a) + z) s.s_up;
+      s_down = ap (λ (z : ℕ). negative_part (span a) + z) s.s_down;
+      s_empty = either' (eqb a.extent 0) s.s_empty;
     }
       where
         either' : (t : Bool) → (is_empty r ≡ true → is_empty (spread r ts) ≡ true) → (t || is_empty r) ≡ true → (t || is_empty (spread r ts)) ≡ true
@@ -166,9 +165,9 @@ spreads i (a ∷ r) (t ∷ ts) n e =
         let o : a.extent ≡ 1 = one refl in
         record {
           s_len = omega (arith, s.s_len);
-          s-up = omega (arith, s.s-up, posPart-· (t - 1) (pos 0), posPart-· (a.extent - 1) a.stride, ap (λ (z : ℕ). (z - 1) * posPart a.stride) o);
-          s-down = omega (arith, s.s-down, negPart-· (t - 1) (pos 0), negPart-· (a.extent - 1) a.stride, ap (λ (z : ℕ). (z - 1) * negPart a.stride) o);
-          s-empty = λ e. last (eqb t 0) (s.s-empty (rest (eqb a.extent 0) (ne_eqb a.extent 0 (λ z. omega arith)) e));
+          s_up = omega (arith, s.s_up, positive_part-· (t - 1) (pos 0), positive_part-· (a.extent - 1) a.stride, ap (λ (z : ℕ). (z - 1) * positive_part a.stride) o);
+          s_down = omega (arith, s.s_down, negative_part-· (t - 1) (pos 0), negative_part-· (a.extent - 1) a.stride, ap (λ (z : ℕ). (z - 1) * negative_part a.stride) o);
+          s_empty = λ e. last (eqb t 0) (s.s_empty (rest (eqb a.extent 0) (ne_eqb a.extent 0 (λ z. omega arith)) e));
         }
       where
         rest : (t : Bool) → t ≡ false → (t || is_empty r) ≡ true → is_empty r ≡ true
@@ -179,42 +178,42 @@ spreads i (a ∷ r) (t ∷ ts) n e =
         last true e = refl
         last false e = e
 
-broadcast-keeps : (l : LayoutM) (targets : List ℕ) → Accepted l → Accepted (broadcast l targets).layout
+broadcast-keeps : (l : LayoutModel) (targets : List ℕ) → IsAccepted l → IsAccepted (broadcast l targets).layout
 unfolding broadcast
-broadcast-keeps l targets a = old-or-new Accepted l _ _ a (λ e.
+broadcast-keeps l targets a = old-or-new IsAccepted l _ _ a (λ e.
     let p = passed-check (handed l (length targets)) e in
     let q = passed (not (eqb (length targets) (rank l))) 4 (rank l ∷ length targets ∷ []) p.1 in
     let n : length targets ≡ rank l = eqb-true (length targets) (rank l) (not-false (eqb (length targets) (rank l)) q.0) in
     let s = spreads 0 l.axes targets n q.1 in
-    same-reach l (spread l.axes targets) a (omega (arith, s.s_len, a.few)) s.s-up s.s-down s.s-empty)
+    same-reach l (spread l.axes targets) a (omega (arith, s.s_len, a.few)) s.s_up s.s_down s.s_empty)
 
-pub views-keep : (l : LayoutM) (c : Call) → Accepted l → Accepted (after_call l c).layout
+pub views-keep : (l : LayoutModel) (c : Call) → IsAccepted l → IsAccepted (after_call l c).layout
 unfolding after_call
 views-keep l (permuting order) a = permute-keeps l order a
 views-keep l (diagonal pairs) a = diagonal-keeps l pairs a
 views-keep l (broadcasting targets) a = broadcast-keeps l targets a
 
-pub ends-keep : (l : LayoutM) (calls : List Call) → Accepted l → Accepted (end_of l calls)
+pub ends-keep : (l : LayoutModel) (calls : List Call) → IsAccepted l → IsAccepted (end_of l calls)
 unfolding end_of
 ends-keep l [] a = a
 ends-keep l (c ∷ calls) a = ends-keep (after_call l c).layout calls (views-keep l c a)
 
 -- ---- check-in
 
-length-axesOf : (es : List ℕ) (ss : List ℤ) → length (axesOf es ss) ≤ length es
-unfolding axesOf
-length-axesOf [] ss = omega arith
-length-axesOf (e ∷ es) [] = omega arith
-length-axesOf (e ∷ es) (s ∷ ss) = omega (arith, length-axesOf es ss)
+length-axes_of_lists : (es : List ℕ) (ss : List ℤ) → length (axes_of_lists es ss) ≤ length es
+unfolding axes_of_lists
+length-axes_of_lists [] ss = omega arith
+length-axes_of_lists (e ∷ es) [] = omega arith
+length-axes_of_lists (e ∷ es) (s ∷ ss) = omega (arith, length-axes_of_lists es ss)
 
-pub checked-in : (buffer : ℕ) (offset : ℤ) (extents : List ℕ) (strides : List ℤ) (l : LayoutM) → checkIn buffer offset extents strides ≡ done l → Accepted l
-unfolding checkIn
-checked-in buffer offset extents strides l e =
-    let p = passed (tooLong extents || tooLong strides) 1 [] e in
+pub checked_in : (buffer : ℕ) (offset : ℤ) (extents : List ℕ) (strides : List ℤ) (l : LayoutModel) → check_in buffer offset extents strides ≡ done l → IsAccepted l
+unfolding check_in
+checked_in buffer offset extents strides l e =
+    let p = passed (is_too_long extents || is_too_long strides) 1 [] e in
     let q = passed (not (eqb (length extents) (length strides))) 2 [] p.1 in
-    let s = passed-check (bounds (record { buffer = buffer; offset = offset; axes = axesOf extents strides })) q.1 in
-    subst Accepted (done_inj s.1) (tested-no (record { buffer = buffer; offset = offset; axes = axesOf extents strides })
-    (omega (arith, length-axesOf extents strides, few (ltb 16 (length extents)) (ltb 16 (length strides)) (ltb-false 16 (length extents)) p.0)) (bounds-reach _ s.0))
+    let s = passed-check (bounds (record { buffer = buffer; offset = offset; axes = axes_of_lists extents strides })) q.1 in
+    subst IsAccepted (done_inj s.1) (tested-no (record { buffer = buffer; offset = offset; axes = axes_of_lists extents strides })
+    (omega (arith, length-axes_of_lists extents strides, few (ltb 16 (length extents)) (ltb 16 (length strides)) (ltb-false 16 (length extents)) p.0)) (bounds-reach _ s.0))
   where
     few : (x y : Bool) → (x ≡ false → length extents ≤ 16) → (x || y) ≡ false → length extents ≤ 16
     few true y f e = absurd (subst T e tt)

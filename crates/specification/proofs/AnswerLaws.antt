@@ -3,8 +3,8 @@ use mathlib.Core.List.{List}
 use mathlib.Core.Path.{◌≡◌}
 use Prim.Native.Nat.{ℕ}
 use Rattle.specification.specs.Outcome.{refused}
-use Rattle.specification.specs.Layout.{LayoutM}
-use Rattle.specification.specs.Views.{permute, diagonalView, broadcast}
+use Rattle.specification.specs.Layout.{LayoutModel}
+use Rattle.specification.specs.Views.{permute, diagonal_view, broadcast}
 use Rattle.specification.specs.Calls.{Call, permuting, diagonal, broadcasting, after_call}
 use Rattle.specification.specs.ViewRules.{Passes, Refuses}
 use Rattle.specification.specs.ViewClaims.{AnswerClaims}
@@ -13,14 +13,14 @@ use Rattle.specification.proofs.PermuteAnswers.{permute-answers}
 use Rattle.specification.proofs.DiagonalAnswers.{diagonal-answers}
 use Rattle.specification.proofs.BroadcastAnswers.{broadcast-answers}
 
-call-answers : (l : LayoutM) (c : Call) → Answers (after_call l c).answer (Passes l c) (Refuses l c)
+call-answers : (l : LayoutModel) (c : Call) → Answers (after_call l c).answer (Passes l c) (Refuses l c)
 unfolding after_call
 call-answers l (permuting order) = permute-answers l order
 call-answers l (diagonal pairs) = diagonal-answers l pairs
 call-answers l (broadcasting targets) = broadcast-answers l targets
 
-left : (l : LayoutM) (c : Call) {number : ℕ} {values : List ℕ} → (after_call l c).answer ≡ refused number values → (after_call l c).layout ≡ l
-unfolding after_call permute diagonalView broadcast
+left : (l : LayoutModel) (c : Call) {number : ℕ} {values : List ℕ} → (after_call l c).answer ≡ refused number values → (after_call l c).layout ≡ l
+unfolding after_call permute diagonal_view broadcast
 left l (permuting order) e = left-old _ _ _ e
 left l (diagonal pairs) e = left-old _ _ _ e
 left l (broadcasting targets) e = left-old _ _ _ e

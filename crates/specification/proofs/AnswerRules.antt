@@ -7,9 +7,9 @@ use Prim.Native.Nat.{ℕ, zero, suc, ◌<◌}
 use native.Mathlib.Omega.{arith}
 use lib.Dec.{T, eqb}
 use borrow.Author.Tests.{eqb-true, eq-eqb, not-false}
-use Rattle.specification.specs.Outcome.{Outcome, Check, done, refused, pass, refuseIf, ◌>>◌}
-use Rattle.specification.specs.Layout.{LayoutM}
-use Rattle.specification.specs.Views.{unlessRefused}
+use Rattle.specification.specs.Outcome.{Outcome, Check, done, refused, pass, refuse_if, ◌>>◌}
+use Rattle.specification.specs.Layout.{LayoutModel}
+use Rattle.specification.specs.Views.{unless_refused}
 use Rattle.specification.proofs.OutcomeLaws.{clash, refused-inj}
 use Rattle.std.proofs.lemmas.Int.{ints}
 
@@ -44,8 +44,8 @@ some-refusal (done u) a f = absurd (f (a.passes.0 refl))
 some-refusal (refused n vs) a f = (n, vs, (a.refuses n vs).0 refl)
 
 -- a test refuses where it holds, so it is enough to say when it does not
-pub test-answers : (t : Bool) (number : ℕ) (values : List ℕ) {P : Type 0} → ((t ≡ false) ↔ P) → Answers (refuseIf t number values) P (Only number values P)
-unfolding refuseIf
+pub test-answers : (t : Bool) (number : ℕ) (values : List ℕ) {P : Type 0} → ((t ≡ false) ↔ P) → Answers (refuse_if t number values) P (Only number values P)
+unfolding refuse_if
 test-answers true number values h = record {
   passes = (λ e. absurd (clash (sym e)), λ p. absurd (subst T (h.1 p) tt));
   refuses = λ n vs. (λ e. refusal (λ p. subst T (h.1 p) tt) (refused-inj e), λ o. equation o);
@@ -76,17 +76,17 @@ pub equal-tested : (a b : ℕ) → (not (eqb a b) ≡ false) ↔ (a ≡ b)
 equal-tested a b = (λ e. eqb-true a b (not-false (eqb a b) e), λ e. rw (eq-eqb a b e))
 
 -- a view answers as its check does
-answer-is : (old new : LayoutM) (c : Check) → (unlessRefused old c new).answer ≡ c
-unfolding unlessRefused
-answer-is old new (done u) = refl
-answer-is old new (refused n vs) = refl
+answer_is : (old new : LayoutModel) (c : Check) → (unless_refused old c new).answer ≡ c
+unfolding unless_refused
+answer_is old new (done u) = refl
+answer_is old new (refused n vs) = refl
 
-pub of-answer : (old new : LayoutM) {c : Check} {P : Type 0} {R : ℕ → List ℕ → Type 0} → Answers c P R → Answers (unlessRefused old c new).answer P R
-of-answer old new {c} a = rw (answer-is old new c) a
+pub of-answer : (old new : LayoutModel) {c : Check} {P : Type 0} {R : ℕ → List ℕ → Type 0} → Answers c P R → Answers (unless_refused old c new).answer P R
+of-answer old new {c} a = rw (answer_is old new c) a
 
 -- and leaves the old layout where it is refused
-pub left-old : (old new : LayoutM) (c : Check) {n : ℕ} {vs : List ℕ} → (unlessRefused old c new).answer ≡ refused n vs → (unlessRefused old c new).layout ≡ old
-unfolding unlessRefused
+pub left-old : (old new : LayoutModel) (c : Check) {n : ℕ} {vs : List ℕ} → (unless_refused old c new).answer ≡ refused n vs → (unless_refused old c new).layout ≡ old
+unfolding unless_refused
 left-old old new c e = grind (arith, ints)
 
 -- ---- one check after another

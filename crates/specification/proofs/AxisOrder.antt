@@ -35,48 +35,48 @@ perm-sym (trans p q) = trans (perm-sym q) (perm-sym p)
 -- ---- carrying over
 
 -- the first index stays
-onTail : (List ℕ → List ℕ) → List ℕ → List ℕ
-onTail f [] = []
-onTail f (i ∷ x) = i ∷ f x
+on_tail : (List ℕ → List ℕ) → List ℕ → List ℕ
+on_tail f [] = []
+on_tail f (i ∷ x) = i ∷ f x
 
 -- one more axis in front of both
 pub carry-skip : {a : ActiveAxis} {l m : List ActiveAxis} → Carry l m → Carry (a ∷ l) (a ∷ m)
-unfolding onTail reach
-carry-skip {a} {l} {m} c = record { to = onTail c.to; box = within; same = same_sum; inj = injective }
+unfolding on_tail reach
+carry-skip {a} {l} {m} c = record { to = on_tail c.to; box = within; same = same_sum; inj = injective }
   where
-    within : (x : List ℕ) → IndexVector (a.extent ∷ lengths l) x → IndexVector (a.extent ∷ lengths m) (onTail c.to x)
+    within : (x : List ℕ) → IndexVector (a.extent ∷ lengths l) x → IndexVector (a.extent ∷ lengths m) (on_tail c.to x)
     within _ (◌and◌ {is = x} h b) = ◌and◌ h (c.box x b)
 
-    same_sum : (x : List ℕ) → IndexVector (a.extent ∷ lengths l) x → reach (a ∷ m) (onTail c.to x) ≡ reach (a ∷ l) x
+    same_sum : (x : List ℕ) → IndexVector (a.extent ∷ lengths l) x → reach (a ∷ m) (on_tail c.to x) ≡ reach (a ∷ l) x
     same_sum _ (◌and◌ {i = i} {is = x} h b) = ap (λ (z : ℕ). i * a.stride + z) (c.same x b)
 
-    injective : (x y : List ℕ) → IndexVector (a.extent ∷ lengths l) x → IndexVector (a.extent ∷ lengths l) y → onTail c.to x ≡ onTail c.to y → x ≡ y
+    injective : (x y : List ℕ) → IndexVector (a.extent ∷ lengths l) x → IndexVector (a.extent ∷ lengths l) y → on_tail c.to x ≡ on_tail c.to y → x ≡ y
     injective _ _ (◌and◌ {i = i} {is = x} h b) (◌and◌ {i = j} {is = y} k d) e =
         let eij : i ≡ j = cc in let exy : c.to x ≡ c.to y = cc in
         ap₂ (λ (u : ℕ) (v : List ℕ). u ∷ v) eij (c.inj x y b d exy)
 
 -- the first two indices swapped
-swapTwo : List ℕ → List ℕ
-swapTwo [] = []
-swapTwo (i ∷ []) = i ∷ []
-swapTwo (i ∷ j ∷ x) = j ∷ i ∷ x
+swap_two : List ℕ → List ℕ
+swap_two [] = []
+swap_two (i ∷ []) = i ∷ []
+swap_two (i ∷ j ∷ x) = j ∷ i ∷ x
 
 -- swapped twice they are as before
-swapTwo-twice : (x : List ℕ) → swapTwo (swapTwo x) ≡ x
-unfolding swapTwo
-swapTwo-twice [] = refl
-swapTwo-twice (i ∷ []) = refl
-swapTwo-twice (i ∷ j ∷ x) = refl
+swap_two-twice : (x : List ℕ) → swap_two (swap_two x) ≡ x
+unfolding swap_two
+swap_two-twice [] = refl
+swap_two-twice (i ∷ []) = refl
+swap_two-twice (i ∷ j ∷ x) = refl
 
 -- the first two axes swapped
 carry-swap : (a b : ActiveAxis) (l : List ActiveAxis) → Carry (a ∷ b ∷ l) (b ∷ a ∷ l)
-unfolding swapTwo reach
-carry-swap a b l = record { to = swapTwo; box = within; same = same_sum; inj = λ x y bx by e. sym (swapTwo-twice x) ∙ ap swapTwo e ∙ swapTwo-twice y }
+unfolding swap_two reach
+carry-swap a b l = record { to = swap_two; box = within; same = same_sum; inj = λ x y bx by e. sym (swap_two-twice x) ∙ ap swap_two e ∙ swap_two-twice y }
   where
-    within : (x : List ℕ) → IndexVector (a.extent ∷ b.extent ∷ lengths l) x → IndexVector (b.extent ∷ a.extent ∷ lengths l) (swapTwo x)
+    within : (x : List ℕ) → IndexVector (a.extent ∷ b.extent ∷ lengths l) x → IndexVector (b.extent ∷ a.extent ∷ lengths l) (swap_two x)
     within _ (◌and◌ h (◌and◌ k d)) = ◌and◌ k (◌and◌ h d)
 
-    same_sum : (x : List ℕ) → IndexVector (a.extent ∷ b.extent ∷ lengths l) x → reach (b ∷ a ∷ l) (swapTwo x) ≡ reach (a ∷ b ∷ l) x
+    same_sum : (x : List ℕ) → IndexVector (a.extent ∷ b.extent ∷ lengths l) x → reach (b ∷ a ∷ l) (swap_two x) ≡ reach (a ∷ b ∷ l) x
     same_sum _ (◌and◌ h (◌and◌ k d)) = omega arith
 
 -- one after another

@@ -14,10 +14,10 @@ use mir.Syntax.{w16, w64}
 use mir.Val.{sel}
 use Rattle.std.specs.Int.{to_be_bytes, cast_unsigned, cast_signed}
 use Rattle.specification.specs.Axis.{Axis}
-use Rattle.specification.specs.Layout.{LayoutM, rank}
-use Rattle.specification.specs.Views.{axisAt}
+use Rattle.specification.specs.Layout.{LayoutModel, rank}
+use Rattle.specification.specs.Views.{axis_at}
 use Rattle.specification.specs.Verdict.{Verdict}
-use Rattle.specification.specs.Record.{verdictByte, recordLength, signed_bytes, axisBytes, recordBytes, length_field, number_at, signed_at, axesFrom, withBuffer, layoutFrom}
+use Rattle.specification.specs.Record.{verdict_byte, record_length, signed_bytes, axis_bytes, record_bytes, length_field, number_at, signed_at, axes_from, with_buffer, layout_from}
 use Rattle.specification.specs.ByteClaims.{big_endian, number_from, twos, signed_of, axes_by_digits, axis_by_digits, ByteClaims}
 use Rattle.specification.proofs.ReaderLaws.{rank-told}
 
@@ -71,34 +71,34 @@ signed_is n = by (ltb n (2 ^ 63))
 signed_digits : (z : ℤ) → signed_bytes z ≡ big_endian 8 (twos z)
 signed_digits z = in_eight_bytes (cast_unsigned w64 z) ∙ ap (big_endian 8) (complement_is z)
 
-axes_digits : (axes : List Axis) → axisBytes axes ≡ axes_by_digits axes
-unfolding axisBytes axes_by_digits big_endian
+axes_digits : (axes : List Axis) → axis_bytes axes ≡ axes_by_digits axes
+unfolding axis_bytes axes_by_digits big_endian
 axes_digits [] = refl
 axes_digits (a ∷ rest) = ap₂ join (in_eight_bytes a.extent) (ap₂ join (signed_digits a.stride) (axes_digits rest))
 
-record_is : (l : LayoutM) (v : Verdict)
-    → recordBytes l v ≡ big_endian 2 (13 + 16 * rank l) ++ (1 ∷ verdictByte v ∷ rank l ∷ []) ++ big_endian 8 (twos l.offset) ++ axes_by_digits l.axes
-unfolding recordBytes big_endian
+record_is : (l : LayoutModel) (v : Verdict)
+    → record_bytes l v ≡ big_endian 2 (13 + 16 * rank l) ++ (1 ∷ verdict_byte v ∷ rank l ∷ []) ++ big_endian 8 (twos l.offset) ++ axes_by_digits l.axes
+unfolding record_bytes big_endian
 record_is l v =
-    ap₂ join (in_two_bytes (recordLength (rank l))) (ap (join (1 ∷ verdictByte v ∷ rank l ∷ [])) (ap₂ join (signed_digits l.offset) (axes_digits l.axes)))
+    ap₂ join (in_two_bytes (record_length (rank l))) (ap (join (1 ∷ verdict_byte v ∷ rank l ∷ [])) (ap₂ join (signed_digits l.offset) (axes_digits l.axes)))
 
 signed_digits_at : (bytes : List ℕ) (i : ℕ) → signed_at bytes i ≡ signed_of (number_from bytes i 8)
 signed_digits_at bytes i = ap (cast_signed w64) (eight_bytes_hold bytes i) ∙ signed_is (number_from bytes i 8)
 
-axis_from : (bytes : List ℕ) (at n i k : ℕ) → i < n → k ≡ at + 16 * i → axisAt (axesFrom bytes at n) i ≡ axis_by_digits bytes k
-unfolding axesFrom
+axis_from : (bytes : List ℕ) (at n i k : ℕ) → i < n → k ≡ at + 16 * i → axis_at (axes_from bytes at n) i ≡ axis_by_digits bytes k
+unfolding axes_from
 axis_from bytes at zero i k h e = absurd (omega arith)
 axis_from bytes at (suc n) zero k h e =
     let z : at ≡ k = omega arith in
     rw z (λ j. record { extent = eight_bytes_hold bytes k j; stride = signed_digits_at bytes (k + 8) j })
 axis_from bytes at (suc n) (suc i) k h e = axis_from bytes (at + 16) n i k (omega arith) (omega arith)
 
-axis_is : (bytes : List ℕ) (i : ℕ) → i < get_or bytes 4 0 → axisAt (layoutFrom bytes).axes i ≡ axis_by_digits bytes (13 + 16 * i)
-unfolding layoutFrom withBuffer
+axis_is : (bytes : List ℕ) (i : ℕ) → i < get_or bytes 4 0 → axis_at (layout_from bytes).axes i ≡ axis_by_digits bytes (13 + 16 * i)
+unfolding layout_from with_buffer
 axis_is bytes i h = axis_from bytes 13 (get_or bytes 4 0) i (13 + 16 * i) h refl
 
-offset_is : (bytes : List ℕ) → (layoutFrom bytes).offset ≡ signed_of (number_from bytes 5 8)
-unfolding layoutFrom withBuffer
+offset_is : (bytes : List ℕ) → (layout_from bytes).offset ≡ signed_of (number_from bytes 5 8)
+unfolding layout_from with_buffer
 offset_is bytes = signed_digits_at bytes 5
 
 pub byte_claims : ByteClaims

@@ -1,5 +1,5 @@
 -- Two index vectors of one sum, and what they come to: found on the block they are two positions of one offset, and where none are there all positions are distinct.
--- Beside it step 5 both ways, and the axes that no search needs: of extent 1, and of stride 0.
+-- Beside it the search both ways, and the axes that no search needs: of extent 1, and of stride 0.
 use mathlib.Core.Path.{◌≡◌, sym, ap, ap₂, ◌∙◌}
 use mathlib.Core.Logic.{◌⊎◌, inl, inr}
 use Prim.Native.Nat.{ℕ, ◌*◌, ◌<◌}
@@ -14,7 +14,7 @@ use Rattle.specification.proofs.Differences.{EqualSums, ZeroDifference, pair-zer
 use Rattle.specification.proofs.AxisOrder.{Carry}
 use Rattle.specification.proofs.DifferenceWalk.{Found, found-zero, zero-split}
 use Rattle.integer.proofs.PartLaws.{parts-ext}
-use Rattle.specification.specs.Axis.{Axis, Shared, extents, offsetSum}
+use Rattle.specification.specs.Axis.{Axis, SharesOffset, extents, offset_sum}
 use Rattle.specification.specs.Search.{ActiveAxis, lengths, reach}
 use Rattle.std.proofs.lemmas.Int.{ints}
 
@@ -31,7 +31,7 @@ pub pair-carry : {l m : List ActiveAxis} → Carry l m → EqualSums l → Equal
 pair-carry c p = grind (arith, ints)
 
 -- vectors of one sum over absolute strides, turned, are positions of one offset
-pub pair-shared : (l : List Axis) → EqualSums (absolute 0 l) → Shared l
+pub pair-shared : (l : List Axis) → EqualSums (absolute 0 l) → SharesOffset l
 pair-shared l p =
     let wx : IndexVector (extents l) p.x = rw (lengths-absolute 0 l) at p.bx in
     let wy : IndexVector (extents l) p.y = rw (lengths-absolute 0 l) at p.by in
@@ -42,17 +42,17 @@ pair-shared l p =
     record {
       one = place (extents l) (turned l p.x);
       other = place (extents l) (turned l p.y);
-      one-is = place-lt l px;
-      other-is = place-lt l py;
+      one_is = place-lt l px;
+      other_is = place-lt l py;
       different = λ e. p.other (sym tx ∙ ap (λ (z : List ℕ). turned l z) (place-inj px py e) ∙ ty);
-      same = sum-at-place l px ∙ parts-ext {x = offsetSum l (turned l p.x)} {y = offsetSum l (turned l p.y)} (omega (arith, offset-reach 0 l px, offset-reach 0 l py, ap (λ (z : List ℕ). reach (absolute 0 l) z) tx, ap (λ (z : List ℕ). reach (absolute 0 l) z) ty, p.same)) ∙ sym (sum-at-place l py);
+      same = sum-at-place l px ∙ parts-ext {x = offset_sum l (turned l p.x)} {y = offset_sum l (turned l p.y)} (omega (arith, offset-reach 0 l px, offset-reach 0 l py, ap (λ (z : List ℕ). reach (absolute 0 l) z) tx, ap (λ (z : List ℕ). reach (absolute 0 l) z) ty, p.same)) ∙ sym (sum-at-place l py);
     }
 
 -- vectors told apart over absolute strides are positions told apart
 pub apart-positions : (l : List Axis) → AllPositive l → SumsApart (absolute 0 l) → Distinct l
 apart-positions l h f = apart_distinct h (apart-of-sums 0 l f)
 
--- ---- step 5, both ways
+-- ---- the search, both ways
 
 -- nothing found: sums tell vectors apart
 pub search_no : (a b : ActiveAxis) (r : List ActiveAxis) → PositiveExtents (lengths r) → ¬ (ZeroDifference (a ∷ b ∷ [])) → ¬ (Found a b r) → SumsApart (a ∷ b ∷ r)

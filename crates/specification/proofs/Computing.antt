@@ -1,41 +1,41 @@
 -- Everything that a line with numbers in it computes with: a proof that says `unfolding computing` unfolds all of it.
-use Rattle.integer.specs.Gcd.{gcd, gcdWithin}
+use Rattle.integer.specs.Gcd.{gcd, gcd_within}
 use Rattle.integer.specs.Multiple.{◌·◌}
-use Rattle.integer.proofs.BoundedEquation.{firstFrom, lowest, solution?, solvable, fitsTest}
-use Rattle.integer.proofs.Congruence.{root, coefficient, coefficientWithin, subMod}
-use Rattle.integer.proofs.Decide.{byTest}
-use Rattle.specification.specs.Tests.{some, those, insertBy, sortBy, up_from}
-use Rattle.specification.specs.Axis.{axesOf, product, index_at, is_empty, upward, downward}
-use Rattle.specification.specs.Outcome.{refuseIf, ◌>>◌, ◌>>=◌}
-use Rattle.specification.specs.Layout.{inReach, handed}
-use Rattle.specification.specs.CheckIn.{bounds, checkIn}
+use Rattle.integer.proofs.BoundedEquation.{first_from, lowest, solution?, solvable, fits_test}
+use Rattle.integer.proofs.Congruence.{root, coefficient, coefficient_within, sub_mod}
+use Rattle.integer.proofs.Decide.{by_test}
+use Rattle.specification.specs.Tests.{insert_by, sort_by}
+use Rattle.specification.specs.Axis.{axes_of_lists, product, index_at, is_empty, upward, downward}
+use Rattle.specification.specs.Outcome.{refuse_if, ◌>>◌, ◌>>=◌}
+use Rattle.specification.specs.Layout.{is_in_reach, handed}
+use Rattle.specification.specs.CheckIn.{bounds, check_in}
 use Rattle.specification.specs.TiedDecided.{name, tied?}
-use Rattle.specification.specs.Views.{unlessRefused, orderFault, permute, pairsOf, pairFault, class_of, kept, leastExtent, strideSum, strideFault, fused, diagonalAxes, sumFaults, diagonalView, targetFault, spread, broadcast}
-use Rattle.specification.specs.Normal.{mergeInto, merge, normalAxes, normalOf, overfull, normalForm}
-use Rattle.specification.specs.Search.{reach, spanSum, twoDistinct, half, fromDigits, differenceSum, first_of, wordsFor}
+use Rattle.specification.specs.Views.{unless_refused, order_fault, permute, pairs_of, pair_fault, class_of, kept, least_extent, stride_sum, stride_fault, fused, diagonal_axes, sum_faults, diagonal_view, target_fault, spread, broadcast}
+use Rattle.specification.specs.Normal.{merge_into, merge, normal_axes, normal_of, overfull, normal_form}
+use Rattle.specification.specs.Search.{reach, span_sum, two_distinct, half, from_digits, difference_sum, first_of, words_for}
 use Rattle.specification.specs.Decided.{completes?}
-use Rattle.specification.specs.Verdict.{activeFrom, upToLast, block_of, byTwo, othersOf, hit, placed, searched, pastSearch, byMany, by_size, byBlock, outOfRange, plan_of, carryOut, judge, verdict}
-use Rattle.specification.specs.Record.{axisBytes, recordBytes, written}
-use Rattle.specification.specs.Beside.{nextStep, running, colMajor, rowMajor, orderAmong, indexOrder, sumIndexed, indexedOffset}
+use Rattle.specification.specs.Verdict.{active_from, up_to_last, block_of, by_two, others_of, hit, placed, searched, plan_past_search, by_many, by_size, by_block_size, is_out_of_range, plan_of, carry_out, judge, verdict}
+use Rattle.specification.specs.Record.{axis_bytes, record_bytes, written}
+use Rattle.specification.specs.Beside.{next_step, running, col_major, row_major, order_among, index_order, sum_indexed, indexed_offset}
 
 -- a name for the list
 unfoldable pub computing : Unit {0}
-unfolding gcd gcdWithin
+unfolding gcd gcd_within
     ◌·◌
-    firstFrom lowest solution? solvable fitsTest
-    root coefficient coefficientWithin subMod
-    byTest
-    some those insertBy sortBy up_from
-    axesOf product index_at is_empty upward downward
-    refuseIf ◌>>◌ ◌>>=◌
-    inReach handed
-    bounds checkIn
+    first_from lowest solution? solvable fits_test
+    root coefficient coefficient_within sub_mod
+    by_test
+    insert_by sort_by
+    axes_of_lists product index_at is_empty upward downward
+    refuse_if ◌>>◌ ◌>>=◌
+    is_in_reach handed
+    bounds check_in
     name tied?
-    unlessRefused orderFault permute pairsOf pairFault class_of kept leastExtent strideSum strideFault fused diagonalAxes sumFaults diagonalView targetFault spread broadcast
-    mergeInto merge normalAxes normalOf overfull normalForm
-    reach spanSum twoDistinct half fromDigits differenceSum first_of wordsFor
+    unless_refused order_fault permute pairs_of pair_fault class_of kept least_extent stride_sum stride_fault fused diagonal_axes sum_faults diagonal_view target_fault spread broadcast
+    merge_into merge normal_axes normal_of overfull normal_form
+    reach span_sum two_distinct half from_digits difference_sum first_of words_for
     completes?
-    activeFrom upToLast block_of byTwo othersOf hit placed searched pastSearch byMany by_size byBlock outOfRange plan_of carryOut judge verdict
-    axisBytes recordBytes written
-    nextStep running colMajor rowMajor orderAmong indexOrder sumIndexed indexedOffset
+    active_from up_to_last block_of by_two others_of hit placed searched plan_past_search by_many by_size by_block_size is_out_of_range plan_of carry_out judge verdict
+    axis_bytes record_bytes written
+    next_step running col_major row_major order_among index_order sum_indexed indexed_offset
 computing = tt

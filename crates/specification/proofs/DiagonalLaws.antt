@@ -1,5 +1,6 @@
 -- What diagonal_view does to the offset of an index vector whose tied axes have one index.
-use Rattle.std.specs.Prelude.{Option, Some, None, if◌then◌else◌}
+use Rattle.std.specs.List.{list_any, range_with_len}
+use Rattle.std.specs.Prelude.{Option, Some, None, if◌then◌else◌, filter}
 use mathlib.Core.Path.{◌≡◌, refl, sym, ap, subst, ◌∙◌}
 use mathlib.Core.Bool.{Bool, true, false, not, ◌&&◌, ◌||◌}
 use mathlib.Core.List.{List, [], ◌∷◌, map}
@@ -10,44 +11,42 @@ use lib.Dec.{T, ltb}
 use lib.IntN.{ℤ, pos, ◌+ℤ◌}
 use lib.ListN.{length, get_or}
 use borrow.Author.Tests.{ltb-true, lt-ltb}
-use Rattle.integer.specs.Parts.{posPart, negPart}
+use Rattle.integer.specs.Parts.{positive_part, negative_part}
 use Rattle.integer.proofs.MultipleLaws.{multiples}
-use Rattle.specification.specs.Tests.{is_yes, some, those, up_from}
-use Rattle.specification.specs.Axis.{offsetSum}
+use Rattle.specification.specs.Tests.{is_yes}
+use Rattle.specification.specs.Axis.{offset_sum}
 use Rattle.specification.specs.Outcome.{Check, pass, ◌>>◌}
-use Rattle.specification.specs.Layout.{LayoutM, rank, handed}
+use Rattle.specification.specs.Layout.{LayoutModel, rank, handed}
 use Rattle.specification.specs.CheckIn.{bounds}
-use Rattle.specification.specs.Tied.{Tied, itself, turned, chain}
+use Rattle.specification.specs.Tied.{IsTied, itself, turned, chain}
 use Rattle.specification.specs.TiedDecided.{tied?}
-use Rattle.specification.specs.Views.{withAxes, axisAt, pairFault, class_of, kept, strideSum, fused, diagonalAxes, sumFaults, diagonalView}
+use Rattle.specification.specs.Views.{with_axes, axis_at, pair_fault, class_of, kept, stride_sum, fused, diagonal_axes, sum_faults, diagonal_view}
 use Rattle.specification.specs.Search.{first_of}
 use Rattle.specification.specs.ViewClaims.{ViewClaims}
 use Rattle.specification.proofs.OrderSums.{left-sum}
 use Rattle.specification.proofs.SearchLaws.{First, first-of}
-use Rattle.specification.proofs.Sums.{sum_of, sum-ext, sum-zero, sum-times, sum-swap, sum-those, sum_one, sum-range}
+use Rattle.specification.proofs.Sums.{sum_of, sum-ext, sum-zero, sum-times, sum-swap, sum-filter, sum_one, sum-range}
 use Rattle.specification.proofs.TestLaws.{true-not-false}
 use Rattle.specification.proofs.ViewLaws.{permuted, stretched, weigh, parts, by-axis, settled}
 use Rattle.std.proofs.lemmas.Int.{ints}
 
 -- ---- some entry of a range that passes one test passes another
 
-pub some-no : (f g : ℕ → Bool) (i n : ℕ) → ((x : ℕ) → i ≤ x → x < i + n → g x ≡ true → f x ≡ false) → some f (those g (up_from i n)) ≡ false
-unfolding some those up_from
-some-no f g i zero h = refl
-some-no f g i (suc n) h = go (g i) refl (some-no f g (suc i) n (λ x a b. h x (omega arith) (omega arith)))
+pub list_any-no : (f g : ℕ → Bool) (i n : ℕ) → ((x : ℕ) → i ≤ x → x < i + n → g x ≡ true → f x ≡ false) → list_any f (filter g (range_with_len i n)) ≡ false
+list_any-no f g i zero h = refl
+list_any-no f g i (suc n) h = go (g i) refl (list_any-no f g (i + 1) n (λ x a b. h x (omega arith) (omega arith)))
   where
     both : (s t : Bool) → s ≡ false → t ≡ false → (s || t) ≡ false
     both true t p q = absurd (subst T p tt)
     both false t p q = q
 
-    go : (t : Bool) → g i ≡ t → some f (those g (up_from (suc i) n)) ≡ false → some f (if t then i ∷ those g (up_from (suc i) n) else those g (up_from (suc i) n)) ≡ false
-    go true e ih = both (f i) (some f (those g (up_from (suc i) n))) (h i (omega arith) (omega arith) e) ih
+    go : (t : Bool) → g i ≡ t → list_any f (filter g (range_with_len (i + 1) n)) ≡ false → list_any f (if t then i ∷ filter g (range_with_len (i + 1) n) else filter g (range_with_len (i + 1) n)) ≡ false
+    go true e ih = both (f i) (list_any f (filter g (range_with_len (i + 1) n))) (h i (omega arith) (omega arith) e) ih
     go false e ih = ih
 
-pub some-yes : (f g : ℕ → Bool) (i n x : ℕ) → i ≤ x → x < i + n → g x ≡ true → f x ≡ true → some f (those g (up_from i n)) ≡ true
-unfolding some those up_from
-some-yes f g i zero x a b p q = absurd (omega arith)
-some-yes f g i (suc n) x a b p q = go (ℕ_discrete i x) (λ l. some-yes f g (suc i) n x l (omega arith) p q)
+pub list_any-yes : (f g : ℕ → Bool) (i n x : ℕ) → i ≤ x → x < i + n → g x ≡ true → f x ≡ true → list_any f (filter g (range_with_len i n)) ≡ true
+list_any-yes f g i zero x a b p q = absurd (omega arith)
+list_any-yes f g i (suc n) x a b p q = go (ℕ_discrete i x) (λ l. list_any-yes f g (i + 1) n x l (omega arith) p q)
   where
     right : (s t : Bool) → t ≡ true → (s || t) ≡ true
     right true t e = refl
@@ -57,15 +56,15 @@ some-yes f g i (suc n) x a b p q = go (ℕ_discrete i x) (λ l. some-yes f g (su
     first true t e = refl
     first false t e = absurd (subst T (sym e) tt)
 
-    here : (t : Bool) → t ≡ true → f i ≡ true → some f (if t then i ∷ those g (up_from (suc i) n) else those g (up_from (suc i) n)) ≡ true
-    here true e u = first (f i) (some f (those g (up_from (suc i) n))) u
+    here : (t : Bool) → t ≡ true → f i ≡ true → list_any f (if t then i ∷ filter g (range_with_len (i + 1) n) else filter g (range_with_len (i + 1) n)) ≡ true
+    here true e u = first (f i) (list_any f (filter g (range_with_len (i + 1) n))) u
     here false e u = absurd (subst T (sym e) tt)
 
-    there : (t : Bool) → some f (those g (up_from (suc i) n)) ≡ true → some f (if t then i ∷ those g (up_from (suc i) n) else those g (up_from (suc i) n)) ≡ true
-    there true u = right (f i) (some f (those g (up_from (suc i) n))) u
+    there : (t : Bool) → list_any f (filter g (range_with_len (i + 1) n)) ≡ true → list_any f (if t then i ∷ filter g (range_with_len (i + 1) n) else filter g (range_with_len (i + 1) n)) ≡ true
+    there true u = right (f i) (list_any f (filter g (range_with_len (i + 1) n))) u
     there false u = u
 
-    go : Dec (i ≡ x) → (suc i ≤ x → some f (those g (up_from (suc i) n)) ≡ true) → some f (if g i then i ∷ those g (up_from (suc i) n) else those g (up_from (suc i) n)) ≡ true
+    go : Dec (i ≡ x) → (i + 1 ≤ x → list_any f (filter g (range_with_len (i + 1) n)) ≡ true) → list_any f (if g i then i ∷ filter g (range_with_len (i + 1) n) else filter g (range_with_len (i + 1) n)) ≡ true
     go (yes e) ih = here (g i) (rw e p) (rw e q)
     go (no e) ih = there (g i) (ih (omega arith))
 
@@ -76,20 +75,20 @@ module _ (pairs : List (ℕ × ℕ)) (n : ℕ) where
   t a b = is_yes (tied? pairs a b)
 
   abbrev q : ℕ → Bool
-  q a = not (some (λ b. ltb b a) (class_of pairs n a))
+  q a = not (list_any (λ b. ltb b a) (class_of pairs n a))
 
-  pub test-tied : (a b : ℕ) → t a b ≡ true → Tied pairs a b
+  pub test-tied : (a b : ℕ) → t a b ≡ true → IsTied pairs a b
   test-tied a b e = grind (arith, ints)
 
-  pub tied-test : (a b : ℕ) → Tied pairs a b → t a b ≡ true
+  pub tied-test : (a b : ℕ) → IsTied pairs a b → t a b ≡ true
   tied-test a b p = grind (arith, ints)
 
   record Root (a : ℕ) : Type 0 where
     root : ℕ
     root-lt : root < n
-    root_tied : Tied pairs root a
+    root_tied : IsTied pairs root a
     root_kept : q root ≡ true
-    root-only : (k : ℕ) → k < n → Tied pairs k a → q k ≡ true → k ≡ root
+    root-only : (k : ℕ) → k < n → IsTied pairs k a → q k ≡ true → k ≡ root
 
   root-of : (a : ℕ) → a < n → Root a
   unfolding class_of
@@ -104,42 +103,42 @@ module _ (pairs : List (ℕ × ℕ)) (n : ℕ) where
       go : (o : Option ℕ) → First (λ k. t k a) n 0 o → Root a
       go None f = absurd (true-not-false (tied-test a a itself) (f a (omega arith) (omega arith)))
       go (Some p) f =
-          let tp : Tied pairs p a = test-tied p a f.2 in
+          let tp : IsTied pairs p a = test-tied p a f.2 in
           record {
             root = p;
             root-lt = omega (arith, f.1);
             root_tied = tp;
-            root_kept = neg (some-no (λ b. ltb b p) (t p) 0 n (λ x i l e. low x (test-tied p x e) (ltb x p) refl));
+            root_kept = neg (list_any-no (λ b. ltb b p) (t p) 0 n (λ x i l e. low x (test-tied p x e) (ltb x p) refl));
             root-only = λ k l tk qk. only k l tk qk (dec_lt k p) (dec_lt p k);
           }
         where
-          low : (x : ℕ) → Tied pairs p x → (b : Bool) → ltb x p ≡ b → b ≡ false
+          low : (x : ℕ) → IsTied pairs p x → (b : Bool) → ltb x p ≡ b → b ≡ false
           low x w false e = refl
           low x w true e = absurd (true-not-false (tied-test x a (chain (turned w) (test-tied p a f.2))) (f.3 x (omega arith) (ltb-true x p e)))
 
-          only : (k : ℕ) → k < n → Tied pairs k a → q k ≡ true → Dec (k < p) → Dec (p < k) → k ≡ p
+          only : (k : ℕ) → k < n → IsTied pairs k a → q k ≡ true → Dec (k < p) → Dec (p < k) → k ≡ p
           only k l tk qk (yes lt) d = absurd (true-not-false (tied-test k a tk) (f.3 k (omega arith) lt))
-          only k l tk qk (no nl) (yes lt) = absurd (true-not-false qk (pos-neg (some-yes (λ b. ltb b k) (t k) 0 n p (omega arith) (omega (arith, f.1)) (tied-test k p (chain tk (turned (test-tied p a f.2)))) (lt-ltb p k lt))))
+          only k l tk qk (no nl) (yes lt) = absurd (true-not-false qk (pos-neg (list_any-yes (λ b. ltb b k) (t k) 0 n p (omega arith) (omega (arith, f.1)) (tied-test k p (chain tk (turned (test-tied p a f.2)))) (lt-ltb p k lt))))
           only k l tk qk (no nl) (no ng) = omega arith
 
   -- the sum over the classes of the kept axes is the sum over all
-  class-sum : (f : ℕ → ℕ) → sum_of (λ k. sum_of f (class_of pairs n k)) (kept pairs n) ≡ sum_of f (up_from 0 n)
+  class-sum : (f : ℕ → ℕ) → sum_of (λ k. sum_of f (class_of pairs n k)) (kept pairs n) ≡ sum_of f (range_with_len 0 n)
   unfolding class_of kept
   class-sum f =
-      sum-those q (λ k. sum_of f (those (t k) (up_from 0 n))) (up_from 0 n)
-      ∙ sum-ext (λ k. if q k then sum_of f (those (t k) (up_from 0 n)) else 0) (λ k. sum_of (λ a. if q k && t k a then f a else 0) (up_from 0 n)) (up_from 0 n) (λ k. inner k (q k))
-      ∙ sum-swap (λ k a. if q k && t k a then f a else 0) (up_from 0 n) (up_from 0 n)
-      ∙ sum-range (λ a. sum_of (λ k. if q k && t k a then f a else 0) (up_from 0 n)) f 0 n (λ a i h. one a (omega arith))
+      sum-filter q (λ k. sum_of f (filter (t k) (range_with_len 0 n))) (range_with_len 0 n)
+      ∙ sum-ext (λ k. if q k then sum_of f (filter (t k) (range_with_len 0 n)) else 0) (λ k. sum_of (λ a. if q k && t k a then f a else 0) (range_with_len 0 n)) (range_with_len 0 n) (λ k. inner k (q k))
+      ∙ sum-swap (λ k a. if q k && t k a then f a else 0) (range_with_len 0 n) (range_with_len 0 n)
+      ∙ sum-range (λ a. sum_of (λ k. if q k && t k a then f a else 0) (range_with_len 0 n)) f 0 n (λ a i h. one a (omega arith))
     where
-      inner : (k : ℕ) (b : Bool) → (if b then sum_of f (those (t k) (up_from 0 n)) else 0) ≡ sum_of (λ a. if b && t k a then f a else 0) (up_from 0 n)
-      inner k true = sum-those (t k) f (up_from 0 n)
-      inner k false = sym (sum-zero (up_from 0 n))
+      inner : (k : ℕ) (b : Bool) → (if b then sum_of f (filter (t k) (range_with_len 0 n)) else 0) ≡ sum_of (λ a. if b && t k a then f a else 0) (range_with_len 0 n)
+      inner k true = sum-filter (t k) f (range_with_len 0 n)
+      inner k false = sym (sum-zero (range_with_len 0 n))
 
       and_both : (x y : Bool) → (x && y) ≡ true → (x ≡ true) × (y ≡ true)
       and_both true y e = (refl, e)
       and_both false y e = absurd (subst T (sym e) tt)
 
-      one : (a : ℕ) → a < n → sum_of (λ k. if q k && t k a then f a else 0) (up_from 0 n) ≡ f a
+      one : (a : ℕ) → a < n → sum_of (λ k. if q k && t k a then f a else 0) (range_with_len 0 n) ≡ f a
       one a h =
           let r = root-of a h in
           let e : (q r.root && t r.root a) ≡ true = rw (r.root_kept, tied-test r.root a r.root_tied) in
@@ -148,35 +147,35 @@ module _ (pairs : List (ℕ × ℕ)) (n : ℕ) where
 
 -- ---- offsets
 
-module _ (l : LayoutM) (pairs : List (ℕ × ℕ)) (index : List ℕ) where
+module _ (l : LayoutModel) (pairs : List (ℕ × ℕ)) (index : List ℕ) where
   abbrev y : ℕ → ℕ
   y a = get_or index a 0
 
   abbrev part : (ℤ → ℕ) → ℕ → ℕ
-  part g a = g (axisAt l.axes a).stride
+  part g a = g (axis_at l.axes a).stride
 
-  stride-parts : (z : ℤ) (c : List ℕ) → posPart (strideSum z (map (axisAt l.axes) c)) + (negPart z + sum_of (part negPart) c) ≡ (posPart z + sum_of (part posPart) c) + negPart (strideSum z (map (axisAt l.axes) c))
-  unfolding strideSum sum_of
+  stride-parts : (z : ℤ) (c : List ℕ) → positive_part (stride_sum z (map (axis_at l.axes) c)) + (negative_part z + sum_of (part negative_part) c) ≡ (positive_part z + sum_of (part positive_part) c) + negative_part (stride_sum z (map (axis_at l.axes) c))
+  unfolding stride_sum sum_of
   stride-parts z [] = omega arith
-  stride-parts z (a ∷ r) = omega (arith, ints, stride-parts (z +ℤ (axisAt l.axes a).stride) r)
+  stride-parts z (a ∷ r) = omega (arith, ints, stride-parts (z +ℤ (axis_at l.axes a).stride) r)
 
   abbrev heavy : (ℤ → ℕ) → ℕ → ℕ
   heavy g k = y k * sum_of (part g) (class_of pairs (rank l) k)
 
-  diagonal-parts : (ks : List ℕ) → posPart (offsetSum (map (fused l pairs) ks) (map y ks)) + sum_of (heavy negPart) ks ≡ sum_of (heavy posPart) ks + negPart (offsetSum (map (fused l pairs) ks) (map y ks))
-  unfolding offsetSum sum_of fused
+  diagonal-parts : (ks : List ℕ) → positive_part (offset_sum (map (fused l pairs) ks) (map y ks)) + sum_of (heavy negative_part) ks ≡ sum_of (heavy positive_part) ks + negative_part (offset_sum (map (fused l pairs) ks) (map y ks))
+  unfolding offset_sum sum_of fused
   diagonal-parts [] = refl
   diagonal-parts (k ∷ r) =
       omega (arith, multiples, diagonal-parts r, ap (λ (m : ℕ). y k * m) (stride-parts (pos 0) (class_of pairs (rank l) k)))
 
-  module _ (alike : (a b : ℕ) → Tied pairs a b → get_or index a 0 ≡ get_or index b 0) where
+  module _ (alike : (a b : ℕ) → IsTied pairs a b → get_or index a 0 ≡ get_or index b 0) where
     in-class : (h : ℕ → ℕ) (k : ℕ) → y k * sum_of h (class_of pairs (rank l) k) ≡ sum_of (λ a. y a * h a) (class_of pairs (rank l) k)
     unfolding class_of
-    in-class h k = sym (sum-times (y k) h (class_of pairs (rank l) k)) ∙ sum-those (t pairs (rank l) k) (λ a. y k * h a) (up_from 0 (rank l))
-        ∙ sum-ext (λ a. if t pairs (rank l) k a then y k * h a else 0) (λ a. if t pairs (rank l) k a then y a * h a else 0) (up_from 0 (rank l)) (λ a. same a (t pairs (rank l) k a) (test-tied pairs (rank l) k a))
-        ∙ sym (sum-those (t pairs (rank l) k) (λ a. y a * h a) (up_from 0 (rank l)))
+    in-class h k = sym (sum-times (y k) h (class_of pairs (rank l) k)) ∙ sum-filter (t pairs (rank l) k) (λ a. y k * h a) (range_with_len 0 (rank l))
+        ∙ sum-ext (λ a. if t pairs (rank l) k a then y k * h a else 0) (λ a. if t pairs (rank l) k a then y a * h a else 0) (range_with_len 0 (rank l)) (λ a. same a (t pairs (rank l) k a) (test-tied pairs (rank l) k a))
+        ∙ sym (sum-filter (t pairs (rank l) k) (λ a. y a * h a) (range_with_len 0 (rank l)))
       where
-        same : (a : ℕ) (b : Bool) → (b ≡ true → Tied pairs k a) → (if b then y k * h a else 0) ≡ (if b then y a * h a else 0)
+        same : (a : ℕ) (b : Bool) → (b ≡ true → IsTied pairs k a) → (if b then y k * h a else 0) ≡ (if b then y a * h a else 0)
         same a true f = ap (λ (m : ℕ). m * h a) (alike k a (f refl))
         same a false f = refl
 
@@ -187,14 +186,14 @@ module _ (l : LayoutM) (pairs : List (ℕ × ℕ)) (index : List ℕ) where
         ∙ sym (left-sum (λ a. y a * part g a) 0 (rank l))
         ∙ by-axis g l.axes index n
 
-    fused-offset : (diagonalView l pairs).answer ≡ pass → length index ≡ rank l
-        → offsetSum (diagonalView l pairs).layout.axes (map (λ a. get_or index a 0) (kept pairs (rank l))) ≡ offsetSum l.axes index
-    unfolding diagonalView diagonalAxes
+    fused-offset : (diagonal_view l pairs).answer ≡ pass → length index ≡ rank l
+        → offset_sum (diagonal_view l pairs).layout.axes (map (λ a. get_or index a 0) (kept pairs (rank l))) ≡ offset_sum l.axes index
+    unfolding diagonal_view diagonal_axes
     fused-offset e n =
-        let c : Check = handed l 0 >> pairFault (rank l) pairs >> sumFaults l pairs (kept pairs (rank l)) >> bounds (withAxes l (map (fused l pairs) (kept pairs (rank l)))) in
-        let s = settled l (withAxes l (map (fused l pairs) (kept pairs (rank l)))) c e in
-        ap (λ (m : LayoutM). offsetSum m.axes (map y (kept pairs (rank l)))) s.becomes
-        ∙ omega (arith, ints, diagonal-parts (kept pairs (rank l)), all-classes posPart n, all-classes negPart n, parts l.axes index)
+        let c : Check = handed l 0 >> pair_fault (rank l) pairs >> sum_faults l pairs (kept pairs (rank l)) >> bounds (with_axes l (map (fused l pairs) (kept pairs (rank l)))) in
+        let s = settled l (with_axes l (map (fused l pairs) (kept pairs (rank l)))) c e in
+        ap (λ (m : LayoutModel). offset_sum m.axes (map y (kept pairs (rank l)))) s.becomes
+        ∙ omega (arith, ints, diagonal-parts (kept pairs (rank l)), all-classes positive_part n, all-classes negative_part n, parts l.axes index)
 
 pub view_claims : ViewClaims
 view_claims = record { permuted = permuted; stretched = stretched; fused = λ l pairs index e n alike. fused-offset l pairs index alike e n }

@@ -7,10 +7,10 @@ use mathlib.Core.List.{List, [], ◌∷◌}
 use native.Mathlib.Omega.{arith}
 use Rattle.specification.proofs.Positions.{IndexVector, empty, ◌and◌, place}
 use Rattle.specification.proofs.SeparatedAxis.{reach-span}
-use Rattle.specification.proofs.Digits.{PositiveExtents, indexAt-within, place-indexAt}
+use Rattle.specification.proofs.Digits.{PositiveExtents, index_at-within, place-index_at}
 use Rattle.specification.proofs.Pigeonhole.{pigeonhole, Clash}
 use Rattle.specification.specs.Axis.{index_at, product}
-use Rattle.specification.specs.Search.{ActiveAxis, lengths, reach, spanSum, widths}
+use Rattle.specification.specs.Search.{ActiveAxis, lengths, reach, span_sum, widths}
 
 -- two index vectors that differ and have one sum over absolute strides
 pub record EqualSums (l : List ActiveAxis) : Type 0 where
@@ -21,11 +21,11 @@ pub record EqualSums (l : List ActiveAxis) : Type 0 where
   pub other : x ≢ y
   pub same : reach l x ≡ reach l y
 
--- more positions than sums from 0 to the span: two share one (step 3: Repeated)
-pub crowded : (l : List ActiveAxis) → PositiveExtents (lengths l) → suc (spanSum l) < product (lengths l) → EqualSums l
-crowded l pos h = go (pigeonhole (suc (spanSum l)) (product (lengths l)) (λ k. reach l (index_at (lengths l) k)) (λ k b. le l k (indexAt-within pos k b)) h)
+-- more positions than sums from 0 to the span: two share one (the block is Repeated)
+pub crowded : (l : List ActiveAxis) → PositiveExtents (lengths l) → suc (span_sum l) < product (lengths l) → EqualSums l
+crowded l pos h = go (pigeonhole (suc (span_sum l)) (product (lengths l)) (λ k. reach l (index_at (lengths l) k)) (λ k b. le l k (index_at-within pos k b)) h)
   where
-    le : (l : List ActiveAxis) (k : ℕ) → IndexVector (lengths l) (index_at (lengths l) k) → reach l (index_at (lengths l) k) < suc (spanSum l)
+    le : (l : List ActiveAxis) (k : ℕ) → IndexVector (lengths l) (index_at (lengths l) k) → reach l (index_at (lengths l) k) < suc (span_sum l)
     le l k b = omega (arith, reach-span l b)
 
     go : Clash (λ k. reach l (index_at (lengths l) k)) (product (lengths l)) → EqualSums l
@@ -34,18 +34,18 @@ crowded l pos h = go (pigeonhole (suc (spanSum l)) (product (lengths l)) (λ k. 
         record {
           x = index_at (lengths l) c.i;
           y = index_at (lengths l) c.j;
-          bx = indexAt-within pos c.i lo;
-          by = indexAt-within pos c.j c.below;
-          other = λ e. let z : c.i ≡ c.j = sym (place-indexAt pos c.i lo) ∙ ap (λ (w : List ℕ). place (lengths l) w) e ∙ place-indexAt pos c.j c.below in omega arith;
+          bx = index_at-within pos c.i lo;
+          by = index_at-within pos c.j c.below;
+          other = λ e. let z : c.i ≡ c.j = sym (place-index_at pos c.i lo) ∙ ap (λ (w : List ℕ). place (lengths l) w) e ∙ place-index_at pos c.j c.below in omega arith;
           same = c.same;
         }
 
 -- ---- differences
 
 -- the digits of no difference
-abbrev pub noDifference : List ActiveAxis → List ℕ
-noDifference [] = []
-noDifference (a ∷ r) = (a.extent - 1) ∷ noDifference r
+abbrev pub no_difference : List ActiveAxis → List ℕ
+no_difference [] = []
+no_difference (a ∷ r) = (a.extent - 1) ∷ no_difference r
 
 -- the digits of the differences of two index vectors
 difference : List ActiveAxis → List ℕ → List ℕ → List ℕ
@@ -61,15 +61,15 @@ difference-within [] empty empty = empty
 difference-within (a ∷ r) (◌and◌ {i = i} h b) (◌and◌ {i = j} k d) = let z : i + (a.extent - 1) - j < 2 * a.extent - 1 = omega arith in ◌and◌ z (difference-within r b d)
 
 -- their sum is the difference of the two sums, plus the span
-difference-reach : (l : List ActiveAxis) {x y : List ℕ} → IndexVector (lengths l) x → IndexVector (lengths l) y → reach l (difference l x y) + reach l y ≡ reach l x + spanSum l
-unfolding difference reach spanSum
+difference-reach : (l : List ActiveAxis) {x y : List ℕ} → IndexVector (lengths l) x → IndexVector (lengths l) y → reach l (difference l x y) + reach l y ≡ reach l x + span_sum l
+unfolding difference reach span_sum
 difference-reach [] empty empty = omega arith
 difference-reach (a ∷ r) (◌and◌ {i = i} h b) (◌and◌ {i = j} k d) =
     let e : i + (a.extent - 1) - j + j ≡ i + (a.extent - 1) = omega arith in
     omega (arith, difference-reach r b d, ap (λ (z : ℕ). z * a.stride) e)
 
 -- no difference: the vectors are equal
-difference-none : (l : List ActiveAxis) {x y : List ℕ} → IndexVector (lengths l) x → IndexVector (lengths l) y → difference l x y ≡ noDifference l → x ≡ y
+difference-none : (l : List ActiveAxis) {x y : List ℕ} → IndexVector (lengths l) x → IndexVector (lengths l) y → difference l x y ≡ no_difference l → x ≡ y
 unfolding difference
 difference-none [] empty empty e = refl
 difference-none (a ∷ r) (◌and◌ {i = i} h b) (◌and◌ {i = j} k d) e =
@@ -108,7 +108,7 @@ difference-back [] empty = refl
 difference-back (a ∷ r) (◌and◌ {i = i} h b) = ap₂ (λ (u : ℕ) (v : List ℕ). u ∷ v) (omega arith) (difference-back r b)
 
 -- a vector has no difference from itself
-difference-self : (l : List ActiveAxis) {x : List ℕ} → IndexVector (lengths l) x → difference l x x ≡ noDifference l
+difference-self : (l : List ActiveAxis) {x : List ℕ} → IndexVector (lengths l) x → difference l x x ≡ no_difference l
 unfolding difference
 difference-self [] empty = refl
 difference-self (a ∷ r) (◌and◌ {i = i} h b) = ap₂ (λ (u : ℕ) (v : List ℕ). u ∷ v) (omega arith) (difference-self r b)
@@ -117,8 +117,8 @@ difference-self (a ∷ r) (◌and◌ {i = i} h b) = ap₂ (λ (u : ℕ) (v : Lis
 pub record ZeroDifference (l : List ActiveAxis) : Type 0 where
   pub d : List ℕ
   pub box : IndexVector (widths l) d
-  pub some : d ≢ noDifference l
-  pub sum : reach l d ≡ spanSum l
+  pub some : d ≢ no_difference l
+  pub sum : reach l d ≡ span_sum l
 
 -- two vectors of one sum have such differences
 pub pair-zero : (l : List ActiveAxis) → EqualSums l → ZeroDifference l

@@ -35,26 +35,26 @@ pub quotient-below : (k n c : ℕ) → 0 < n → k < n * c → k / n < c
 quotient-below k n c h l = (div-lt_iff_lt-mul h).1 (rw (← mul_comm n c) l)
 
 -- the digits of a position are an index vector
-pub indexAt-within : {es : List ℕ} → PositiveExtents es → (k : ℕ) → k < product es → IndexVector es (index_at es k)
+pub index_at-within : {es : List ℕ} → PositiveExtents es → (k : ℕ) → k < product es → IndexVector es (index_at es k)
 unfolding index_at product
-indexAt-within none k h = empty
-indexAt-within (more {e} {es} p t) k h = ◌and◌ (mod-lt k p) (indexAt-within t (k / e) (quotient-below k e (product es) p h))
+index_at-within none k h = empty
+index_at-within (more {e} {es} p t) k h = ◌and◌ (mod-lt k p) (index_at-within t (k / e) (quotient-below k e (product es) p h))
 
 -- its position is the one that it came from
-pub place-indexAt : {es : List ℕ} → PositiveExtents es → (k : ℕ) → k < product es → place es (index_at es k) ≡ k
+pub place-index_at : {es : List ℕ} → PositiveExtents es → (k : ℕ) → k < product es → place es (index_at es k) ≡ k
 unfolding index_at product place
-place-indexAt none k h = sym (lt-one h)
-place-indexAt (more {e} {es} p t) k h = ap (λ (z : ℕ). k % e + e * z) (place-indexAt t (k / e) (quotient-below k e (product es) p h)) ∙ mod-add-div k e
+place-index_at none k h = sym (lt-one h)
+place-index_at (more {e} {es} p t) k h = ap (λ (z : ℕ). k % e + e * z) (place-index_at t (k / e) (quotient-below k e (product es) p h)) ∙ mod-add-div k e
 
 -- the position of an index vector has that vector for its digits
-pub indexAt-place : {es x : List ℕ} → IndexVector es x → index_at es (place es x) ≡ x
+pub index_at-place : {es x : List ℕ} → IndexVector es x → index_at es (place es x) ≡ x
 unfolding index_at place
-indexAt-place empty = refl
-indexAt-place (◌and◌ {e = e} {i = i} {es = es} {is = x} h b) =
+index_at-place empty = refl
+index_at-place (◌and◌ {e = e} {i = i} {es = es} {is = x} h b) =
     ap₂ (λ (y : ℕ) (z : List ℕ). y ∷ z)
     (add-mul-mod_self_left i e (place es x) ∙ mod-eq_of_lt h)
     (ap (λ (z : ℕ). index_at es z) (add-mul-div_left i (place es x) (omega arith) ∙ ap (λ (z : ℕ). z + place es x) (div-eq_of_lt h) ∙ zero-add (place es x))
-    ∙ indexAt-place b)
+    ∙ index_at-place b)
 
 -- and is a position
 pub place-lt : {es x : List ℕ} → IndexVector es x → place es x < product es
@@ -64,4 +64,4 @@ place-lt (◌and◌ {e = e} h b) = omega (arith, mul-le-mul_left e (place-lt b))
 
 -- two index vectors at one position are equal
 pub place-inj : {es x y : List ℕ} → IndexVector es x → IndexVector es y → place es x ≡ place es y → x ≡ y
-place-inj {es} bx by e = sym (indexAt-place bx) ∙ ap (λ (z : ℕ). index_at es z) e ∙ indexAt-place by
+place-inj {es} bx by e = sym (index_at-place bx) ∙ ap (λ (z : ℕ). index_at es z) e ∙ index_at-place by

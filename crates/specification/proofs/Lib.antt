@@ -1,5 +1,5 @@
 pub mod Computing
-pub mod StarredLines
+pub mod WorkedLines
 pub mod ComputedCases
 pub mod TestLaws
 pub mod DenseLaws

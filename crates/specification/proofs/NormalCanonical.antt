@@ -8,25 +8,25 @@ use native.Mathlib.Omega.{arith}
 use lib.IntN.{ℤ, pos, +ℤ_idl, +ℤ_idr}
 use Rattle.integer.specs.Multiple.{◌·◌}
 use Rattle.integer.proofs.MultipleLaws.{·-one, ·-zero}
-use Rattle.specification.specs.Axis.{Axis, positions, product, index_at, offsetSum, sum_at}
+use Rattle.specification.specs.Axis.{Axis, positions, product, index_at, offset_sum, sum_at}
 use Rattle.specification.proofs.NormalAxes.{Normal, none, more, normal-positive, positions-pos}
 
 -- ---- what a list reads at some numbers
 
 -- at 0 all indices are 0
 pub sum-at-zero : (r : List Axis) → sum_at r 0 ≡ pos 0
-unfolding index_at offsetSum
+unfolding index_at offset_sum
 sum-at-zero [] = refl
 sum-at-zero (a ∷ r) = rw (zero-mod, zero-div, ·-zero, sum-at-zero r)
 
 -- below the first extent only the first index is not 0
 sum_below : (a : Axis) (r : List Axis) (k : ℕ) → k < a.extent → sum_at (a ∷ r) k ≡ k · a.stride
-unfolding index_at offsetSum
+unfolding index_at offset_sum
 sum_below a r k h = rw (mod-eq_of_lt, div-eq_of_lt, sum-at-zero r, +ℤ_idr)
 
 -- at the multiples of the first extent the first index is 0
 sum-at-multiple : (a : Axis) (r : List Axis) (k : ℕ) → 0 < a.extent → sum_at (a ∷ r) (a.extent * k) ≡ sum_at r k
-unfolding index_at offsetSum
+unfolding index_at offset_sum
 sum-at-multiple a r k h = rw (mul-mod_right, mul-div_right, ·-zero, +ℤ_idl)
 
 -- the sum at 1 is the first stride

@@ -6,7 +6,7 @@ use Prim.Native.Nat.{ℕ, ◌<◌}
 use native.Mathlib.Nat.{mul-pos}
 use native.Mathlib.Omega.{arith}
 use Rattle.specification.specs.Axis.{Axis, positions, sum_at}
-use Rattle.specification.specs.Normal.{both, normalAxes}
+use Rattle.specification.specs.Normal.{both, normal_axes}
 use Rattle.specification.specs.NormalClaims.{Step, Steps, dropped, merged, further, ended, next}
 use Rattle.specification.proofs.NormalAxes.{ReadsAlike, alike_refl, alike-trans, alike-more, alike-dropped, alike-merged, normal-alike, AllPositive, none, more, Apart, Normal, normal-is-normal}
 use Rattle.specification.proofs.NormalCanonical.{canonical-axes}
@@ -14,18 +14,18 @@ use Rattle.specification.proofs.NormalCanonical.{canonical-axes}
 -- ---- equal normal forms
 
 -- as many positions, and the same sum at each of them
-pub normal-canonical : {l m : List Axis} → AllPositive l → AllPositive m → positions l ≡ positions m → ((k : ℕ) → k < positions l → sum_at l k ≡ sum_at m k) → normalAxes l ≡ normalAxes m
+pub normal-canonical : {l m : List Axis} → AllPositive l → AllPositive m → positions l ≡ positions m → ((k : ℕ) → k < positions l → sum_at l k ≡ sum_at m k) → normal_axes l ≡ normal_axes m
 normal-canonical {l} {m} pl pm e f =
     let nl = normal-alike l in
     let nm = normal-alike m in
     canonical-axes (normal-is-normal pl) (normal-is-normal pm) (nl.count ∙ e ∙ sym nm.count) (λ k h. nl.sums k ∙ f k (rw (← nl.count) h) ∙ sym (nm.sums k))
 
 -- a normal list that reads like a list is its normal form
-pub normal-of-alike : {l m : List Axis} → AllPositive l → Normal m → ReadsAlike m l → m ≡ normalAxes l
+pub normal-of-alike : {l m : List Axis} → AllPositive l → Normal m → ReadsAlike m l → m ≡ normal_axes l
 normal-of-alike {l} p n w = let v = normal-alike l in canonical-axes n (normal-is-normal p) (w.count ∙ sym v.count) (λ k h. w.sums k ∙ sym (v.sums k))
 
 -- a normal list is its own normal form
-pub normal-of-normal : {l : List Axis} → AllPositive l → Normal l → normalAxes l ≡ l
+pub normal-of-normal : {l : List Axis} → AllPositive l → Normal l → normal_axes l ≡ l
 normal-of-normal p n = sym (normal-of-alike p n alike_refl)
 
 -- ---- any order
@@ -64,5 +64,5 @@ steps-end p (ended f) = record { is_normal = ended-normal p f; alike = alike_ref
 steps-end p (next s t) = let e = steps-end (step-positive s p) t in record { is_normal = e.is_normal; alike = alike-trans e.alike (step-alike s) }
 
 -- which is the normal form
-pub any_order : {l m : List Axis} → AllPositive l → Steps l m → m ≡ normalAxes l
+pub any_order : {l m : List Axis} → AllPositive l → Steps l m → m ≡ normal_axes l
 any_order p s = let e = steps-end p s in normal-of-alike p e.is_normal e.alike

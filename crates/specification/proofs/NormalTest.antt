@@ -14,15 +14,14 @@ use borrow.Author.Tests.{ltb-true, eqb-true, lt-ltb, not-true}
 use Rattle.integer.specs.Multiple.{◌·◌}
 use Rattle.std.specs.Ordering.{int_eq}
 use Rattle.integer.proofs.MultipleLaws.{int_eq-yes, int_eq-no}
-use Rattle.integer.specs.Range.{mostSigned}
-use Rattle.specification.specs.Tests.{some}
+use Rattle.integer.specs.Range.{most_signed}
 use Rattle.specification.specs.Axis.{Axis, is_empty}
-use Rattle.specification.specs.Layout.{LayoutM, lowest, highest}
-use Rattle.specification.specs.Normal.{continues, normalAxes, overfull}
-use Rattle.specification.specs.Record.{isMerged, isEmptyForm, isNormal}
+use Rattle.specification.specs.Layout.{LayoutModel, lowest, highest}
+use Rattle.specification.specs.Normal.{continues, normal_axes, overfull}
+use Rattle.specification.specs.Record.{is_merged, is_empty_form, is_normal_form}
 use Rattle.specification.specs.RecordClaims.{NormalRecord}
 use Rattle.specification.proofs.NormalAxes.{Normal, none, more, normal-positive}
-use Rattle.specification.proofs.NormalLaws.{emptyAxes, empty-none, normalAxes-normal, normalAxes-own, normal-of-empty, normal_of_full}
+use Rattle.specification.proofs.NormalLaws.{empty_axes, empty-none, normal_axes-normal, normal_axes-own, normal-of-empty, normal_of_full}
 use Rattle.specification.proofs.ReachLaws.{reach_of, and-true}
 use Rattle.specification.proofs.TestLaws.{or-true}
 use Rattle.specification.proofs.FieldsFit.{not-empty}
@@ -31,30 +30,30 @@ use Rattle.std.proofs.lemmas.Int.{ints}
 
 -- ---- merged axes
 
-merged-normal : (axes : List Axis) → isMerged axes ≡ true → Normal axes
-unfolding isMerged
+merged-normal : (axes : List Axis) → is_merged axes ≡ true → Normal axes
+unfolding is_merged
 merged-normal [] e = none
 merged-normal (a ∷ []) e = more {a = a} (ltb-true 1 a.extent e) tt none
 merged-normal (a ∷ b ∷ rest) e =
-    let p = and-true (ltb 1 a.extent && not (continues a b)) (isMerged (b ∷ rest)) e in
+    let p = and-true (ltb 1 a.extent && not (continues a b)) (is_merged (b ∷ rest)) e in
     let q = and-true (ltb 1 a.extent) (not (continues a b)) p.0 in
     more {a = a} (ltb-true 1 a.extent q.0) (int_eq-no b.stride (a.extent · a.stride) (subst T (sym q.1) tt)) (merged-normal (b ∷ rest) p.1)
 
-normal-merged : {axes : List Axis} → Normal axes → isMerged axes ≡ true
-unfolding isMerged
-normal-merged none = refl
-normal-merged (more {a} h f none) = lt-ltb 1 a.extent h
-normal-merged (more {a} h f (more {a = b} {r} k g t)) =
-    rw (lt-ltb 1 a.extent h, false-unless (continues a b) (λ e. int_eq-yes b.stride (a.extent · a.stride) (subst T (sym e) tt)) f) (normal-merged (more {a = b} {r = r} k g t))
+normal_merged : {axes : List Axis} → Normal axes → is_merged axes ≡ true
+unfolding is_merged
+normal_merged none = refl
+normal_merged (more {a} h f none) = lt-ltb 1 a.extent h
+normal_merged (more {a} h f (more {a = b} {r} k g t)) =
+    rw (lt-ltb 1 a.extent h, false-unless (continues a b) (λ e. int_eq-yes b.stride (a.extent · a.stride) (subst T (sym e) tt)) f) (normal_merged (more {a = b} {r = r} k g t))
 
 -- ---- the form of an empty layout
 
 -- offset 0, and one axis of extent 0 and stride 0
 record EmptyForm (offset : ℤ) (axes : List Axis) : Type 0 where
-  offset-zero : offset ≡ pos 0
-  one-axis : axes ≡ emptyAxes
+  offset_zero : offset ≡ pos 0
+  one_axis : axes ≡ empty_axes
 
-empty-tested : (b : ℕ) (o : ℤ) (axes : List Axis) → isEmptyForm (record { buffer = b; offset = o; axes = axes }) ≡ true → EmptyForm o axes
+empty-tested : (b : ℕ) (o : ℤ) (axes : List Axis) → is_empty_form (record { buffer = b; offset = o; axes = axes }) ≡ true → EmptyForm o axes
 empty-tested b o [] e = absurd (subst T (sym e) tt)
 empty-tested b o (a ∷ rest) e =
     let p = and-true (int_eq o (pos 0) && eqb (length rest) 0 && eqb a.extent 0) (int_eq a.stride (pos 0)) e in
@@ -63,8 +62,8 @@ empty-tested b o (a ∷ rest) e =
     let n : a.extent ≡ 0 = eqb-true a.extent 0 q.1 in
     let s : a.stride ≡ pos 0 = int_eq-yes a.stride (pos 0) (subst T (sym p.1) tt) in
     record {
-      offset-zero = int_eq-yes o (pos 0) (subst T (sym r.0) tt);
-      one-axis = ap₂ (λ (x : Axis) (y : List Axis). x ∷ y) (λ i. record { extent = n i; stride = s i }) (no-rest rest (eqb-true (length rest) 0 r.1));
+      offset_zero = int_eq-yes o (pos 0) (subst T (sym r.0) tt);
+      one_axis = ap₂ (λ (x : Axis) (y : List Axis). x ∷ y) (λ i. record { extent = n i; stride = s i }) (no-rest rest (eqb-true (length rest) 0 r.1));
     }
   where
     no-rest : (l : List Axis) → length l ≡ 0 → l ≡ []
@@ -72,36 +71,36 @@ empty-tested b o (a ∷ rest) e =
     no-rest (b ∷ l) h = absurd (omega arith)
 
 -- such a layout passes the test, is its own normal form, is not overfull and has no position
-empty-passes : (b : ℕ) {o : ℤ} {axes : List Axis} → EmptyForm o axes → isNormal (record { buffer = b; offset = o; axes = axes }) ≡ true
-unfolding isNormal
-empty-passes b f = ap₂ (λ (z : ℤ) (l : List Axis). isNormal (record { buffer = b; offset = z; axes = l })) f.offset-zero f.one-axis
+empty-passes : (b : ℕ) {o : ℤ} {axes : List Axis} → EmptyForm o axes → is_normal_form (record { buffer = b; offset = o; axes = axes }) ≡ true
+unfolding is_normal_form
+empty-passes b f = ap₂ (λ (z : ℤ) (l : List Axis). is_normal_form (record { buffer = b; offset = z; axes = l })) f.offset_zero f.one_axis
 
 empty-record : (b : ℕ) {o : ℤ} {axes : List Axis} → EmptyForm o axes → NormalRecord (record { buffer = b; offset = o; axes = axes })
-unfolding is_empty some overfull
+unfolding is_empty overfull
 empty-record b {o} {axes} f =
-    let e : is_empty axes ≡ true = ap is_empty f.one-axis in
+    let e : is_empty axes ≡ true = ap is_empty f.one_axis in
     let n = normal-of-empty (record { buffer = b; offset = o; axes = axes }) e in
     record {
-      normal = record { same-offset = ap (λ (l : LayoutM). l.offset) n ∙ sym f.offset-zero; same-axes = ap (λ (l : LayoutM). l.axes) n ∙ sym f.one-axis };
+      normal = record { same_offset = ap (λ (l : LayoutModel). l.offset) n ∙ sym f.offset_zero; same_axes = ap (λ (l : LayoutModel). l.axes) n ∙ sym f.one_axis };
       few = rw e;
       within = λ k h. absurd (omega (arith, empty-none axes e));
     }
 
 -- ---- the test
 
-abbrev mergedTest : LayoutM → Bool
-mergedTest l = isMerged l.axes && not (overfull l.axes) && le_z (pos 0) (lowest l) && le_z (highest l) (pos mostSigned)
+abbrev merged_test : LayoutModel → Bool
+merged_test l = is_merged l.axes && not (overfull l.axes) && le_z (pos 0) (lowest l) && le_z (highest l) (pos most_signed)
 
-merged-record : (l : LayoutM) → mergedTest l ≡ true → NormalRecord l
+merged-record : (l : LayoutModel) → merged_test l ≡ true → NormalRecord l
 merged-record l e =
-    let p = and-true (isMerged l.axes && not (overfull l.axes) && le_z (pos 0) (lowest l)) (le_z (highest l) (pos mostSigned)) e in
-    let q = and-true (isMerged l.axes && not (overfull l.axes)) (le_z (pos 0) (lowest l)) p.0 in
-    let r = and-true (isMerged l.axes) (not (overfull l.axes)) q.0 in
+    let p = and-true (is_merged l.axes && not (overfull l.axes) && le_z (pos 0) (lowest l)) (le_z (highest l) (pos most_signed)) e in
+    let q = and-true (is_merged l.axes && not (overfull l.axes)) (le_z (pos 0) (lowest l)) p.0 in
+    let r = and-true (is_merged l.axes) (not (overfull l.axes)) q.0 in
     let m = merged-normal l.axes r.0 in
     let full = not-empty (normal-positive m) in
     let n = normal_of_full l full in
     record {
-      normal = record { same-offset = ap (λ (x : LayoutM). x.offset) n; same-axes = ap (λ (x : LayoutM). x.axes) n ∙ normalAxes-own m };
+      normal = record { same_offset = ap (λ (x : LayoutModel). x.offset) n; same_axes = ap (λ (x : LayoutModel). x.axes) n ∙ normal_axes-own m };
       few = not-true (overfull l.axes) r.1;
       within = λ k h. let b = (reach_of l full).between k h in (
         grind (arith, ints, b.0, q.1),
@@ -109,31 +108,31 @@ merged-record l e =
       );
     }
 
-full-passes : (l : LayoutM) → is_empty l.axes ≡ false → NormalRecord l → isNormal l ≡ true
-unfolding isNormal
+full-passes : (l : LayoutModel) → is_empty l.axes ≡ false → NormalRecord l → is_normal_form l ≡ true
+unfolding is_normal_form
 full-passes l e r =
-    let own : normalAxes l.axes ≡ l.axes = ap (λ (x : LayoutM). x.axes) (sym (normal_of_full l e)) ∙ r.normal.same-axes in
-    let m : Normal l.axes = subst Normal own (normalAxes-normal l.axes e) in
+    let own : normal_axes l.axes ≡ l.axes = ap (λ (x : LayoutModel). x.axes) (sym (normal_of_full l e)) ∙ r.normal.same_axes in
+    let m : Normal l.axes = subst Normal own (normal_axes-normal l.axes e) in
     let w = reach_of l e in
-    let low : pos 0 ≤ℤ lowest l = subst (λ (z : ℤ). pos 0 ≤ℤ z) w.low (r.within w.low-at w.low-is).0 in
-    let high : highest l ≤ℤ pos mostSigned = subst (λ (z : ℤ). z ≤ℤ pos mostSigned) w.high (r.within w.high-at w.high_is).1 in
+    let low : pos 0 ≤ℤ lowest l = subst (λ (z : ℤ). pos 0 ≤ℤ z) w.low (r.within w.low_at w.low_is).0 in
+    let high : highest l ≤ℤ pos most_signed = subst (λ (z : ℤ). z ≤ℤ pos most_signed) w.high (r.within w.high_at w.high_is).1 in
     let low_tested : le_z (pos 0) (lowest l) ≡ true = grind (arith, ints, low) in
-    let high-tested : le_z (highest l) (pos mostSigned) ≡ true = grind (arith, ints, high) in
-    rw (normal-merged m, r.few, low_tested, high-tested) (or-true (isEmptyForm l))
+    let high-tested : le_z (highest l) (pos most_signed) ≡ true = grind (arith, ints, high) in
+    rw (normal_merged m, r.few, low_tested, high-tested) (or-true (is_empty_form l))
 
-pub normal-tested : (l : LayoutM) → (isNormal l ≡ true) ↔ NormalRecord l
-unfolding isNormal
-normal-tested l = (λ e. forth (isEmptyForm l) refl e, back (is_empty l.axes) refl)
+pub normal_tested : (l : LayoutModel) → (is_normal_form l ≡ true) ↔ NormalRecord l
+unfolding is_normal_form
+normal_tested l = (λ e. forth (is_empty_form l) refl e, back (is_empty l.axes) refl)
   where
-    forth : (t : Bool) → isEmptyForm l ≡ t → (t || mergedTest l) ≡ true → NormalRecord l
+    forth : (t : Bool) → is_empty_form l ≡ t → (t || merged_test l) ≡ true → NormalRecord l
     forth true q e = empty-record l.buffer (empty-tested l.buffer l.offset l.axes q)
     forth false q e = merged-record l e
 
-    back : (t : Bool) → is_empty l.axes ≡ t → NormalRecord l → isNormal l ≡ true
+    back : (t : Bool) → is_empty l.axes ≡ t → NormalRecord l → is_normal_form l ≡ true
     back true e r =
         let n = normal-of-empty l e in
         empty-passes l.buffer (record {
-          offset-zero = sym r.normal.same-offset ∙ ap (λ (x : LayoutM). x.offset) n;
-          one-axis = sym r.normal.same-axes ∙ ap (λ (x : LayoutM). x.axes) n;
+          offset_zero = sym r.normal.same_offset ∙ ap (λ (x : LayoutModel). x.offset) n;
+          one_axis = sym r.normal.same_axes ∙ ap (λ (x : LayoutModel). x.axes) n;
         })
     back false e r = full-passes l e r

@@ -1,5 +1,6 @@
 -- The views and the normal form keep a layout in the ranges of the machine types: the claims on ranges.
-use Rattle.std.specs.Prelude.{if◌then◌else◌}
+use Rattle.std.specs.List.{AllByRecursion}
+use Rattle.std.specs.Prelude.{if◌then◌else◌, filter}
 use mathlib.Core.Bool.{Bool, true, false, not}
 use mathlib.Core.List.{List, [], ◌∷◌, map}
 use mathlib.Core.Path.{◌≡◌, refl}
@@ -13,12 +14,11 @@ use lib.Seq.{take-length}
 use borrow.Author.Tests.{ltb-false}
 use mir.Syntax.{w64}
 use mir.Val.{SFits}
-use Rattle.integer.specs.Range.{fits, mostUnsigned}
-use Rattle.specification.specs.Tests.{those}
+use Rattle.integer.specs.Range.{fits, most_unsigned}
 use Rattle.specification.specs.Axis.{Axis, positions, product, is_empty}
-use Rattle.specification.specs.Layout.{LayoutM, rank, AxisRanges, AllRanges, Ranges, handed}
-use Rattle.specification.specs.Views.{withAxes, axisAt, permute, pairFault, kept, class_of, leastExtent, strideSum, members, fused, diagonalAxes, sumFaults, diagonalView, spread, broadcast}
-use Rattle.specification.specs.Normal.{continues, both, mergeInto, merge, normalAxes, normalOf, overfull}
+use Rattle.specification.specs.Layout.{LayoutModel, rank, AxisRanges, Ranges, handed}
+use Rattle.specification.specs.Views.{with_axes, axis_at, permute, pair_fault, kept, class_of, least_extent, stride_sum, members, fused, diagonal_axes, sum_faults, diagonal_view, spread, broadcast}
+use Rattle.specification.specs.Normal.{continues, both, merge_into, merge, normal_axes, normal_of, overfull}
 use Rattle.specification.specs.Calls.{Call, permuting, diagonal, broadcasting, after_call}
 use Rattle.specification.specs.ViewRules.{SumsFit}
 use Rattle.specification.specs.ViewClaims.{TargetsFit, RangeClaims}
@@ -33,59 +33,59 @@ fits_signed : (z : ℤ) → fits z ≡ true → SFits w64 z
 fits_signed z e = grind (arith, ints)
 
 -- an axis that stands still
-still-ranges : (extent : ℕ) → extent ≤ mostUnsigned → AxisRanges (record { extent = extent; stride = pos 0 })
-still-ranges extent h = record { extent-fits = omega arith; stride-fits = fits_signed (pos 0) refl }
+still-ranges : (extent : ℕ) → extent ≤ most_unsigned → AxisRanges (record { extent = extent; stride = pos 0 })
+still-ranges extent h = record { extent_fits = omega arith; stride_fits = fits_signed (pos 0) refl }
 
-with-ranges : (l : LayoutM) {axes : List Axis} → Ranges l → AllRanges axes → Ranges (withAxes l axes)
-with-ranges l r w = record { buffer-fits = r.buffer-fits; offset-fits = r.offset-fits; axes-fit = w }
+with-ranges : (l : LayoutModel) {axes : List Axis} → Ranges l → AllByRecursion AxisRanges axes → Ranges (with_axes l axes)
+with-ranges l r w = record { buffer_fits = r.buffer_fits; offset_fits = r.offset_fits; axes_fit = w }
 
 -- ---- permute
 
-axis-ranges : (axes : List Axis) → AllRanges axes → (i : ℕ) → AxisRanges (axisAt axes i)
+axis-ranges : (axes : List Axis) → AllByRecursion AxisRanges axes → (i : ℕ) → AxisRanges (axis_at axes i)
 axis-ranges [] w i = still-ranges 0 (omega arith)
 axis-ranges (a ∷ rest) w zero = w.0
 axis-ranges (a ∷ rest) w (suc i) = axis-ranges rest w.1 i
 
-ordered-ranges : (axes : List Axis) → AllRanges axes → (order : List ℕ) → AllRanges (map (axisAt axes) order)
+ordered-ranges : (axes : List Axis) → AllByRecursion AxisRanges axes → (order : List ℕ) → AllByRecursion AxisRanges (map (axis_at axes) order)
 ordered-ranges axes w [] = tt
 ordered-ranges axes w (i ∷ order) = (axis-ranges axes w i, ordered-ranges axes w order)
 
-permute-ranges : (l : LayoutM) (order : List ℕ) → Ranges l → Ranges (permute l order).layout
+permute-ranges : (l : LayoutModel) (order : List ℕ) → Ranges l → Ranges (permute l order).layout
 unfolding permute
-permute-ranges l order r = old-or-new Ranges l _ _ r (λ e. with-ranges l r (ordered-ranges l.axes r.axes-fit order))
+permute-ranges l order r = old-or-new Ranges l _ _ r (λ e. with-ranges l r (ordered-ranges l.axes r.axes_fit order))
 
 -- ---- diagonal_view
 
 -- the least extent is one of the extents, or 0
-least-ranges : (axes : List Axis) → AllRanges axes → leastExtent axes < 2 ^ 64
-unfolding leastExtent
+least-ranges : (axes : List Axis) → AllByRecursion AxisRanges axes → least_extent axes < 2 ^ 64
+unfolding least_extent
 least-ranges [] w = omega arith
-least-ranges (a ∷ []) w = w.0.extent-fits
-least-ranges (a ∷ b ∷ rest) w = let h : a.extent < 2 ^ 64 = w.0.extent-fits in omega arith
+least-ranges (a ∷ []) w = w.0.extent_fits
+least-ranges (a ∷ b ∷ rest) w = let h : a.extent < 2 ^ 64 = w.0.extent_fits in omega arith
 
-module _ (l : LayoutM) (pairs : List (ℕ × ℕ)) (r : Ranges l) where
+module _ (l : LayoutModel) (pairs : List (ℕ × ℕ)) (r : Ranges l) where
   fused-ranges : (a : ℕ) → SumsFit l pairs a → AxisRanges (fused l pairs a)
   unfolding fused
   fused-ranges a s = record {
-    extent-fits = least-ranges (members l pairs a) (ordered-ranges l.axes r.axes-fit (class_of pairs (rank l) a));
-    stride-fits = fits_signed (strideSum (pos 0) (members l pairs a)) (rw take-length at (s (length (members l pairs a))));
+    extent_fits = least-ranges (members l pairs a) (ordered-ranges l.axes r.axes_fit (class_of pairs (rank l) a));
+    stride_fits = fits_signed (stride_sum (pos 0) (members l pairs a)) (rw take-length at (s (length (members l pairs a))));
   }
 
-  classes-ranges : (roots : List ℕ) → ((p : ℕ) → p < length roots → SumsFit l pairs (get_or roots p 0)) → AllRanges (map (fused l pairs) roots)
+  classes-ranges : (roots : List ℕ) → ((p : ℕ) → p < length roots → SumsFit l pairs (get_or roots p 0)) → AllByRecursion AxisRanges (map (fused l pairs) roots)
   classes-ranges [] f = tt
   classes-ranges (a ∷ roots) f = (fused-ranges a (f 0 (omega arith)), classes-ranges roots (λ p h. f (suc p) (omega arith)))
 
-  diagonal-ranges : Ranges (diagonalView l pairs).layout
-  unfolding diagonalView diagonalAxes
+  diagonal-ranges : Ranges (diagonal_view l pairs).layout
+  unfolding diagonal_view diagonal_axes
   diagonal-ranges = old-or-new Ranges l _ _ r (λ e.
       let p = passed-check (handed l 0) e in
-      let q = passed-check (pairFault (rank l) pairs) p.1 in
-      let s = passed-check (sumFaults l pairs (kept pairs (rank l))) q.1 in
+      let q = passed-check (pair_fault (rank l) pairs) p.1 in
+      let s = passed-check (sum_faults l pairs (kept pairs (rank l))) q.1 in
       with-ranges l r (classes-ranges (kept pairs (rank l)) ((sums-answers l pairs).passes.0 s.0)))
 
 -- ---- broadcast
 
-spread-ranges : (axes : List Axis) (targets : List ℕ) → AllRanges axes → ((i : ℕ) → get_or targets i 0 ≤ mostUnsigned) → AllRanges (spread axes targets)
+spread-ranges : (axes : List Axis) (targets : List ℕ) → AllByRecursion AxisRanges axes → ((i : ℕ) → get_or targets i 0 ≤ most_unsigned) → AllByRecursion AxisRanges (spread axes targets)
 unfolding spread
 spread-ranges [] targets w f = tt
 spread-ranges (a ∷ rest) [] w f = tt
@@ -95,15 +95,15 @@ spread-ranges (a ∷ rest) (t ∷ targets) w f = (one (eqb a.extent t), spread-r
     one true = w.0
     one false = still-ranges t (f 0)
 
-broadcast-ranges : (l : LayoutM) (targets : List ℕ) → ((i : ℕ) → get_or targets i 0 ≤ mostUnsigned) → Ranges l → Ranges (broadcast l targets).layout
+broadcast-ranges : (l : LayoutModel) (targets : List ℕ) → ((i : ℕ) → get_or targets i 0 ≤ most_unsigned) → Ranges l → Ranges (broadcast l targets).layout
 unfolding broadcast
-broadcast-ranges l targets f r = old-or-new Ranges l _ _ r (λ e. with-ranges l r (spread-ranges l.axes targets r.axes-fit f))
+broadcast-ranges l targets f r = old-or-new Ranges l _ _ r (λ e. with-ranges l r (spread-ranges l.axes targets r.axes_fit f))
 
-view-ranges : (l : LayoutM) (c : Call) → TargetsFit c → Ranges l → Ranges (after_call l c).layout
+view_ranges : (l : LayoutModel) (c : Call) → TargetsFit c → Ranges l → Ranges (after_call l c).layout
 unfolding after_call
-view-ranges l (permuting order) f r = permute-ranges l order r
-view-ranges l (diagonal pairs) f r = diagonal-ranges l pairs r
-view-ranges l (broadcasting targets) f r = broadcast-ranges l targets f r
+view_ranges l (permuting order) f r = permute-ranges l order r
+view_ranges l (diagonal pairs) f r = diagonal-ranges l pairs r
+view_ranges l (broadcasting targets) f r = broadcast-ranges l targets f r
 
 -- ---- the normal form: its strides are strides of the layout, its extents are factors of the positions
 
@@ -111,25 +111,24 @@ abbrev StridesFit : List Axis → Type 0
 StridesFit [] = Unit {0}
 StridesFit (a ∷ rest) = SFits w64 a.stride × StridesFit rest
 
-strides-of : (axes : List Axis) → AllRanges axes → StridesFit axes
+strides-of : (axes : List Axis) → AllByRecursion AxisRanges axes → StridesFit axes
 strides-of [] w = tt
-strides-of (a ∷ rest) w = (w.0.stride-fits, strides-of rest w.1)
+strides-of (a ∷ rest) w = (w.0.stride_fits, strides-of rest w.1)
 
-those-strides : (test : Axis → Bool) (axes : List Axis) → StridesFit axes → StridesFit (those test axes)
-unfolding those
-those-strides test [] w = tt
-those-strides test (a ∷ rest) w = go (test a) (those-strides test rest w.1)
+filter-strides : (test : Axis → Bool) (axes : List Axis) → StridesFit axes → StridesFit (filter test axes)
+filter-strides test [] w = tt
+filter-strides test (a ∷ rest) w = go (test a) (filter-strides test rest w.1)
   where
-    go : (t : Bool) → StridesFit (those test rest) → StridesFit (if t then a ∷ those test rest else those test rest)
+    go : (t : Bool) → StridesFit (filter test rest) → StridesFit (if t then a ∷ filter test rest else filter test rest)
     go true v = (w.0, v)
     go false v = v
 
 merge-strides : (axes : List Axis) → StridesFit axes → StridesFit (merge axes)
-unfolding merge mergeInto
+unfolding merge merge_into
 merge-strides [] w = tt
 merge-strides (a ∷ rest) w = into (merge rest) (merge-strides rest w.1)
   where
-    into : (merged : List Axis) → StridesFit merged → StridesFit (mergeInto a merged)
+    into : (merged : List Axis) → StridesFit merged → StridesFit (merge_into a merged)
     into [] v = (w.0, tt)
     into (b ∷ merged) v = go (continues a b)
       where
@@ -138,26 +137,26 @@ merge-strides (a ∷ rest) w = into (merge rest) (merge-strides rest w.1)
         go false = (w.0, v)
 
 -- no extent exceeds the number of positions
-counted-ranges : {axes : List Axis} → AllPositive axes → StridesFit axes → positions axes ≤ mostUnsigned → AllRanges axes
+counted-ranges : {axes : List Axis} → AllPositive axes → StridesFit axes → positions axes ≤ most_unsigned → AllByRecursion AxisRanges axes
 unfolding product
 counted-ranges none w h = tt
 counted-ranges (more {a} {r} p t) w h =
     let x : a.extent ≤ a.extent * positions r = le-mul_of_pos_right a.extent (positions-pos t) in
     let y : positions r ≤ a.extent * positions r = omega (arith, mul-le-mul_right (positions r) p) in
-    (record { extent-fits = omega arith; stride-fits = w.0 }, counted-ranges t w.1 (omega arith))
+    (record { extent_fits = omega arith; stride_fits = w.0 }, counted-ranges t w.1 (omega arith))
 
-normal-ranges : (l : LayoutM) → Ranges l → overfull l.axes ≡ false → Ranges (normalOf l)
-unfolding normalOf normalAxes overfull
-normal-ranges l r o = go (is_empty l.axes) refl o
+normal_ranges : (l : LayoutModel) → Ranges l → overfull l.axes ≡ false → Ranges (normal_of l)
+unfolding normal_of normal_axes overfull
+normal_ranges l r o = go (is_empty l.axes) refl o
   where
-    strides : StridesFit (normalAxes l.axes)
-    strides = merge-strides (those (λ a. not (eqb a.extent 1)) l.axes) (those-strides (λ a. not (eqb a.extent 1)) l.axes (strides-of l.axes r.axes-fit))
+    strides : StridesFit (normal_axes l.axes)
+    strides = merge-strides (filter (λ a. not (eqb a.extent 1)) l.axes) (filter-strides (λ a. not (eqb a.extent 1)) l.axes (strides-of l.axes r.axes_fit))
 
-    go : (t : Bool) → is_empty l.axes ≡ t → (if t then false else ltb mostUnsigned (positions l.axes)) ≡ false
-        → Ranges (if t then record { buffer = l.buffer; offset = pos 0; axes = record { extent = 0; stride = pos 0 } ∷ [] } else withAxes l (normalAxes l.axes))
-    go true e o = record { buffer-fits = r.buffer-fits; offset-fits = fits_signed (pos 0) refl; axes-fit = (still-ranges 0 (omega arith), tt) }
+    go : (t : Bool) → is_empty l.axes ≡ t → (if t then false else ltb most_unsigned (positions l.axes)) ≡ false
+        → Ranges (if t then record { buffer = l.buffer; offset = pos 0; axes = record { extent = 0; stride = pos 0 } ∷ [] } else with_axes l (normal_axes l.axes))
+    go true e o = record { buffer_fits = r.buffer_fits; offset_fits = fits_signed (pos 0) refl; axes_fit = (still-ranges 0 (omega arith), tt) }
     go false e o = with-ranges l r (counted-ranges (normal-positive (normal-is-normal (full-pos l.axes e))) strides
-        (omega (arith, ltb-false mostUnsigned (positions l.axes) o, positions-of-normal l.axes)))
+        (omega (arith, ltb-false most_unsigned (positions l.axes) o, positions-of-normal l.axes)))
 
 pub range_claims : RangeClaims
-range_claims = record { view-ranges = view-ranges; normal-ranges = normal-ranges }
+range_claims = record { view_ranges = view_ranges; normal_ranges = normal_ranges }

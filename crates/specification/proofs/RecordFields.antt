@@ -1,4 +1,5 @@
 -- The fields of a record, byte by byte: how long they are, that what was written is read, and that what was read is written again.
+use Rattle.std.specs.List.{AllByRecursion}
 use mathlib.Core.Path.{◌≡◌, refl, sym, ap, ap₂, ◌∙◌}
 use mathlib.Core.List.{List, [], ◌∷◌, ◌++◌, append_assoc}
 use Prim.Native.Nat.{ℕ, zero, suc, ◌+◌, ◌*◌, ◌^◌, ◌<◌, ◌≤◌}
@@ -13,21 +14,21 @@ use Rattle.std.specs.Int.{w16, to_be_bytes, from_be_bytes, cast_unsigned, cast_s
 use Rattle.std.proofs.lemmas.Int.{ints, of_z-to_z}
 use Rattle.std.proofs.lemmas.Nat.{be_bytes_2, be_bytes_8, from_be_bytes-to_be_bytes_2, from_be_bytes-to_be_bytes_8}
 use Rattle.specification.specs.Axis.{Axis}
-use Rattle.specification.specs.Layout.{LayoutM, rank, AllRanges}
+use Rattle.specification.specs.Layout.{LayoutModel, rank, AxisRanges}
 use Rattle.specification.specs.Verdict.{Verdict}
-use Rattle.specification.specs.Record.{signed_bytes, recordLength, axisBytes, recordBytes, length_field, number_at, signed_at, axesFrom}
+use Rattle.specification.specs.Record.{signed_bytes, record_length, axis_bytes, record_bytes, length_field, number_at, signed_at, axes_from}
 use Rattle.specification.specs.RecordClaims.{Bytes}
 
 -- ---- lengths
 
-pub length-axisBytes : (axes : List Axis) → length (axisBytes axes) ≡ 16 * length axes
-unfolding axisBytes
-length-axisBytes [] = refl
-length-axisBytes (a ∷ rest) = omega (arith, length-axisBytes rest)
+pub length-axis_bytes : (axes : List Axis) → length (axis_bytes axes) ≡ 16 * length axes
+unfolding axis_bytes
+length-axis_bytes [] = refl
+length-axis_bytes (a ∷ rest) = omega (arith, length-axis_bytes rest)
 
-pub length-recordBytes : (l : LayoutM) (v : Verdict) → length (recordBytes l v) ≡ recordLength (rank l)
-unfolding recordBytes
-length-recordBytes l v = omega (arith, length-axisBytes l.axes)
+pub length-record_bytes : (l : LayoutModel) (v : Verdict) → length (record_bytes l v) ≡ record_length (rank l)
+unfolding record_bytes
+length-record_bytes l v = omega (arith, length-axis_bytes l.axes)
 
 -- ---- what was written is read
 
@@ -49,21 +50,21 @@ bits-below z f = grind (arith, ints)
 pub signed_at-at : (front : List ℕ) (z : ℤ) (rest : List ℕ) (i : ℕ) → length front ≡ i → SFits w64 z → signed_at (front ++ (signed_bytes z ++ rest)) i ≡ z
 signed_at-at front z rest i e f = ap (cast_signed w64) (number_at-at front (cast_unsigned w64 z) rest i e (bits-below z f)) ∙ to_z-of_z w64 z f
 
-pub axesFrom-at : (axes : List Axis) (front rest : List ℕ) (i : ℕ) → length front ≡ i → AllRanges axes → axesFrom (front ++ (axisBytes axes ++ rest)) i (length axes) ≡ axes
-unfolding axesFrom axisBytes
-axesFrom-at [] front rest i e f = refl
-axesFrom-at (a ∷ axes) front rest i e f =
+pub axes_from-at : (axes : List Axis) (front rest : List ℕ) (i : ℕ) → length front ≡ i → AllByRecursion AxisRanges axes → axes_from (front ++ (axis_bytes axes ++ rest)) i (length axes) ≡ axes
+unfolding axes_from axis_bytes
+axes_from-at [] front rest i e f = refl
+axes_from-at (a ∷ axes) front rest i e f =
     ap₂ (λ (x : Axis) (y : List Axis). x ∷ y) (λ k. record { extent = extent-at k; stride = stride-at k })
-    (ap (λ (b : List ℕ). axesFrom b (i + 16) (length axes)) (sym (append_assoc front (to_be_bytes w64 a.extent ++ signed_bytes a.stride) (axisBytes axes ++ rest)))
-    ∙ axesFrom-at axes (front ++ (to_be_bytes w64 a.extent ++ signed_bytes a.stride)) rest (i + 16) (length-append front _ ∙ omega arith) f.1)
+    (ap (λ (b : List ℕ). axes_from b (i + 16) (length axes)) (sym (append_assoc front (to_be_bytes w64 a.extent ++ signed_bytes a.stride) (axis_bytes axes ++ rest)))
+    ∙ axes_from-at axes (front ++ (to_be_bytes w64 a.extent ++ signed_bytes a.stride)) rest (i + 16) (length-append front _ ∙ omega arith) f.1)
   where
-    extent-at : number_at (front ++ (to_be_bytes w64 a.extent ++ (signed_bytes a.stride ++ (axisBytes axes ++ rest)))) i ≡ a.extent
-    extent-at = number_at-at front a.extent (signed_bytes a.stride ++ (axisBytes axes ++ rest)) i e f.0.extent-fits
+    extent-at : number_at (front ++ (to_be_bytes w64 a.extent ++ (signed_bytes a.stride ++ (axis_bytes axes ++ rest)))) i ≡ a.extent
+    extent-at = number_at-at front a.extent (signed_bytes a.stride ++ (axis_bytes axes ++ rest)) i e f.0.extent_fits
 
-    stride-at : signed_at (front ++ (to_be_bytes w64 a.extent ++ (signed_bytes a.stride ++ (axisBytes axes ++ rest)))) (i + 8) ≡ a.stride
+    stride-at : signed_at (front ++ (to_be_bytes w64 a.extent ++ (signed_bytes a.stride ++ (axis_bytes axes ++ rest)))) (i + 8) ≡ a.stride
     stride-at =
-        ap (λ (b : List ℕ). signed_at b (i + 8)) (sym (append_assoc front (to_be_bytes w64 a.extent) (signed_bytes a.stride ++ (axisBytes axes ++ rest))))
-        ∙ signed_at-at (front ++ to_be_bytes w64 a.extent) a.stride (axisBytes axes ++ rest) (i + 8) (length-append front _ ∙ omega arith) f.0.stride-fits
+        ap (λ (b : List ℕ). signed_at b (i + 8)) (sym (append_assoc front (to_be_bytes w64 a.extent) (signed_bytes a.stride ++ (axis_bytes axes ++ rest))))
+        ∙ signed_at-at (front ++ to_be_bytes w64 a.extent) a.stride (axis_bytes axes ++ rest) (i + 8) (length-append front _ ∙ omega arith) f.0.stride_fits
 
 -- ---- what was read is written again
 
@@ -98,13 +99,13 @@ bytes-signed_at bytes i b h = ap (to_be_bytes w64) (of_z-to_z w64 (number_at byt
 pub join-parts : (bytes : List ℕ) (i m n : ℕ) → take m (drop i bytes) ++ take n (drop (i + m) bytes) ≡ take (m + n) (drop i bytes)
 join-parts bytes i m n = sym (take-add m n (drop i bytes) ∙ ap (λ (l : List ℕ). take m (drop i bytes) ++ take n l) (drop-drop m i bytes))
 
-pub bytes-axesFrom : (bytes : List ℕ) (i n : ℕ) → Bytes bytes → i + 16 * n ≤ length bytes → axisBytes (axesFrom bytes i n) ≡ take (16 * n) (drop i bytes)
-unfolding axesFrom axisBytes
-bytes-axesFrom bytes i zero b h = refl
-bytes-axesFrom bytes i (suc n) b h =
+pub bytes-axes_from : (bytes : List ℕ) (i n : ℕ) → Bytes bytes → i + 16 * n ≤ length bytes → axis_bytes (axes_from bytes i n) ≡ take (16 * n) (drop i bytes)
+unfolding axes_from axis_bytes
+bytes-axes_from bytes i zero b h = refl
+bytes-axes_from bytes i (suc n) b h =
     ap₂ (λ (x y : List ℕ). x ++ y)
     (ap₂ (λ (x y : List ℕ). x ++ y) (bytes-number_at bytes i b (omega arith)) (bytes-signed_at bytes (i + 8) b (omega arith)) ∙ join-parts bytes i 8 8)
-    (bytes-axesFrom bytes (i + 16) n b (omega arith))
+    (bytes-axes_from bytes (i + 16) n b (omega arith))
     ∙ join-parts bytes i 16 (16 * n) ∙ ap (λ (k : ℕ). take k (drop i bytes)) (one_more n)
   where
     one_more : (n : ℕ) → 16 + 16 * n ≡ 16 * suc n

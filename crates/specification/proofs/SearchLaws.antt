@@ -1,4 +1,4 @@
--- Steps 5 and 6 tell the truth of a block; each way that the search ends, with its count.
+-- Search and enumeration tell the truth of a block; each way that the search ends, with its count.
 use Rattle.std.specs.Prelude.{Option, Some, None, if◌then◌else◌}
 use mathlib.Core.Path.{◌≡◌, refl, sym, ap, ◌∙◌}
 use mathlib.Core.Bool.{Bool, true, false}
@@ -7,16 +7,16 @@ use Prim.Native.Nat.{ℕ, zero, suc, ◌+◌, ◌*◌, ◌-◌, ◌<◌, ◌≤�
 use native.Mathlib.Decide.{ℕ_discrete}
 use native.Mathlib.Omega.{arith}
 use lib.IntN.{ℤ, pos, nat_abs, ◌-ℤ◌}
-use Rattle.integer.specs.Parts.{posPart, negPart}
+use Rattle.integer.specs.Parts.{positive_part, negative_part}
 use Rattle.specification.specs.Tests.{is_yes}
 use Rattle.specification.specs.Axis.{product, index_at}
-use Rattle.specification.specs.Search.{ActiveAxis, lengths, reach, spanSum, total, twoDistinct, widths, half, fromDigits, differenceAt, differenceSum, Completes, CompletesAt, first_of, SameSum}
+use Rattle.specification.specs.Search.{ActiveAxis, lengths, reach, span_sum, total, two_distinct, widths, half, from_digits, difference_at, difference_sum, Completes, CompletesAt, first_of, SameSum}
 use Rattle.specification.specs.Decided.{completes?}
-use Rattle.integer.proofs.SignedEquation.{natAbs-of-shifted, negPart-of-natAbs, posPart-of-natAbs, shifted}
+use Rattle.integer.proofs.SignedEquation.{nat_abs-of-shifted, negative_part-of-nat_abs, positive_part-of-nat_abs, shifted}
 use Rattle.specification.specs.Verdict.{Distinct, Repeated, Undecided, Plan, answered, enumerated, hit, placed, searched}
 use Rattle.specification.proofs.Positions.{IndexVector, empty, ◌and◌, place}
 use Rattle.specification.proofs.AbsoluteStrides.{SumsApart}
-use Rattle.specification.proofs.Digits.{PositiveExtents, indexAt-within, place-indexAt, indexAt-place, place-lt, place-inj}
+use Rattle.specification.proofs.Digits.{PositiveExtents, index_at-within, place-index_at, index_at-place, place-lt, place-inj}
 use Rattle.specification.proofs.Differences.{EqualSums, pair-zero, zero-pair}
 use Rattle.specification.proofs.DifferenceWalk.{Solves, Found, middle, half-half, two-zero, widths-positive}
 use Rattle.specification.proofs.Collisions.{search_no, search-yes}
@@ -41,36 +41,36 @@ move U f g (enumerated b) s = (λ r. f (s.0 r), λ p. g (s.1 p), s.2)
 
 -- the sum of differences is the sum of the digits less the span
 difference-parts : (l : List ActiveAxis) {d : List ℕ} → IndexVector (widths l) d
-    → posPart (differenceSum l (fromDigits l d)) + spanSum l ≡ reach l d + negPart (differenceSum l (fromDigits l d))
-unfolding differenceSum fromDigits reach spanSum
+    → positive_part (difference_sum l (from_digits l d)) + span_sum l ≡ reach l d + negative_part (difference_sum l (from_digits l d))
+unfolding difference_sum from_digits reach span_sum
 difference-parts [] empty = refl
 difference-parts (a ∷ r) (◌and◌ {i = i} {is = d} h b) =
     omega (arith, ints, difference-parts r b, ap (λ (k : ℕ). k * a.stride) (shifted i (a.extent - 1)))
 
-module _ (a b : ActiveAxis) (z : ℤ) (t s : ℕ) (e : posPart z + s ≡ t + negPart z) (ha : 0 < a.extent) (hb : 0 < b.extent) where
+module _ (a b : ActiveAxis) (z : ℤ) (t s : ℕ) (e : positive_part z + s ≡ t + negative_part z) (ha : 0 < a.extent) (hb : 0 < b.extent) where
   completes-solves : Completes a b z → Solves a b t ((a.extent - 1) * a.stride + ((b.extent - 1) * b.stride + s))
   completes-solves w =
       let hx : nat_abs w.x < suc (a.extent - 1) = omega (arith, w.x_below) in
-      let hy : nat_abs w.y < suc (b.extent - 1) = omega (arith, w.y-below) in
-      let bx : negPart w.x ≤ a.extent - 1 = negPart-of-natAbs w.x (a.extent - 1) hx in
-      let by : negPart w.y ≤ b.extent - 1 = negPart-of-natAbs w.y (b.extent - 1) hy in
-      let ex : posPart w.x + (a.extent - 1) - negPart w.x + negPart w.x ≡ posPart w.x + (a.extent - 1) = omega arith in
-      let ey : posPart w.y + (b.extent - 1) - negPart w.y + negPart w.y ≡ posPart w.y + (b.extent - 1) = omega arith in
+      let hy : nat_abs w.y < suc (b.extent - 1) = omega (arith, w.y_below) in
+      let bx : negative_part w.x ≤ a.extent - 1 = negative_part-of-nat_abs w.x (a.extent - 1) hx in
+      let by : negative_part w.y ≤ b.extent - 1 = negative_part-of-nat_abs w.y (b.extent - 1) hy in
+      let ex : positive_part w.x + (a.extent - 1) - negative_part w.x + negative_part w.x ≡ positive_part w.x + (a.extent - 1) = omega arith in
+      let ey : positive_part w.y + (b.extent - 1) - negative_part w.y + negative_part w.y ≡ positive_part w.y + (b.extent - 1) = omega arith in
       record {
-        u = posPart w.x + (a.extent - 1) - negPart w.x;
-        v = posPart w.y + (b.extent - 1) - negPart w.y;
-        uu = omega (arith, posPart-of-natAbs w.x (a.extent - 1) hx);
-        vv = omega (arith, posPart-of-natAbs w.y (b.extent - 1) hy);
-        sum = omega (arith, ints, w.to-zero, ap (λ (k : ℕ). k * a.stride) ex, ap (λ (k : ℕ). k * b.stride) ey);
+        u = positive_part w.x + (a.extent - 1) - negative_part w.x;
+        v = positive_part w.y + (b.extent - 1) - negative_part w.y;
+        uu = omega (arith, positive_part-of-nat_abs w.x (a.extent - 1) hx);
+        vv = omega (arith, positive_part-of-nat_abs w.y (b.extent - 1) hy);
+        sum = omega (arith, ints, w.to_zero, ap (λ (k : ℕ). k * a.stride) ex, ap (λ (k : ℕ). k * b.stride) ey);
       }
 
   solves-completes : Solves a b t ((a.extent - 1) * a.stride + ((b.extent - 1) * b.stride + s)) → Completes a b z
   solves-completes w = record {
     x = pos w.u -ℤ pos (a.extent - 1);
     y = pos w.v -ℤ pos (b.extent - 1);
-    x_below = omega (arith, natAbs-of-shifted (pos w.u -ℤ pos (a.extent - 1)) w.u (a.extent - 1) (shifted w.u (a.extent - 1)) (omega (arith, w.uu)));
-    y-below = omega (arith, natAbs-of-shifted (pos w.v -ℤ pos (b.extent - 1)) w.v (b.extent - 1) (shifted w.v (b.extent - 1)) (omega (arith, w.vv)));
-    to-zero = omega (arith, ints, w.sum, e, ap (λ (k : ℕ). k * a.stride) (shifted w.u (a.extent - 1)), ap (λ (k : ℕ). k * b.stride) (shifted w.v (b.extent - 1)));
+    x_below = omega (arith, nat_abs-of-shifted (pos w.u -ℤ pos (a.extent - 1)) w.u (a.extent - 1) (shifted w.u (a.extent - 1)) (omega (arith, w.uu)));
+    y_below = omega (arith, nat_abs-of-shifted (pos w.v -ℤ pos (b.extent - 1)) w.v (b.extent - 1) (shifted w.v (b.extent - 1)) (omega (arith, w.vv)));
+    to_zero = omega (arith, ints, w.sum, e, ap (λ (k : ℕ). k * a.stride) (shifted w.u (a.extent - 1)), ap (λ (k : ℕ). k * b.stride) (shifted w.v (b.extent - 1)));
   }
 
 -- ---- the first place
@@ -101,31 +101,31 @@ no-is d e q = grind (arith, ints)
 
 hit-yes : (a b : ActiveAxis) (others : List ActiveAxis) (c : ℕ) → hit a b others c ≡ true → CompletesAt a b others c
 unfolding hit
-hit-yes a b others c e = yes-is (completes? a b (differenceSum others (differenceAt others (half others + c)))) e
+hit-yes a b others c e = yes-is (completes? a b (difference_sum others (difference_at others (half others + c)))) e
 
 hit-no : (a b : ActiveAxis) (others : List ActiveAxis) (c : ℕ) → hit a b others c ≡ false → CompletesAt a b others c → ⊥
 unfolding hit
-hit-no a b others c e w = no-is (completes? a b (differenceSum others (differenceAt others (half others + c)))) e w
+hit-no a b others c e w = no-is (completes? a b (difference_sum others (difference_at others (half others + c)))) e w
 
--- ---- step 5
+-- ---- search
 
 -- each way that the search ends
 pub data SearchEnd (a b : ActiveAxis) (others : List ActiveAxis) : Plan → Type 0 where
-  collided : twoDistinct a b ≡ false → SearchEnd a b others (answered Repeated 0)
-  completed : {c : ℕ} → twoDistinct a b ≡ true → c < half others → CompletesAt a b others (suc c) → ((d : ℕ) → d < c → ¬ (CompletesAt a b others (suc d)))
+  collided : two_distinct a b ≡ false → SearchEnd a b others (answered Repeated 0)
+  completed : {c : ℕ} → two_distinct a b ≡ true → c < half others → CompletesAt a b others (suc c) → ((d : ℕ) → d < c → ¬ (CompletesAt a b others (suc d)))
       → SearchEnd a b others (answered Repeated (suc c))
-  exhausted : twoDistinct a b ≡ true → ((d : ℕ) → d < half others → ¬ (CompletesAt a b others (suc d))) → SearchEnd a b others (answered Distinct (half others))
+  exhausted : two_distinct a b ≡ true → ((d : ℕ) → d < half others → ¬ (CompletesAt a b others (suc d))) → SearchEnd a b others (answered Distinct (half others))
 
 pub search-end : (a b : ActiveAxis) (others : List ActiveAxis) → SearchEnd a b others (searched a b others)
 unfolding searched placed
-search-end a b others = go (twoDistinct a b) refl
+search-end a b others = go (two_distinct a b) refl
   where
-    fin : twoDistinct a b ≡ true → (o : Option ℕ) → First (hit a b others) (half others) 1 o → SearchEnd a b others (placed others o)
+    fin : two_distinct a b ≡ true → (o : Option ℕ) → First (hit a b others) (half others) 1 o → SearchEnd a b others (placed others o)
     fin e None w = exhausted e (λ d h. hit-no a b others (suc d) (w (suc d) (omega arith) (omega arith)))
     fin e (Some zero) w = absurd (omega (arith, w.0))
     fin e (Some (suc c)) w = completed {c = c} e (omega (arith, w.1)) (hit-yes a b others (suc c) w.2) (λ d h. hit-no a b others (suc d) (w.3 (suc d) (omega arith) (omega arith)))
 
-    go : (t : Bool) → twoDistinct a b ≡ t → SearchEnd a b others (if t then placed others (first_of (hit a b others) (half others) 1) else answered Repeated 0)
+    go : (t : Bool) → two_distinct a b ≡ t → SearchEnd a b others (if t then placed others (first_of (hit a b others) (half others) 1) else answered Repeated 0)
     go true e = fin e (first_of (hit a b others) (half others) 1) (first-of (hit a b others) (half others) 1)
     go false e = collided e
 
@@ -143,22 +143,22 @@ module _ (a b : ActiveAxis) (r : List ActiveAxis) (la : Live a) (lb : Live b) (l
   gb : 0 < b.extent
   gb = omega (arith, lb.long)
 
-  parts_at : (k : ℕ) → k < product (widths r) → posPart (differenceSum r (differenceAt r k)) + spanSum r ≡ reach r (index_at (widths r) k) + negPart (differenceSum r (differenceAt r k))
-  parts_at k h = difference-parts r (indexAt-within (widths-positive r hp) k h)
+  parts_at : (k : ℕ) → k < product (widths r) → positive_part (difference_sum r (difference_at r k)) + span_sum r ≡ reach r (index_at (widths r) k) + negative_part (difference_sum r (difference_at r k))
+  parts_at k h = difference-parts r (index_at-within (widths-positive r hp) k h)
 
   found-place : Found a b r → (c : ℕ) × (c < half r) × CompletesAt a b r (suc c)
-  unfolding spanSum
+  unfolding span_sum
   found-place f =
       let e = half_is r hp in
       let hh = half-half r hp in
       let q : half r + suc (f.k - suc (half r)) ≡ f.k = omega (arith, f.high) in (
         f.k - suc (half r),
         omega (arith, f.low, f.high),
-        rw q (solves-completes a b (differenceSum r (differenceAt r f.k)) (reach r (index_at (widths r) f.k)) (spanSum r) (parts_at f.k f.low) ga gb f.solves),
+        rw q (solves-completes a b (difference_sum r (difference_at r f.k)) (reach r (index_at (widths r) f.k)) (span_sum r) (parts_at f.k f.low) ga gb f.solves),
       )
 
   place_found : (c : ℕ) → c < half r → CompletesAt a b r (suc c) → Found a b r
-  unfolding spanSum
+  unfolding span_sum
   place_found c h w =
       let e = half_is r hp in
       let hh = half-half r hp in
@@ -167,7 +167,7 @@ module _ (a b : ActiveAxis) (r : List ActiveAxis) (la : Live a) (lb : Live b) (l
         k = half r + suc c;
         high = omega arith;
         low = low;
-        solves = completes-solves a b (differenceSum r (differenceAt r (half r + suc c))) (reach r (index_at (widths r) (half r + suc c))) (spanSum r) (parts_at (half r + suc c) low) ga gb w;
+        solves = completes-solves a b (difference_sum r (difference_at r (half r + suc c))) (reach r (index_at (widths r) (half r + suc c))) (span_sum r) (parts_at (half r + suc c) low) ga gb w;
       }
 
   pub says-search : (U : Type 0) {p : Plan} → SearchEnd a b r p → TruePlan U (a ∷ b ∷ r) p
@@ -176,7 +176,7 @@ module _ (a b : ActiveAxis) (r : List ActiveAxis) (la : Live a) (lb : Live b) (l
   says-search U (exhausted e f) = search_no a b r hp (λ z. no-pair-of-two a b la.moves lb.moves e (zero-pair (a ∷ b ∷ []) z))
       (λ w. let p = found-place w in f p.0 p.1 p.2)
 
--- ---- step 6
+-- ---- enumeration
 
 pub same-pair : (l : List ActiveAxis) → PositiveExtents (lengths l) → SameSum l → EqualSums l
 same-pair l h s =
@@ -184,17 +184,17 @@ same-pair l h s =
     record {
       x = index_at (lengths l) s.one;
       y = index_at (lengths l) s.other;
-      bx = indexAt-within h s.one bi;
-      by = indexAt-within h s.other s.within;
-      other = λ e. let z : s.one ≡ s.other = sym (place-indexAt h s.one bi) ∙ ap (λ (q : List ℕ). place (lengths l) q) e ∙ place-indexAt h s.other s.within in omega (arith, z, s.before);
+      bx = index_at-within h s.one bi;
+      by = index_at-within h s.other s.within;
+      other = λ e. let z : s.one ≡ s.other = sym (place-index_at h s.one bi) ∙ ap (λ (q : List ℕ). place (lengths l) q) e ∙ place-index_at h s.other s.within in omega (arith, z, s.before);
       same = s.same;
     }
 
 pub no_same : (l : List ActiveAxis) → ¬ (SameSum l) → SumsApart l
 no_same l n x y bx by e =
-    let p : ¬ (place (lengths l) x < place (lengths l) y) = λ h. n (record { one = place (lengths l) x; other = place (lengths l) y; before = h; within = place-lt by; same = digitSum bx ∙ e ∙ sym (digitSum by) }) in
-    let q : ¬ (place (lengths l) y < place (lengths l) x) = λ h. n (record { one = place (lengths l) y; other = place (lengths l) x; before = h; within = place-lt bx; same = digitSum by ∙ sym e ∙ sym (digitSum bx) }) in
+    let p : ¬ (place (lengths l) x < place (lengths l) y) = λ h. n (record { one = place (lengths l) x; other = place (lengths l) y; before = h; within = place-lt by; same = digit_sum bx ∙ e ∙ sym (digit_sum by) }) in
+    let q : ¬ (place (lengths l) y < place (lengths l) x) = λ h. n (record { one = place (lengths l) y; other = place (lengths l) x; before = h; within = place-lt bx; same = digit_sum by ∙ sym e ∙ sym (digit_sum bx) }) in
     place-inj bx by (omega arith)
   where
-    digitSum : {x : List ℕ} → IndexVector (lengths l) x → reach l (index_at (lengths l) (place (lengths l) x)) ≡ reach l x
-    digitSum b = ap (λ (z : List ℕ). reach l z) (indexAt-place b)
+    digit_sum : {x : List ℕ} → IndexVector (lengths l) x → reach l (index_at (lengths l) (place (lengths l) x)) ≡ reach l x
+    digit_sum b = ap (λ (z : List ℕ). reach l z) (index_at-place b)

@@ -27,4 +27,4 @@ step-to-end bytes h = rw (faulty h) (sym (drop-length bytes))
     faulty (inr (inr h)) = rw (lt-ltb (length bytes) (length_field bytes) h) (or-true (ltb (length bytes) 2 || ltb (length_field bytes) 13))
 
 pub stepping_claims : SteppingClaims
-stepping_claims = record { over = step-over; at-end = step-to-end }
+stepping_claims = record { over = step-over; at_end = step-to-end }

@@ -1,5 +1,6 @@
 -- Sums over a list of numbers, and over a range of them.
-use Rattle.std.specs.Prelude.{if◌then◌else◌}
+use Rattle.std.specs.List.{range_with_len}
+use Rattle.std.specs.Prelude.{if◌then◌else◌, filter}
 use mathlib.Core.Path.{◌≡◌, refl, sym, ap, ap₂, subst, ◌∙◌}
 use mathlib.Core.Bool.{Bool, true, false}
 use mathlib.Core.List.{List, [], ◌∷◌}
@@ -7,7 +8,6 @@ use Prim.Native.Nat.{ℕ, zero, suc, ◌+◌, ◌*◌, ◌<◌, ◌≤◌}
 use native.Mathlib.Decide.{ℕ_discrete}
 use native.Mathlib.Omega.{arith}
 use lib.Dec.{T}
-use Rattle.specification.specs.Tests.{those, up_from}
 use Rattle.std.proofs.lemmas.Int.{ints}
 
 -- the sum of f over the entries
@@ -39,29 +39,29 @@ unfolding sum_of
 sum-swap h [] m = sym (sum-zero m)
 sum-swap h (k ∷ r) m = ap (λ (z : ℕ). sum_of (h k) m + z) (sum-swap h r m) ∙ sym (sum-add (h k) (λ a. sum_of (λ k'. h k' a) r) m)
 
-pub sum-those : (test : ℕ → Bool) (f : ℕ → ℕ) (l : List ℕ) → sum_of f (those test l) ≡ sum_of (λ a. if test a then f a else 0) l
-unfolding sum_of those
-sum-those test f [] = refl
-sum-those test f (a ∷ r) = go (test a) (sum-those test f r)
+pub sum-filter : (test : ℕ → Bool) (f : ℕ → ℕ) (l : List ℕ) → sum_of f (filter test l) ≡ sum_of (λ a. if test a then f a else 0) l
+unfolding sum_of
+sum-filter test f [] = refl
+sum-filter test f (a ∷ r) = go (test a) (sum-filter test f r)
   where
-    go : (t : Bool) → sum_of f (those test r) ≡ sum_of (λ a. if test a then f a else 0) r → sum_of f (if t then a ∷ those test r else those test r) ≡ (if t then f a else 0) + sum_of (λ a. if test a then f a else 0) r
+    go : (t : Bool) → sum_of f (filter test r) ≡ sum_of (λ a. if test a then f a else 0) r → sum_of f (if t then a ∷ filter test r else filter test r) ≡ (if t then f a else 0) + sum_of (λ a. if test a then f a else 0) r
     go true e = omega (arith, e)
     go false e = omega (arith, e)
 
 -- one number of a range passes
-sum-none : (test : ℕ → Bool) (c i n : ℕ) → ((k : ℕ) → i ≤ k → k < i + n → test k ≡ false) → sum_of (λ k. if test k then c else 0) (up_from i n) ≡ 0
-unfolding sum_of up_from
+sum-none : (test : ℕ → Bool) (c i n : ℕ) → ((k : ℕ) → i ≤ k → k < i + n → test k ≡ false) → sum_of (λ k. if test k then c else 0) (range_with_len i n) ≡ 0
+unfolding sum_of
 sum-none test c i zero f = refl
-sum-none test c i (suc n) f = go (test i) (f i (omega arith) (omega arith)) (sum-none test c (suc i) n (λ k h l. f k (omega arith) (omega arith)))
+sum-none test c i (suc n) f = go (test i) (f i (omega arith) (omega arith)) (sum-none test c (i + 1) n (λ k h l. f k (omega arith) (omega arith)))
   where
-    go : (t : Bool) → t ≡ false → sum_of (λ k. if test k then c else 0) (up_from (suc i) n) ≡ 0 → (if t then c else 0) + sum_of (λ k. if test k then c else 0) (up_from (suc i) n) ≡ 0
+    go : (t : Bool) → t ≡ false → sum_of (λ k. if test k then c else 0) (range_with_len (i + 1) n) ≡ 0 → (if t then c else 0) + sum_of (λ k. if test k then c else 0) (range_with_len (i + 1) n) ≡ 0
     go true e z = absurd (subst T e tt)
     go false e z = omega (arith, z)
 
-pub sum_one : (test : ℕ → Bool) (c p i n : ℕ) → i ≤ p → p < i + n → test p ≡ true → ((k : ℕ) → i ≤ k → k < i + n → test k ≡ true → k ≡ p) → sum_of (λ k. if test k then c else 0) (up_from i n) ≡ c
-unfolding sum_of up_from
+pub sum_one : (test : ℕ → Bool) (c p i n : ℕ) → i ≤ p → p < i + n → test p ≡ true → ((k : ℕ) → i ≤ k → k < i + n → test k ≡ true → k ≡ p) → sum_of (λ k. if test k then c else 0) (range_with_len i n) ≡ c
+unfolding sum_of
 sum_one test c p i zero h l e f = absurd (omega arith)
-sum_one test c p i (suc n) h l e f = go (ℕ_discrete i p) (λ q. sum_one test c p (suc i) n q (omega arith) e (λ k a b. f k (omega arith) (omega arith)))
+sum_one test c p i (suc n) h l e f = go (ℕ_discrete i p) (λ q. sum_one test c p (i + 1) n q (omega arith) e (λ k a b. f k (omega arith) (omega arith)))
   where
     off : (k : ℕ) → i ≤ k → k < suc (i + n) → ¬ (k ≡ p) → test k ≡ false
     off k a b ne = pick (test k) (f k a (omega arith))
@@ -70,19 +70,19 @@ sum_one test c p i (suc n) h l e f = go (ℕ_discrete i p) (λ q. sum_one test c
         pick true q = absurd (ne (q refl))
         pick false q = refl
 
-    here : (t : Bool) → t ≡ true → sum_of (λ k. if test k then c else 0) (up_from (suc i) n) ≡ 0 → (if t then c else 0) + sum_of (λ k. if test k then c else 0) (up_from (suc i) n) ≡ c
+    here : (t : Bool) → t ≡ true → sum_of (λ k. if test k then c else 0) (range_with_len (i + 1) n) ≡ 0 → (if t then c else 0) + sum_of (λ k. if test k then c else 0) (range_with_len (i + 1) n) ≡ c
     here true q z = omega (arith, z)
     here false q z = absurd (subst T (sym q) tt)
 
-    there : (t : Bool) → t ≡ false → sum_of (λ k. if test k then c else 0) (up_from (suc i) n) ≡ c → (if t then c else 0) + sum_of (λ k. if test k then c else 0) (up_from (suc i) n) ≡ c
+    there : (t : Bool) → t ≡ false → sum_of (λ k. if test k then c else 0) (range_with_len (i + 1) n) ≡ c → (if t then c else 0) + sum_of (λ k. if test k then c else 0) (range_with_len (i + 1) n) ≡ c
     there true q z = absurd (subst T q tt)
     there false q z = omega (arith, z)
 
-    go : Dec (i ≡ p) → (suc i ≤ p → sum_of (λ k. if test k then c else 0) (up_from (suc i) n) ≡ c) → (if test i then c else 0) + sum_of (λ k. if test k then c else 0) (up_from (suc i) n) ≡ c
-    go (yes q) ih = here (test i) (rw q e) (sum-none test c (suc i) n (λ k a b. off k (omega arith) (omega arith) (λ z. omega arith)))
+    go : Dec (i ≡ p) → (i + 1 ≤ p → sum_of (λ k. if test k then c else 0) (range_with_len (i + 1) n) ≡ c) → (if test i then c else 0) + sum_of (λ k. if test k then c else 0) (range_with_len (i + 1) n) ≡ c
+    go (yes q) ih = here (test i) (rw q e) (sum-none test c (i + 1) n (λ k a b. off k (omega arith) (omega arith) (λ z. omega arith)))
     go (no q) ih = there (test i) (off i (omega arith) (omega arith) q) (ih (omega arith))
 
-pub sum-range : (f g : ℕ → ℕ) (i n : ℕ) → ((a : ℕ) → i ≤ a → a < i + n → f a ≡ g a) → sum_of f (up_from i n) ≡ sum_of g (up_from i n)
-unfolding sum_of up_from
+pub sum-range : (f g : ℕ → ℕ) (i n : ℕ) → ((a : ℕ) → i ≤ a → a < i + n → f a ≡ g a) → sum_of f (range_with_len i n) ≡ sum_of g (range_with_len i n)
+unfolding sum_of
 sum-range f g i zero e = refl
-sum-range f g i (suc n) e = ap₂ (λ (x y : ℕ). x + y) (e i (omega arith) (omega arith)) (sum-range f g (suc i) n (λ a h l. e a (omega arith) (omega arith)))
+sum-range f g i (suc n) e = ap₂ (λ (x y : ℕ). x + y) (e i (omega arith) (omega arith)) (sum-range f g (i + 1) n (λ a h l. e a (omega arith) (omega arith)))

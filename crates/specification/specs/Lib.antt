@@ -26,5 +26,5 @@ pub mod BlockClaims
 pub mod RecordClaims
 pub mod BesideClaims
 pub mod RecordsAgree
-pub mod Starred
+pub mod WorkedExamples
 pub mod Cases

@@ -1,19 +1,20 @@
 -- Claims on the normal form: the same offsets, canonical, and reached by every order of dropping and merging.
+-- RULES, "The normal form".
 use Rattle.std.specs.Prelude.{false, List, ◌∷◌, ◌↔◌, ◌≡◌, ℕ, ◌<◌}
 use Rattle.integer.specs.Multiple.{◌·◌}
 use Rattle.specification.specs.Axis.{Axis, positions, is_empty}
-use Rattle.specification.specs.Layout.{LayoutM, offsetAt}
-use Rattle.specification.specs.Normal.{both, normalAxes, normalOf}
+use Rattle.specification.specs.Layout.{LayoutModel, offset_at}
+use Rattle.specification.specs.Normal.{both, normal_axes, normal_of}
 
 -- as many positions, and the same offset at each position
-pub record SameOffsets (x y : LayoutM) : Type 0 where
+pub record SameOffsets (x y : LayoutModel) : Type 0 where
   pub as_many : positions x.axes ≡ positions y.axes
-  pub alike : (k : ℕ) → k < positions x.axes → offsetAt x k ≡ offsetAt y k
+  pub alike : (k : ℕ) → k < positions x.axes → offset_at x k ≡ offset_at y k
 
 -- equal but for the buffer length
-pub record SameForm (x y : LayoutM) : Type 0 where
-  pub same-offset : x.offset ≡ y.offset
-  pub same-axes : x.axes ≡ y.axes
+pub record SameForm (x y : LayoutModel) : Type 0 where
+  pub same_offset : x.offset ≡ y.offset
+  pub same_axes : x.axes ≡ y.axes
 
 -- one step of making normal, anywhere: an axis of extent 1 is dropped, or two neighbours are merged
 pub data Step : List Axis → List Axis → Type 0 where
@@ -28,10 +29,10 @@ pub data Steps : List Axis → List Axis → Type 0 where
 
 -- the normal form has the same offsets, is canonical, and does not depend on the order of merging
 pub record NormalClaims : Type 0 where
-  pub same : (l : LayoutM) → SameOffsets (normalOf l) l
+  pub same : (l : LayoutModel) → SameOffsets (normal_of l) l
   -- the buffer length stays, also when empty
-  pub same-buffer : (l : LayoutM) → (normalOf l).buffer ≡ l.buffer
+  pub same_buffer : (l : LayoutModel) → (normal_of l).buffer ≡ l.buffer
   -- canonical: equal normal forms exactly for equal offsets
-  pub canonical : (x y : LayoutM) → SameForm (normalOf x) (normalOf y) ↔ SameOffsets x y
+  pub canonical : (x y : LayoutModel) → SameForm (normal_of x) (normal_of y) ↔ SameOffsets x y
   -- any order of dropping and merging that cannot go on ends there
-  pub any_order : (l m : List Axis) → is_empty l ≡ false → Steps l m → m ≡ normalAxes l
+  pub any_order : (l m : List Axis) → is_empty l ≡ false → Steps l m → m ≡ normal_axes l

@@ -2,7 +2,7 @@
 ghost use Rattle.std.specs.Prelude.{◌≡◌};
 ghost use Rattle.std.specs.Char.{is_ascii_digit};
 ghost use Rattle.std.specs.List.{list_all};
-ghost use Rattle.spelling.specs.Number.{unsignedOf, signed_of};
+ghost use Rattle.spelling.specs.Number.{unsigned_of, signed_of};
 
 // The sign in front of a negative number.
 const MINUS: u8 = b'-';
@@ -15,9 +15,9 @@ fn are_digits(text: &[u8]) -> bool
 }
 
 /// The number that the bytes spell, where they are digits, at least one, and a u64 holds it.
-#[tactic(auto, using(crate::proofs::NumberLaws::spelled_on, crate::proofs::NumberLaws::spelled_end, crate::proofs::NumberLaws::unsigned_over), unfolding(crate::specs::Number::unsignedOf))]
+#[tactic(auto, using(crate::proofs::NumberLaws::spelled_on, crate::proofs::NumberLaws::spelled_end, crate::proofs::NumberLaws::unsigned_over), unfolding(crate::specs::Number::unsigned_of))]
 pub fn read_unsigned(text: &[u8]) -> Option<u64>
-    ensures { result ≡ unsignedOf text.now }
+    ensures { result ≡ unsigned_of text.now }
 {
     if text.is_empty() || !are_digits(text) {
         return None;

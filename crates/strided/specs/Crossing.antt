@@ -1,7 +1,7 @@
--- What crosses to C: an outcome's number and values, and what lent memory holds after the call.
+-- What crosses to C (RULES, "The border to C"): an outcome's number and values, and what lent memory holds after the call.
 use Rattle.std.specs.Prelude.{List, [], ◌∷◌, ◌++◌, ℕ, nat_le, ℤ, length, drop, if◌then◌else◌}
 use Rattle.specification.specs.Outcome.{Outcome, done, refused}
-use Rattle.specification.specs.Record.{verdictByte}
+use Rattle.specification.specs.Record.{verdict_byte}
 use Rattle.injectivity.specs.Judgement.{Told}
 use Rattle.strided.specs.declared.crossing.Values.{Values}
 use Rattle.strided.specs.declared.crossing.Found.{Found}
@@ -37,7 +37,7 @@ front_after (refused number values) before = before
 
 -- the verdict's number (1 Distinct, 2 Repeated, 3 Undecided) and count; on a refusal what was there
 abbrev pub found_after : Outcome Told → Found → Found
-found_after (done j) before = record { verdict = verdictByte j.answer; count = j.count }
+found_after (done j) before = record { verdict = verdict_byte j.answer; count = j.count }
 found_after (refused number values) before = before
 
 -- dense strides into an array of this length: 255, where it is shorter than the extents; then what

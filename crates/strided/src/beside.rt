@@ -1,10 +1,10 @@
 //! The bounds alone, offsets of index vectors, the order of strides, dense strides.
 ghost use Rattle.std.specs.Prelude.{◌≡◌, ◌≤◌, nat_le, length};
 ghost use Rattle.std.specs.Result.{ForOk};
-ghost use Rattle.specification.specs.CheckIn.{checkIn};
-ghost use Rattle.specification.specs.Beside.{indexedOffset, indexOrder, orderAfter, colMajor, rowMajor};
-ghost use Rattle.view.specs.Answers.{outcomeOf};
-ghost use Rattle.view.specs.Model.{modelOf};
+ghost use Rattle.specification.specs.CheckIn.{check_in};
+ghost use Rattle.specification.specs.Beside.{indexed_offset, index_order, order_after, col_major, row_major};
+ghost use Rattle.view.specs.Answers.{outcome_of};
+ghost use Rattle.view.specs.Model.{model_of};
 ghost use Rattle.strided.specs.Crossing.{number_after, places, values_after, result_after, front_after, dense_into};
 
 use crate::crossing::{Values, answer_number, refuse};
@@ -27,7 +27,7 @@ pub extern "C" fn strided_validate_bounds(
     extents: &[u64],
     strides: &[i64],
 ) -> u8
-    ensures { result ≡ number_after (checkIn len offset extents.now strides.now) }
+    ensures { result ≡ number_after (check_in len offset extents.now strides.now) }
 {
     answer_number(validate_bounds(len, ReadingOffset(offset), extents, strides))
 }
@@ -45,11 +45,11 @@ pub extern "C" fn strided_indexed_offset(
     offset: &mut ReadingOffset,
     values: &mut Values,
 ) -> u8
-    ensures answer { result ≡ number_after (indexedOffset (modelOf layout.now) index.now) }
+    ensures answer { result ≡ number_after (indexed_offset (model_of layout.now) index.now) }
     ensures offset { offset.new.0 ≡
-        result_after (indexedOffset (modelOf layout.now) index.now) offset.old.0 }
+        result_after (indexed_offset (model_of layout.now) index.now) offset.old.0 }
     ensures values { places values.new ≡
-        values_after (indexedOffset (modelOf layout.now) index.now) values.old }
+        values_after (indexed_offset (model_of layout.now) index.now) values.old }
 {
     match layout.indexed_offset(index) {
         Ok(at) => {
@@ -66,8 +66,8 @@ pub extern "C" fn strided_indexed_offset(
 /// was.
 #[unsafe(no_mangle)]
 pub extern "C" fn strided_index_order(strides: &[i64], out: &mut [usize]) -> u8
-    ensures answer { result ≡ number_after (indexOrder strides.now (length out.old)) }
-    ensures output { out.new ≡ orderAfter (indexOrder strides.now (length out.old)) out.old }
+    ensures answer { result ≡ number_after (index_order strides.now (length out.old)) }
+    ensures output { out.new ≡ order_after (index_order strides.now (length out.old)) out.old }
 {
     answer_number(index_order_into(strides, out))
 }
@@ -82,8 +82,8 @@ fn has_room(strides: &[i64], extents: &[u64]) -> bool
 /// The strides into the first places; on a refusal its number.
 fn answer_dense(dense: Result<DenseStrides, Refusal>, strides: &mut [i64]) -> u8
     requires room { ForOk dense (λ front. length front ≤ length strides.old) }
-    ensures answer { result ≡ number_after (outcomeOf dense) }
-    ensures strides { strides.new ≡ front_after (outcomeOf dense) strides.old }
+    ensures answer { result ≡ number_after (outcome_of dense) }
+    ensures strides { strides.new ≡ front_after (outcome_of dense) strides.old }
 {
     match dense {
         Err(why) => why.number(),
@@ -103,9 +103,9 @@ fn answer_dense(dense: Result<DenseStrides, Refusal>, strides: &mut [i64]) -> u8
 #[unsafe(no_mangle)]
 pub extern "C" fn strided_column_strides(extents: &[u64], strides: &mut [i64]) -> u8
     ensures answer { result ≡
-        number_after (dense_into colMajor extents.now (length strides.old)) }
+        number_after (dense_into col_major extents.now (length strides.old)) }
     ensures strides { strides.new ≡
-        front_after (dense_into colMajor extents.now (length strides.old)) strides.old }
+        front_after (dense_into col_major extents.now (length strides.old)) strides.old }
 {
     if !has_room(strides, extents) {
         return SHORT_BUFFER;
@@ -121,9 +121,9 @@ pub extern "C" fn strided_column_strides(extents: &[u64], strides: &mut [i64]) -
 #[unsafe(no_mangle)]
 pub extern "C" fn strided_row_strides(extents: &[u64], strides: &mut [i64]) -> u8
     ensures answer { result ≡
-        number_after (dense_into rowMajor extents.now (length strides.old)) }
+        number_after (dense_into row_major extents.now (length strides.old)) }
     ensures strides { strides.new ≡
-        front_after (dense_into rowMajor extents.now (length strides.old)) strides.old }
+        front_after (dense_into row_major extents.now (length strides.old)) strides.old }
 {
     if !has_room(strides, extents) {
         return SHORT_BUFFER;

@@ -1,6 +1,6 @@
 //! The two structs that are C's own, and an answer as its number and values.
 ghost use Rattle.std.specs.Prelude.{◌≡◌, ◌++◌, length, drop};
-ghost use Rattle.view.specs.Answers.{number_of, values_of, outcomeOf};
+ghost use Rattle.view.specs.Answers.{number_of, values_of, outcome_of};
 ghost use Rattle.strided.specs.Crossing.{number_after, places};
 
 use view::layout::Refusal;
@@ -42,7 +42,7 @@ pub(crate) fn refuse(why: Refusal, values: &mut Values) -> u8
 
 /// The number of an answer that has no values: 0, or that of the refusal.
 pub(crate) fn answer_number(answer: Result<(), Refusal>) -> u8
-    ensures { result ≡ number_after (outcomeOf answer) }
+    ensures { result ≡ number_after (outcome_of answer) }
 {
     match answer {
         Ok(()) => 0,

@@ -1,10 +1,10 @@
 //! The record: written, read and stepped over.
 ghost use Rattle.std.specs.Prelude.{◌≡◌, ◌≢◌, ◌≤◌, length, drop};
 ghost use Rattle.specification.specs.Verdict.{ScratchAfter};
-ghost use Rattle.specification.specs.Record.{written, writeAnswer, writeFrees, outputAfter, read_of, readFrees, rest_of};
-ghost use Rattle.view.specs.Model.{modelOf};
+ghost use Rattle.specification.specs.Record.{written, write_answer, write_frees, output_after, read_of, read_frees, rest_of};
+ghost use Rattle.view.specs.Model.{model_of};
 ghost use Rattle.record.specs.Reading.{layout_read};
-ghost use Rattle.record.specs.Writer.{wroteOf};
+ghost use Rattle.record.specs.Writer.{wrote_of};
 ghost use Rattle.strided.specs.Crossing.{number_after, places, values_after, written_after, result_after};
 
 use crate::crossing::{Values, refuse};
@@ -16,8 +16,8 @@ use view::layout::{Layout, Refusal};
 
 /// The bytes written in the first place, or the refusal.
 fn answer_wrote(wrote: Result<BytePlace, Refusal>, values: &mut Values) -> u8
-    ensures answer { result ≡ number_after (wroteOf wrote) }
-    ensures values { places values.new ≡ written_after (wroteOf wrote) values.old }
+    ensures answer { result ≡ number_after (wrote_of wrote) }
+    ensures values { places values.new ≡ written_after (wrote_of wrote) values.old }
 {
     match wrote {
         Ok(place) => {
@@ -43,14 +43,14 @@ pub extern "C" fn strided_write(
     values: &mut Values,
 ) -> u8
     ensures answer { result ≡ number_after
-        (writeAnswer (written (modelOf layout.now) (length out.old) (length scratch.old))) }
-    ensures output { out.new ≡ outputAfter
-        (written (modelOf layout.now) (length out.old) (length scratch.old)) out.old }
-    ensures scratch { ScratchAfter (writeFrees
-        (written (modelOf layout.now) (length out.old) (length scratch.old)))
+        (write_answer (written (model_of layout.now) (length out.old) (length scratch.old))) }
+    ensures output { out.new ≡ output_after
+        (written (model_of layout.now) (length out.old) (length scratch.old)) out.old }
+    ensures scratch { ScratchAfter (write_frees
+        (written (model_of layout.now) (length out.old) (length scratch.old)))
         scratch.old scratch.new }
     ensures values { places values.new ≡ written_after
-        (writeAnswer (written (modelOf layout.now) (length out.old) (length scratch.old)))
+        (write_answer (written (model_of layout.now) (length out.old) (length scratch.old)))
         values.old }
 {
     answer_wrote(write_record(layout, out, scratch), values)
@@ -72,11 +72,11 @@ pub extern "C" fn strided_read(
 ) -> u8
     ensures answer { result ≡
         number_after (layout_read (read_of bytes.now (length scratch.old))) }
-    ensures layout { modelOf layout.new ≡ result_after
-        (layout_read (read_of bytes.now (length scratch.old))) (modelOf layout.old) }
+    ensures layout { model_of layout.new ≡ result_after
+        (layout_read (read_of bytes.now (length scratch.old))) (model_of layout.old) }
     ensures kept { result ≢ 0 → layout.new ≡ layout.old }
     ensures scratch { ScratchAfter
-        (readFrees bytes.now (length scratch.old)) scratch.old scratch.new }
+        (read_frees bytes.now (length scratch.old)) scratch.old scratch.new }
     ensures values { places values.new ≡ values_after
         (layout_read (read_of bytes.now (length scratch.old))) values.old }
 {

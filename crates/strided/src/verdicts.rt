@@ -1,8 +1,8 @@
 //! The verdict.
 ghost use Rattle.std.specs.Prelude.{◌≡◌, length};
 ghost use Rattle.specification.specs.Axis.{extents, strides};
-ghost use Rattle.specification.specs.Verdict.{verdict, freedBy, ScratchAfter};
-ghost use Rattle.injectivity.specs.Judgement.{judgedOf, toldOf};
+ghost use Rattle.specification.specs.Verdict.{verdict, freed_by, ScratchAfter};
+ghost use Rattle.injectivity.specs.Judgement.{judged_of, told_of};
 ghost use Rattle.strided.specs.Crossing.{number_after, places, values_after, found_after};
 
 use crate::crossing::{Found, Values, refuse};
@@ -16,9 +16,9 @@ fn answer_judgement(
     found: &mut Found,
     values: &mut Values,
 ) -> u8
-    ensures answer { result ≡ number_after (judgedOf judged) }
-    ensures found { found.new ≡ found_after (judgedOf judged) found.old }
-    ensures values { places values.new ≡ values_after (judgedOf judged) values.old }
+    ensures answer { result ≡ number_after (judged_of judged) }
+    ensures found { found.new ≡ found_after (judged_of judged) found.old }
+    ensures values { places values.new ≡ values_after (judged_of judged) values.old }
 {
     match judged {
         Ok(judgement) => {
@@ -47,14 +47,14 @@ pub extern "C" fn strided_is_injective(
     values: &mut Values,
 ) -> u8
     ensures answer { result ≡ number_after
-        (toldOf (verdict (extents axes.now) (strides axes.now) (length scratch.old))) }
+        (told_of (verdict (extents axes.now) (strides axes.now) (length scratch.old))) }
     ensures found { found.new ≡ found_after
-        (toldOf (verdict (extents axes.now) (strides axes.now) (length scratch.old))) found.old }
+        (told_of (verdict (extents axes.now) (strides axes.now) (length scratch.old))) found.old }
     ensures scratch { ScratchAfter
-        (freedBy (verdict (extents axes.now) (strides axes.now) (length scratch.old)))
+        (freed_by (verdict (extents axes.now) (strides axes.now) (length scratch.old)))
         scratch.old scratch.new }
     ensures values { places values.new ≡ values_after
-        (toldOf (verdict (extents axes.now) (strides axes.now) (length scratch.old))) values.old }
+        (told_of (verdict (extents axes.now) (strides axes.now) (length scratch.old))) values.old }
 {
     answer_judgement(is_injective_axes(axes, scratch), found, values)
 }

@@ -1,10 +1,10 @@
 //! Check-in, the views and the normal form, in the layout that is lent.
 ghost use Rattle.std.specs.Prelude.{◌≡◌, ◌≢◌, drop};
-ghost use Rattle.specification.specs.CheckIn.{checkIn};
-ghost use Rattle.specification.specs.Normal.{normalForm};
-ghost use Rattle.specification.specs.Views.{permute, pairsOf, diagonalView, broadcast};
-ghost use Rattle.view.specs.Answers.{outcomeOf};
-ghost use Rattle.view.specs.Model.{modelOf, checked_into};
+ghost use Rattle.specification.specs.CheckIn.{check_in};
+ghost use Rattle.specification.specs.Normal.{normal_form};
+ghost use Rattle.specification.specs.Views.{permute, pairs_of, diagonal_view, broadcast};
+ghost use Rattle.view.specs.Answers.{outcome_of};
+ghost use Rattle.view.specs.Model.{model_of, checked_into};
 ghost use Rattle.strided.specs.Crossing.{number_after, places, values_after, result_after};
 
 use crate::crossing::{Values, answer_number, refuse};
@@ -13,8 +13,8 @@ use view::layout::{Layout, Refusal};
 
 /// The number of a view's answer: 0, or that of the refusal with its values in the first places.
 fn answer_view(answer: Result<(), Refusal>, values: &mut Values) -> u8
-    ensures answer { result ≡ number_after (outcomeOf answer) }
-    ensures values { places values.new ≡ values_after (outcomeOf answer) values.old }
+    ensures answer { result ≡ number_after (outcome_of answer) }
+    ensures values { places values.new ≡ values_after (outcome_of answer) values.old }
 {
     match answer {
         Ok(()) => 0,
@@ -31,9 +31,9 @@ fn answer_view(answer: Result<(), Refusal>, values: &mut Values) -> u8
 #[unsafe(no_mangle)]
 pub extern "C" fn strided_new(layout: &mut Layout, extents: &[u64], strides: &[i64]) -> u8
     ensures answer { result ≡ number_after
-        (checkIn layout.old.len layout.old.offset.0 extents.now strides.now) }
-    ensures layout { modelOf layout.new ≡ (checked_into (modelOf layout.old)
-        (checkIn layout.old.len layout.old.offset.0 extents.now strides.now)).layout }
+        (check_in layout.old.len layout.old.offset.0 extents.now strides.now) }
+    ensures layout { model_of layout.new ≡ (checked_into (model_of layout.old)
+        (check_in layout.old.len layout.old.offset.0 extents.now strides.now)).layout }
     ensures kept { result ≢ 0 → layout.new ≡ layout.old }
     ensures past { drop layout.new.rank layout.new.axes ≡ drop layout.new.rank layout.old.axes }
 {
@@ -48,12 +48,12 @@ pub extern "C" fn strided_new(layout: &mut Layout, extents: &[u64], strides: &[i
 /// stand in the first places of `values`; other places stay. Places past the rank always stay.
 #[unsafe(no_mangle)]
 pub extern "C" fn strided_permute(layout: &mut Layout, order: &[usize], values: &mut Values) -> u8
-    ensures answer { result ≡ number_after (permute (modelOf layout.old) order.now).answer }
-    ensures layout { modelOf layout.new ≡ (permute (modelOf layout.old) order.now).layout }
+    ensures answer { result ≡ number_after (permute (model_of layout.old) order.now).answer }
+    ensures layout { model_of layout.new ≡ (permute (model_of layout.old) order.now).layout }
     ensures kept { result ≢ 0 → layout.new ≡ layout.old }
     ensures past { drop layout.new.rank layout.new.axes ≡ drop layout.new.rank layout.old.axes }
     ensures values { places values.new ≡
-        values_after (permute (modelOf layout.old) order.now).answer values.old }
+        values_after (permute (model_of layout.old) order.now).answer values.old }
 {
     answer_view(layout.permute_in_place(order), values)
 }
@@ -73,13 +73,13 @@ pub extern "C" fn strided_diagonal_view(
     values: &mut Values,
 ) -> u8
     ensures answer { result ≡
-        number_after (diagonalView (modelOf layout.old) (pairsOf pairs.now)).answer }
-    ensures layout { modelOf layout.new ≡
-        (diagonalView (modelOf layout.old) (pairsOf pairs.now)).layout }
+        number_after (diagonal_view (model_of layout.old) (pairs_of pairs.now)).answer }
+    ensures layout { model_of layout.new ≡
+        (diagonal_view (model_of layout.old) (pairs_of pairs.now)).layout }
     ensures kept { result ≢ 0 → layout.new ≡ layout.old }
     ensures past { drop layout.new.rank layout.new.axes ≡ drop layout.new.rank layout.old.axes }
     ensures values { places values.new ≡
-        values_after (diagonalView (modelOf layout.old) (pairsOf pairs.now)).answer values.old }
+        values_after (diagonal_view (model_of layout.old) (pairs_of pairs.now)).answer values.old }
 {
     answer_view(layout.diagonal_by_numbers(pairs), values)
 }
@@ -93,12 +93,12 @@ pub extern "C" fn strided_diagonal_view(
 /// `values`; other places stay. Places past the rank always stay.
 #[unsafe(no_mangle)]
 pub extern "C" fn strided_broadcast(layout: &mut Layout, targets: &[u64], values: &mut Values) -> u8
-    ensures answer { result ≡ number_after (broadcast (modelOf layout.old) targets.now).answer }
-    ensures layout { modelOf layout.new ≡ (broadcast (modelOf layout.old) targets.now).layout }
+    ensures answer { result ≡ number_after (broadcast (model_of layout.old) targets.now).answer }
+    ensures layout { model_of layout.new ≡ (broadcast (model_of layout.old) targets.now).layout }
     ensures kept { result ≢ 0 → layout.new ≡ layout.old }
     ensures past { drop layout.new.rank layout.new.axes ≡ drop layout.new.rank layout.old.axes }
     ensures values { places values.new ≡
-        values_after (broadcast (modelOf layout.old) targets.now).answer values.old }
+        values_after (broadcast (model_of layout.old) targets.now).answer values.old }
 {
     answer_view(layout.broadcast_in_place(targets), values)
 }
@@ -110,9 +110,9 @@ pub extern "C" fn strided_broadcast(layout: &mut Layout, targets: &[u64], values
 /// After a refusal the layout is as it was.
 #[unsafe(no_mangle)]
 pub extern "C" fn strided_normal_form(layout: &mut Layout) -> u8
-    ensures answer { result ≡ number_after (normalForm (modelOf layout.old)) }
-    ensures layout { modelOf layout.new ≡
-        result_after (normalForm (modelOf layout.old)) (modelOf layout.old) }
+    ensures answer { result ≡ number_after (normal_form (model_of layout.old)) }
+    ensures layout { model_of layout.new ≡
+        result_after (normal_form (model_of layout.old)) (model_of layout.old) }
     ensures kept { result ≢ 0 → layout.new ≡ layout.old }
 {
     match normal_form(layout) {

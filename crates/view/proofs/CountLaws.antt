@@ -1,4 +1,5 @@
 -- A product of extents, factor by factor, and what it says of the number of positions.
+use Rattle.std.specs.List.{list_any}
 use Rattle.std.specs.Prelude.{Err, Ok, Result}
 use mathlib.Core.Path.{◌≡◌, refl, sym, ap, subst, ◌∙◌}
 use mathlib.Core.Bool.{Bool, true, false, not, and-false}
@@ -12,15 +13,14 @@ use lib.ListN.{length, drop, get_or, drop_of_length-le}
 use lib.Seq.{drop-cons}
 use Rattle.std.proofs.lemmas.List.{length-map, get_or-map}
 use borrow.Author.Tests.{lt-ltb, le-ltb}
-use Rattle.integer.specs.Range.{mostUnsigned}
-use Rattle.specification.specs.Tests.{some}
-use Rattle.specification.specs.Outcome.{Check, done, refused, refuseIf, ◌>>◌}
+use Rattle.integer.specs.Range.{most_unsigned}
+use Rattle.specification.specs.Outcome.{Check, done, refused, refuse_if, ◌>>◌}
 use Rattle.specification.specs.Axis.{Axis, extents, product, positions, is_empty}
-use Rattle.specification.specs.Beside.{zeroAmong}
+use Rattle.specification.specs.Beside.{zero_among}
 use Rattle.specification.specs.Normal.{overfull}
-use Rattle.specification.specs.Views.{axisAt}
-use Rattle.view.specs.Answers.{number_of, values_of, outcomeOf}
-use Rattle.view.specs.Count.{elementCount, count_of}
+use Rattle.specification.specs.Views.{axis_at}
+use Rattle.view.specs.Answers.{number_of, values_of, outcome_of}
+use Rattle.view.specs.Count.{element_count, count_of}
 use Rattle.view.specs.declared.layout.Refusal.{Refusal}
 use Rattle.std.proofs.lemmas.Int.{ints}
 
@@ -39,13 +39,13 @@ pub product-turn : (es : List ℕ) (i count : ℕ) → i < length es → count *
     → (count * get_or es i 0) * product (drop (i + 1) es) ≡ product es
 product-turn es i count h e = mul_assoc count (get_or es i 0) (product (drop (i + 1) es)) ∙ ap (λ (n : ℕ). count * n) (sym (product-drop es i h)) ∙ e
 
-product-zero : (es : List ℕ) → zeroAmong es ≡ true → product es ≡ 0
-unfolding product some
+product-zero : (es : List ℕ) → zero_among es ≡ true → product es ≡ 0
+unfolding product
 product-zero [] e = absurd (subst T (sym e) tt)
 product-zero (n ∷ es) e = let rest = product-zero es in grind (arith, ints, zero-mul, mul-zero)
 
-pub product-above : (es : List ℕ) → zeroAmong es ≡ false → 0 < product es
-unfolding product some
+pub product-above : (es : List ℕ) → zero_among es ≡ false → 0 < product es
+unfolding product
 product-above [] e = omega arith
 product-above (n ∷ es) e = let rest = product-above es in grind (arith, ints, mul-pos)
 
@@ -56,29 +56,29 @@ factor-below factor (suc rest) whole most e h k = omega (arith, mul-suc factor r
 
 -- ---- the number of positions
 
-pub empty_extents : (axes : List Axis) → is_empty axes ≡ zeroAmong (extents axes)
-unfolding is_empty some
+pub empty_extents : (axes : List Axis) → is_empty axes ≡ zero_among (extents axes)
+unfolding is_empty
 empty_extents [] = refl
 empty_extents (a ∷ rest) = rw (empty_extents rest)
 
 -- what the extents come to at each end of the count
 module _ (es : List ℕ) where
-  pub count-many : 16 < length es → elementCount es ≡ refused 1 []
-  unfolding elementCount refuseIf ◌>>◌
+  pub count-many : 16 < length es → element_count es ≡ refused 1 []
+  unfolding element_count refuse_if ◌>>◌
   count-many h = rw (lt-ltb 16 (length es) h)
 
   module _ (few : length es ≤ 16) where
-    pub count-empty : zeroAmong es ≡ true → elementCount es ≡ done 0
-    unfolding elementCount refuseIf ◌>>◌
+    pub count-empty : zero_among es ≡ true → element_count es ≡ done 0
+    unfolding element_count refuse_if ◌>>◌
     count-empty z = rw (le-ltb 16 (length es) few, z, product-zero es z)
 
-    pub count-within : product es ≤ mostUnsigned → elementCount es ≡ done (product es)
-    unfolding elementCount refuseIf ◌>>◌
-    count-within h = rw (le-ltb 16 (length es) few, le-ltb mostUnsigned (product es) h, and-false (not (zeroAmong es)))
+    pub count-within : product es ≤ most_unsigned → element_count es ≡ done (product es)
+    unfolding element_count refuse_if ◌>>◌
+    count-within h = rw (le-ltb 16 (length es) few, le-ltb most_unsigned (product es) h, and-false (not (zero_among es)))
 
-    pub count-over : zeroAmong es ≡ false → mostUnsigned < product es → elementCount es ≡ refused 8 []
-    unfolding elementCount refuseIf ◌>>◌
-    count-over z h = rw (le-ltb 16 (length es) few, z, lt-ltb mostUnsigned (product es) h)
+    pub count-over : zero_among es ≡ false → most_unsigned < product es → element_count es ≡ refused 8 []
+    unfolding element_count refuse_if ◌>>◌
+    count-over z h = rw (le-ltb 16 (length es) few, z, lt-ltb most_unsigned (product es) h)
 
 -- ---- the count of axes
 
@@ -87,25 +87,24 @@ length-extents [] = refl
 length-extents (a ∷ rest) = rw (length-extents rest)
 
 -- of at most 16 axes it is that of their extents, whatever the strides
-pub element-count-of-axes : (axes : List Axis) → length axes ≤ 16 → elementCount (extents axes) ≡ count_of axes
-unfolding elementCount count_of overfull refuseIf ◌>>◌
+pub element-count-of-axes : (axes : List Axis) → length axes ≤ 16 → element_count (extents axes) ≡ count_of axes
+unfolding element_count count_of overfull refuse_if ◌>>◌
 element-count-of-axes axes few = grind (arith, ints, length-extents axes, empty_extents axes)
 
 -- what an answer says of the axes
-module _ (axes : List Axis) {r : Result ℕ Refusal} (told : outcomeOf r ≡ count_of axes) where
+module _ (axes : List Axis) {r : Result ℕ Refusal} (told : outcome_of r ≡ count_of axes) where
   pub counted-refused : {why : Refusal} → r ≡ Err why → (overfull axes ≡ true) × (◌≡◌ {A = Check} (refused (number_of why) (values_of why)) (refused 8 []))
-  unfolding count_of refuseIf ◌>>◌
+  unfolding count_of refuse_if ◌>>◌
   counted-refused q = grind (arith, ints)
 
   pub counted_is : {n : ℕ} → r ≡ Ok n → (overfull axes ≡ false) × (positions axes ≡ n)
-  unfolding count_of refuseIf ◌>>◌
+  unfolding count_of refuse_if ◌>>◌
   counted_is q = grind (arith, ints)
 
 -- a test of what a list is mapped to
-pub some-map : {A B : Type 0} (test : B → Bool) (f : A → B) (list : List A) → some (λ a. test (f a)) list ≡ some test (map f list)
-unfolding some
-some-map test f [] = refl
-some-map test f (a ∷ list) = rw (some-map test f list)
+pub list_any-map : {A B : Type 0} (test : B → Bool) (f : A → B) (list : List A) → list_any (λ a. test (f a)) list ≡ list_any test (map f list)
+list_any-map test f [] = refl
+list_any-map test f (a ∷ list) = rw (list_any-map test f list)
 
 -- what a list is mapped to is as long
 pub length-each : {A : Type 0} (f : A → ℕ) (list : List A) (es : List ℕ) → es ≡ map f list → length es ≡ length list
@@ -117,7 +116,7 @@ extent-here f list es i a e h k = ap (λ (m : List ℕ). get_or m i 0) e ∙ get
 
 -- ---- the extents of axes, as a list of entries has them
 
-extent-at : (axes : List Axis) (i : ℕ) → get_or (extents axes) i 0 ≡ (axisAt axes i).extent
+extent-at : (axes : List Axis) (i : ℕ) → get_or (extents axes) i 0 ≡ (axis_at axes i).extent
 extent-at [] i = refl
 extent-at (a ∷ rest) zero = refl
 extent-at (a ∷ rest) (suc i) = extent-at rest i
@@ -126,9 +125,9 @@ module _ {A : Type 0} (f : A → ℕ) (list : List A) (axes : List Axis) (es : L
   pub entry-length : length axes ≡ length list
   entry-length = sym (length-extents axes) ∙ ap length (sym given) ∙ length-each f list es each
 
-  pub entry-extent : (i : ℕ) (a : A) → i < length list → a ≡ get_or list i a → f a ≡ (axisAt axes i).extent
+  pub entry-extent : (i : ℕ) (a : A) → i < length list → a ≡ get_or list i a → f a ≡ (axis_at axes i).extent
   entry-extent i a h k = sym (extent-here f list es i a each h k) ∙ ap (λ (m : List ℕ). get_or m i 0) given ∙ extent-at axes i
 
   -- the last index of an entry is that of its axis
-  pub entry-last : (i : ℕ) (a : A) → i < length list → a ≡ get_or list i a → (extent last : ℕ) → extent ≡ f a → last ≡ extent - 1 → (i < length axes) × (last ≡ (axisAt axes i).extent - 1)
+  pub entry-last : (i : ℕ) (a : A) → i < length list → a ≡ get_or list i a → (extent last : ℕ) → extent ≡ f a → last ≡ extent - 1 → (i < length axes) × (last ≡ (axis_at axes i).extent - 1)
   entry-last i a h k extent last e m = (omega (arith, entry-length), omega (arith, entry-extent i a h k, e, m))

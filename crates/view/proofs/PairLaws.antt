@@ -5,7 +5,7 @@ use Prim.Native.Nat.{ℕ, zero, suc, ◌+◌, ◌≤◌, ◌<◌, ◌/◌}
 use native.Mathlib.Numerals.{add-one}
 use native.Mathlib.Omega.{arith}
 use lib.ListN.{length, drop, get_or}
-use Rattle.specification.specs.Views.{pairsOf}
+use Rattle.specification.specs.Views.{pairs_of}
 use Rattle.std.specs.Simd.{first_chunks}
 use Rattle.view.specs.Ties.{two_of}
 
@@ -25,11 +25,11 @@ pairs-end f (p ∷ pairs) zero h = absurd (omega arith)
 pairs-end f (p ∷ pairs) (suc i) h = pairs-end f pairs i (omega arith)
 
 -- numbers taken two at a time are the pairs that they give
-pub numbers_paired : (numbers : List ℕ) → map two_of (first_chunks 2 (length numbers / 2) numbers) ≡ pairsOf numbers
-unfolding pairsOf
+pub numbers_paired : (numbers : List ℕ) → map two_of (first_chunks 2 (length numbers / 2) numbers) ≡ pairs_of numbers
+unfolding pairs_of
 numbers_paired numbers = by (length numbers / 2) numbers refl
   where
-    by : (n : ℕ) (l : List ℕ) → length l / 2 ≡ n → map two_of (first_chunks 2 n l) ≡ pairsOf l
+    by : (n : ℕ) (l : List ℕ) → length l / 2 ≡ n → map two_of (first_chunks 2 n l) ≡ pairs_of l
     by zero [] e = refl
     by zero (a ∷ []) e = refl
     by zero (a ∷ b ∷ rest) e = absurd (omega arith)

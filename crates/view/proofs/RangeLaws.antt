@@ -1,43 +1,43 @@
 -- The numbers below n that pass a test: one number more, tests that agree, how many there are, a table of them, and a second test.
-use Rattle.std.specs.Prelude.{if◌then◌else◌}
+use Rattle.std.specs.List.{list_any, range_with_len}
+use Rattle.std.specs.Prelude.{if◌then◌else◌, filter}
 use mathlib.Core.Path.{◌≡◌, refl, sym, ap, ◌∙◌}
 use mathlib.Core.Bool.{Bool, true, false}
 use mathlib.Core.List.{List, [], ◌∷◌, ◌++◌, map, append-nil, map-append}
 use Prim.Native.Nat.{ℕ, zero, suc, ◌+◌, ◌-◌, ◌≤◌, ◌<◌}
-use native.Mathlib.Numerals.{add-one}
 use native.Mathlib.Omega.{arith}
 use lib.ListN.{length, length-append}
 use Rattle.std.proofs.lemmas.Int.{ints}
 use Rattle.view.specs.Table.{table}
 use Rattle.view.proofs.TableLaws.{table-zero, table-suc}
-use Rattle.specification.specs.Tests.{some, those, up_from}
-use Rattle.view.proofs.OrderLaws.{some-snoc}
+use Rattle.view.proofs.OrderLaws.{list_any-snoc}
 
 -- the numbers below n that pass
-abbrev pub passing : (ℕ → Bool) → ℕ → List ℕ
-passing test n = those test (up_from 0 n)
+unfoldable pub passing : (ℕ → Bool) → ℕ → List ℕ
+passing test n = filter test (range_with_len 0 n)
 
-upFrom-last : (k n : ℕ) → up_from k (suc n) ≡ up_from k n ++ ((k + n) ∷ [])
-unfolding up_from
-upFrom-last k zero = ap (λ (m : ℕ). m ∷ []) (omega arith)
-upFrom-last k (suc n) =
-    let e : suc k + n ≡ k + suc n = omega arith in
-    ap (λ (l : List ℕ). k ∷ l) (upFrom-last (suc k) n ∙ rw e)
+range_with_len-last : (k n : ℕ) → range_with_len k (suc n) ≡ range_with_len k n ++ ((k + n) ∷ [])
+range_with_len-last k zero = ap (λ (m : ℕ). m ∷ []) (omega arith)
+range_with_len-last k (suc n) =
+    let e : k + 1 + n ≡ k + suc n = omega arith in
+    ap (λ (l : List ℕ). k ∷ l) (range_with_len-last (k + 1) n ∙ rw e)
 
-those-append : {A : Type 0} (test : A → Bool) (l m : List A) → those test (l ++ m) ≡ those test l ++ those test m
-unfolding those
-those-append test [] m = refl
-those-append test (a ∷ l) m = let rest = those-append test l m in grind (arith, ints)
+filter-append : {A : Type 0} (test : A → Bool) (l m : List A) → filter test (l ++ m) ≡ filter test l ++ filter test m
+filter-append test [] m = refl
+filter-append test (a ∷ l) m = let rest = filter-append test l m in grind (arith, ints)
 
 -- ---- one number more
 
 module _ (test : ℕ → Bool) (n : ℕ) where
   passing-last : passing test (n + 1) ≡ passing test n ++ (if test n then n ∷ [] else [])
-  unfolding those
-  passing-last = rw (add-one, upFrom-last 0 n, those-append test (up_from 0 n) ((0 + n) ∷ []), zero-plus)
-    where
-      zero-plus : 0 + n ≡ n
-      zero-plus = omega arith
+  unfolding passing
+  passing-last =
+      let one_more : n + 1 ≡ suc n = omega arith in
+      let zero_plus : 0 + n ≡ n = omega arith in
+      ap (λ (m : ℕ). filter test (range_with_len 0 m)) one_more
+      ∙ ap (filter test) (range_with_len-last 0 n)
+      ∙ filter-append test (range_with_len 0 n) ((0 + n) ∷ [])
+      ∙ ap (λ (m : ℕ). filter test (range_with_len 0 n) ++ (if test m then m ∷ [] else [])) zero_plus
 
   pub passing-yes : test n ≡ true → passing test (n + 1) ≡ passing test n ++ (n ∷ [])
   passing-yes e = passing-last ∙ rw e
@@ -46,7 +46,7 @@ module _ (test : ℕ → Bool) (n : ℕ) where
   passing-no e = passing-last ∙ rw (e, append-nil)
 
 pub passing-zero : (test : ℕ → Bool) → passing test 0 ≡ []
-unfolding those up_from
+unfolding passing
 passing-zero test = refl
 
 -- tests that agree below n
@@ -106,17 +106,16 @@ map-passing test f g (suc n) h =
 
 -- ---- some number below n that passes one test passes another
 
-pub some-none : (f g : ℕ → Bool) (n : ℕ) → ((k : ℕ) → k < n → g k ≡ true → f k ≡ false) → some f (passing g n) ≡ false
-unfolding some
-some-none f g zero h = rw (passing-zero g)
-some-none f g (suc n) h =
+pub list_any-none : (f g : ℕ → Bool) (n : ℕ) → ((k : ℕ) → k < n → g k ≡ true → f k ≡ false) → list_any f (passing g n) ≡ false
+list_any-none f g zero h = rw (passing-zero g)
+list_any-none f g (suc n) h =
     let e : suc n ≡ n + 1 = omega arith in
-    let ih = some-none f g n (λ k l. h k (omega arith)) in
-    rw e (grind (arith, ints, passing-yes g n, passing-no g n, some-snoc f (passing g n) n, h n))
+    let ih = list_any-none f g n (λ k l. h k (omega arith)) in
+    rw e (grind (arith, ints, passing-yes g n, passing-no g n, list_any-snoc f (passing g n) n, h n))
 
-pub some_one : (f g : ℕ → Bool) (n k : ℕ) → k < n → g k ≡ true → f k ≡ true → some f (passing g n) ≡ true
-some_one f g zero k l p q = absurd (omega arith)
-some_one f g (suc n) k l p q =
+pub list_any_one : (f g : ℕ → Bool) (n k : ℕ) → k < n → g k ≡ true → f k ≡ true → list_any f (passing g n) ≡ true
+list_any_one f g zero k l p q = absurd (omega arith)
+list_any_one f g (suc n) k l p q =
     let e : suc n ≡ n + 1 = omega arith in
-    let ih : k < n → some f (passing g n) ≡ true = λ r. some_one f g n k r p q in
-    rw e (grind (arith, ints, passing-yes g n, passing-no g n, some-snoc f (passing g n) n))
+    let ih : k < n → list_any f (passing g n) ≡ true = λ r. list_any_one f g n k r p q in
+    rw e (grind (arith, ints, passing-yes g n, passing-no g n, list_any-snoc f (passing g n) n))

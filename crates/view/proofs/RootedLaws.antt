@@ -8,12 +8,12 @@ use native.Mathlib.Omega.{arith}
 use lib.Dec.{eqb}
 use lib.ListN.{length}
 use Rattle.std.proofs.lemmas.List.{get_or-map}
-use Rattle.view.specs.Ties.{rootAt, renamed, joined, Rooted}
+use Rattle.view.specs.Ties.{root_at, renamed, joined, IsRooted}
 use Rattle.std.proofs.lemmas.Int.{ints}
 
-module _ (n : ℕ) (roots : List ℕ) (long : length roots ≡ 16) (few : n ≤ 16) (of : Rooted n roots) (a b : ℕ) (within : max a b < n) where
+module _ (n : ℕ) (roots : List ℕ) (long : length roots ≡ 16) (few : n ≤ 16) (of : IsRooted n roots) (a b : ℕ) (within : max a b < n) where
   abbrev old : ℕ → ℕ
-  old = rootAt roots
+  old = root_at roots
 
   abbrev higher : ℕ
   higher = max (old a) (old b)
@@ -22,7 +22,7 @@ module _ (n : ℕ) (roots : List ℕ) (long : length roots ≡ 16) (few : n ≤ 
   lower = min (old a) (old b)
 
   abbrev new : ℕ → ℕ
-  new = rootAt (joined roots (a, b))
+  new = root_at (joined roots (a, b))
 
   new-at : (x : ℕ) → x < n → new x ≡ renamed higher lower (old x)
   new-at x h = get_or-map (renamed higher lower) roots x 0 0 (omega (arith, long))
@@ -33,7 +33,7 @@ module _ (n : ℕ) (roots : List ℕ) (long : length roots ≡ 16) (few : n ≤ 
   renamed-lower : renamed higher lower lower ≡ lower
   renamed-lower = grind (arith, ints)
 
-  pub joined_rooted : Rooted n (joined roots (a, b))
+  pub joined_rooted : IsRooted n (joined roots (a, b))
   joined_rooted = record {
     low = λ x h. let was = of.low x h in rw (new-at x h) (grind (arith, ints));
     own = λ x h. rw (new-at x h) (owns x h (eqb (old x) higher) refl);

@@ -14,11 +14,11 @@ use lib.Seq.{drop-cons}
 use borrow.Author.Tests.{le-leb, lt-leb}
 use mir.Syntax.{w64}
 use mir.Val.{SFits, of_z, to_z}
-use Rattle.integer.specs.Parts.{posPart, negPart}
-use Rattle.integer.proofs.MultipleLaws.{posPart-·, negPart-·}
+use Rattle.integer.specs.Parts.{positive_part, negative_part}
+use Rattle.integer.proofs.MultipleLaws.{positive_part-·, negative_part-·}
 use Rattle.specification.specs.Axis.{Axis, extents, span, upward, downward}
-use Rattle.specification.specs.Views.{axisAt}
-use Rattle.view.specs.Reach.{none_wide, spansUpTo, spans_within, sums, widths_pass}
+use Rattle.specification.specs.Views.{axis_at}
+use Rattle.view.specs.Reach.{none_wide, spans_up_to, spans_within, sums, widths_pass}
 use Rattle.std.proofs.lemmas.Int.{ints}
 
 -- each sum so far and the spans still left, from axis i on, make the whole sum
@@ -27,21 +27,21 @@ pub record SpansLeft (axes : List Axis) (i up down : ℕ) : Type 0 where
   pub down_left : down + downward (drop i axes) ≡ downward axes
 
 module _ (axes : List Axis) (i up down last step : ℕ) (stride : ℤ) (left : SpansLeft axes i up down) (h : i < length axes)
-    (is_last : last ≡ (axisAt axes i).extent - 1) (is-stride : stride ≡ (axisAt axes i).stride) (f : SFits w64 stride) where
-  next : drop i axes ≡ axisAt axes i ∷ drop (i + 1) axes
+    (is_last : last ≡ (axis_at axes i).extent - 1) (is-stride : stride ≡ (axis_at axes i).stride) (f : SFits w64 stride) where
+  next : drop i axes ≡ axis_at axes i ∷ drop (i + 1) axes
   next = rw (add-one, drop-cons axes i (record { extent = 0; stride = pos 0 }) h)
 
-  up-more : (part : ℕ) → part ≡ posPart stride → (up + last * part) + upward (drop (i + 1) axes) ≡ upward axes
+  up-more : (part : ℕ) → part ≡ positive_part stride → (up + last * part) + upward (drop (i + 1) axes) ≡ upward axes
   unfolding upward
   up-more part e =
-      let p : last * part ≡ posPart (span (axisAt axes i)) = rw (posPart-·, is_last, e, is-stride) in
+      let p : last * part ≡ positive_part (span (axis_at axes i)) = rw (positive_part-·, is_last, e, is-stride) in
       let q = rw next at left.up_left in
       omega arith
 
-  down-more : (part : ℕ) → part ≡ negPart stride → (down + last * part) + downward (drop (i + 1) axes) ≡ downward axes
+  down-more : (part : ℕ) → part ≡ negative_part stride → (down + last * part) + downward (drop (i + 1) axes) ≡ downward axes
   unfolding downward
   down-more part e =
-      let p : last * part ≡ negPart (span (axisAt axes i)) = rw (negPart-·, is_last, e, is-stride) in
+      let p : last * part ≡ negative_part (span (axis_at axes i)) = rw (negative_part-·, is_last, e, is-stride) in
       let q = rw next at left.down_left in
       omega arith
 
@@ -67,15 +67,15 @@ spans-end axes i up down left h =
 -- ---- wide extents
 
 module _ (wide : Bool) (axes : List Axis) (i : ℕ) (h : i < length axes) where
-  widths-here : widths_pass wide (drop i axes) ≡ (wide || (leb (axisAt axes i).extent 9223372036854775808 && none_wide (extents (drop (i + 1) axes))))
+  widths-here : widths_pass wide (drop i axes) ≡ (wide || (leb (axis_at axes i).extent 9223372036854775808 && none_wide (extents (drop (i + 1) axes))))
   widths-here = rw (add-one, drop-cons axes i (record { extent = 0; stride = pos 0 }) h)
 
   -- an axis that is not too wide leaves the test to those behind it
-  pub widths-turn : widths_pass wide axes ≡ widths_pass wide (drop i axes) → (wide ≡ false → (axisAt axes i).extent ≤ 9223372036854775808) → widths_pass wide axes ≡ widths_pass wide (drop (i + 1) axes)
+  pub widths-turn : widths_pass wide axes ≡ widths_pass wide (drop i axes) → (wide ≡ false → (axis_at axes i).extent ≤ 9223372036854775808) → widths_pass wide axes ≡ widths_pass wide (drop (i + 1) axes)
   widths-turn left narrow = left ∙ widths-here ∙ grind (arith, ints)
 
-  pub widths-stop : widths_pass wide axes ≡ widths_pass wide (drop i axes) → wide ≡ false → 9223372036854775808 < (axisAt axes i).extent → widths_pass wide axes ≡ false
-  widths-stop left e above = left ∙ widths-here ∙ rw (e, lt-leb (axisAt axes i).extent 9223372036854775808 above)
+  pub widths-stop : widths_pass wide axes ≡ widths_pass wide (drop i axes) → wide ≡ false → 9223372036854775808 < (axis_at axes i).extent → widths_pass wide axes ≡ false
+  widths-stop left e above = left ∙ widths-here ∙ rw (e, lt-leb (axis_at axes i).extent 9223372036854775808 above)
 
 pub widths-end : (wide : Bool) (axes : List Axis) (i : ℕ) → widths_pass wide axes ≡ widths_pass wide (drop i axes) → length axes ≤ i → widths_pass wide axes ≡ true
 widths-end wide axes i left h = left ∙ rw (drop_of_length-le axes h) (grind (arith, ints))
@@ -83,7 +83,7 @@ widths-end wide axes i left h = left ∙ rw (drop_of_length-le axes h) (grind (a
 -- ---- both sums, each with its limit
 
 pub spans-are : (above below : ℕ) (axes : List Axis) → upward axes ≤ above → downward axes ≤ below
-    → spansUpTo above below axes ≡ sums (upward axes) (downward axes)
+    → spans_up_to above below axes ≡ sums (upward axes) (downward axes)
 spans-are above below axes h k = rw (le-leb (upward axes) above h, le-leb (downward axes) below k)
 
 pub none-wider : (wide : Bool) (above below : ℕ) (axes : List Axis) → widths_pass wide axes ≡ false → None ≡ spans_within wide above below axes

@@ -31,9 +31,9 @@ module _ {A : Type 0} where
   length-table f (suc n) = length-append (table n f) (f n ∷ []) ∙ rw (length-table f n) (omega arith)
 
   -- entry i is f i
-  pub getD-table : (f : ℕ → A) (n i : ℕ) (d : A) → i < n → get_or (table n f) i d ≡ f i
+  pub get_or-table : (f : ℕ → A) (n i : ℕ) (d : A) → i < n → get_or (table n f) i d ≡ f i
   unfolding table
-  getD-table f zero i d h = absurd (not-suc-le-zero h)
-  getD-table f (suc n) i d h =
-      let below : i < n → get_or (table n f) i d ≡ f i = λ l. getD-table f n i d l in
+  get_or-table f zero i d h = absurd (not-suc-le-zero h)
+  get_or-table f (suc n) i d h =
+      let below : i < n → get_or (table n f) i d ≡ f i = λ l. get_or-table f n i d l in
       grind (arith, ints, length-table f n, get_or_at (table n f) (f n) [] d n, get_or-append (table n f) (f n ∷ []) d i)

@@ -1,11 +1,11 @@
--- Refusals and answers in the numbers and values of 01's table.
+-- Refusals and answers as the numbers and values of the rules (RULES, "Refusals, and which comes first").
 use Rattle.std.specs.Prelude.{List, [], ◌∷◌, take, ℕ, Err, Ok, Result}
 use Rattle.specification.specs.Outcome.{Outcome, Check, done, refused, pass}
 use Rattle.view.specs.declared.layout.Refusal.{Refusal}
 use Rattle.view.specs.declared.values.Values.{Values}
 use Rattle.view.specs.declared.layout.Refusal.TheVariants.{TooManyAxes, LengthsDiffer, OutOfRange, WrongLength, BadAxis, BadExtent, BadIndex, TooManyPositions, ShortScratch, ShortOutput, NotARecord}
 
--- the number of the row
+-- the number of a refusal
 abbrev pub number_of : Refusal → ℕ
 number_of TooManyAxes = 1
 number_of LengthsDiffer = 2
@@ -43,8 +43,8 @@ outcome_by meaning (Ok a) = done (meaning a)
 outcome_by meaning (Err why) = refused (number_of why) (values_of why)
 
 -- an answer whose result stands for itself
-abbrev pub outcomeOf : {A : Type 0} → Result A Refusal → Outcome A
-outcomeOf = outcome_by (λ a. a)
+abbrev pub outcome_of : {A : Type 0} → Result A Refusal → Outcome A
+outcome_of = outcome_by (λ a. a)
 
 -- an outcome without its result
 abbrev pub answer_of : {A : Type 0} → Outcome A → Check

@@ -1,13 +1,13 @@
 -- How far the offsets of a layout reach, as the code answers it.
-use Rattle.std.specs.Prelude.{Bool, not, ◌&&◌, ◌||◌, List, [], ℕ, ◌^◌, leb, ℤ, pos, if◌then◌else◌, None, Option, Some}
+use Rattle.std.specs.Prelude.{Bool, not, ◌&&◌, ◌||◌, List, [], ℕ, ◌^◌, nat_le, ℤ, pos, if◌then◌else◌, None, Option, Some}
 use Rattle.std.specs.List.{list_all}
 use Rattle.std.specs.Int.Signed.{le_z, lt_z}
-use Rattle.integer.specs.Range.{mostSigned}
+use Rattle.integer.specs.Range.{most_signed}
 use Rattle.specification.specs.Axis.{Axis, extents, upward, downward, is_empty}
-use Rattle.specification.specs.Beside.{zeroAmong}
-use Rattle.specification.specs.Layout.{LayoutM, lowest, highest, inReach}
-use Rattle.specification.specs.Outcome.{Outcome, done, refused, refuseIf, ◌>>◌}
-use Rattle.view.specs.Model.{modelFrom}
+use Rattle.specification.specs.Beside.{zero_among}
+use Rattle.specification.specs.Layout.{LayoutModel, lowest, highest, is_in_reach}
+use Rattle.specification.specs.Outcome.{Outcome, done, refused, refuse_if, ◌>>◌}
+use Rattle.view.specs.Model.{model_from}
 use Rattle.view.specs.declared.bounds.Candidate.{Candidate}
 use Rattle.view.specs.declared.bounds.Reach.{Reach}
 use Rattle.view.specs.declared.bounds.Reach.TheVariants.{Empty, Between, Outside}
@@ -15,8 +15,8 @@ use Rattle.view.specs.declared.layout.ReadingOffset.{ReadingOffset}
 use Rattle.view.specs.declared.bounds.Spans.{Spans}
 
 -- a candidate as a layout, by the axes that it has
-abbrev pub candidate_model : {A : Type 0} → (A → List Axis) → Candidate A → LayoutM
-candidate_model axes_of c = modelFrom c.len c.offset.0 (axes_of c.axes)
+abbrev pub candidate_model : {A : Type 0} → (A → List Axis) → Candidate A → LayoutModel
+candidate_model axes_of c = model_from c.len c.offset.0 (axes_of c.axes)
 
 -- the lowest and the highest offset, or none where there is no position
 pub data Ends : Type 0 where
@@ -24,15 +24,15 @@ pub data Ends : Type 0 where
   ends : ℤ → ℤ → Ends
 
 -- what each answer says: the two ends, or refusal 3
-abbrev pub reachTold : Reach → Outcome Ends
-reachTold Empty = done none
-reachTold (Between lowest highest) = done (ends lowest.0 highest.0)
-reachTold Outside = refused 3 []
+abbrev pub reach_told : Reach → Outcome Ends
+reach_told Empty = done none
+reach_told (Between lowest highest) = done (ends lowest.0 highest.0)
+reach_told Outside = refused 3 []
 
--- 3 by the rule after the table; else the two ends
-unfoldable pub reachOf : LayoutM → Outcome Ends
-reachOf l =
-    refuseIf (not (inReach l)) 3 []
+-- 3 where an offset is not inside; else the two ends
+unfoldable pub reach_of : LayoutModel → Outcome Ends
+reach_of l =
+    refuse_if (not (is_in_reach l)) 3 []
     >> done (if is_empty l.axes then none else ends (lowest l) (highest l))
 
 -- two sums, as the code hands them on
@@ -40,13 +40,13 @@ abbrev pub sums : ℕ → ℕ → Option Spans
 sums up down = Some (record { up = up; down = down })
 
 -- the sums of the positive and of the negative spans, if each is at most its limit
-abbrev pub spansUpTo : ℕ → ℕ → List Axis → Option Spans
-spansUpTo above below axes =
-    if leb (upward axes) above && leb (downward axes) below then sums (upward axes) (downward axes) else None
+abbrev pub spans_up_to : ℕ → ℕ → List Axis → Option Spans
+spans_up_to above below axes =
+    if nat_le (upward axes) above && nat_le (downward axes) below then sums (upward axes) (downward axes) else None
 
--- the two ends are accepted: the rule after the table for a layout that is not empty
-abbrev pub within : LayoutM → Bool
-within l = le_z (pos 0) (lowest l) && le_z (highest l) (pos mostSigned) && lt_z (highest l) (pos l.buffer)
+-- the two ends are accepted: what is asked of a layout that is not empty
+abbrev pub within : LayoutModel → Bool
+within l = le_z (pos 0) (lowest l) && le_z (highest l) (pos most_signed) && lt_z (highest l) (pos l.buffer)
 
 -- two offsets, as the code hands them on
 abbrev pub ends_told : Option (ReadingOffset × ReadingOffset) → Option Ends
@@ -54,12 +54,12 @@ ends_told None = None
 ends_told (Some both) = Some (ends both.0.0 both.1.0)
 
 -- the two ends, where they are accepted
-abbrev pub accepted_ends : LayoutM → Option Ends
+abbrev pub accepted_ends : LayoutModel → Option Ends
 accepted_ends l = if within l then Some (ends (lowest l) (highest l)) else None
 
--- no extent minus 1 is above 2^63 - 1
+-- no extent is above 2^63
 abbrev pub none_wide : List ℕ → Bool
-none_wide = list_all (λ n. leb n (2 ^ 63))
+none_wide = list_all (λ n. nat_le n (2 ^ 63))
 
 -- wide extents pass, or no extent is wide
 abbrev pub widths_pass : Bool → List Axis → Bool
@@ -67,12 +67,12 @@ widths_pass wide axes = wide || none_wide (extents axes)
 
 -- both sums, where the widths pass
 abbrev pub spans_within : Bool → ℕ → ℕ → List Axis → Option Spans
-spans_within wide above below axes = if widths_pass wide axes then spansUpTo above below axes else None
+spans_within wide above below axes = if widths_pass wide axes then spans_up_to above below axes else None
 
 -- both ends, where the widths pass
-abbrev pub ends_within : Bool → LayoutM → Option Ends
+abbrev pub ends_within : Bool → LayoutModel → Option Ends
 ends_within wide l = if widths_pass wide l.axes then accepted_ends l else None
 
 -- what check-in's bounds let pass (`bounds` as one test)
-abbrev pub in_bounds : LayoutM → Bool
-in_bounds l = (within l && none_wide (extents l.axes)) || zeroAmong (extents l.axes)
+abbrev pub in_bounds : LayoutModel → Bool
+in_bounds l = (within l && none_wide (extents l.axes)) || zero_among (extents l.axes)

@@ -1,7 +1,7 @@
 //! Axes as they are handed in: side by side, or as a list of extents and a list of strides.
 ghost use Rattle.std.specs.Prelude.{◌≡◌, ◌≤◌, ◌<◌, List, ◌++◌, drop, length, pos, slice_index_or, IfOk};
-ghost use Rattle.specification.specs.Axis.{Axis as AxisM, axesOf, extents};
-ghost use Rattle.specification.specs.Views.{axisAt};
+ghost use Rattle.specification.specs.Axis.{Axis as AxisModel, axes_of_lists, extents};
+ghost use Rattle.specification.specs.Views.{axis_at};
 ghost use Rattle.view.specs.Answers.{outcome_by};
 
 use crate::count::Extent;
@@ -13,7 +13,7 @@ pub trait Axes: Copy {
     /// What has the extents.
     type Entry: Extent;
 
-    ghost axes_of: { Self → List AxisM };
+    ghost axes_of: { Self → List AxisModel };
 
     /// One entry an axis, in order.
     fn entries(&self) -> &[Self::Entry]
@@ -22,7 +22,7 @@ pub trait Axes: Copy {
     /// The stride of the axis at a place, in readings.
     fn stride(&self, place: usize) -> i64
         requires { place < length (axes_of self.now) }
-        ensures { result ≡ (axisAt (axes_of self.now) place).stride };
+        ensures { result ≡ (axis_at (axes_of self.now) place).stride };
 }
 
 impl Axes for &[Axis] {
@@ -95,12 +95,12 @@ impl Axes for Lists<'_> {
 
     ghost axes_of = { axes_in };
 
-    #[tactic(auto, using(crate::proofs::AxesLaws::extents_axesOf))]
+    #[tactic(auto, using(crate::proofs::AxesLaws::extents_axes_of_lists))]
     fn entries(&self) -> &[u64] {
         self.extents
     }
 
-    #[tactic(auto, using(crate::proofs::AxesLaws::length_lists, crate::proofs::AxesLaws::stride_axesOf))]
+    #[tactic(auto, using(crate::proofs::AxesLaws::length_lists, crate::proofs::AxesLaws::stride_axes_of_lists))]
     fn stride(&self, place: usize) -> i64 {
         stride_at(self.strides, place)
     }

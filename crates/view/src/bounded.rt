@@ -1,14 +1,14 @@
 //! A product that stops at a limit.
 ghost use Rattle.std.specs.Prelude.{◌≡◌, ◌*◌};
-ghost use Rattle.integer.specs.Range.{mostUnsigned};
-ghost use Rattle.view.specs.Bounded.{boundedBy};
+ghost use Rattle.integer.specs.Range.{most_unsigned};
+ghost use Rattle.view.specs.Bounded.{bounded_by};
 
 /// The most that half a word holds: two such factors make a product that fits a word.
 const HALF_WORD: u64 = u32::MAX as u64;
 
 /// a * b, where that is at most the limit.
 pub fn bounded_product(a: u64, b: u64, limit: u64) -> Option<u64>
-    ensures { result ≡ boundedBy limit (a * b) }
+    ensures { result ≡ bounded_by limit (a * b) }
 {
     let product = if HALF_WORD < a || HALF_WORD < b {
         wide_product(a, b)?
@@ -22,7 +22,7 @@ pub fn bounded_product(a: u64, b: u64, limit: u64) -> Option<u64>
 #[cold]
 #[inline(never)]
 fn wide_product(a: u64, b: u64) -> Option<u64>
-    ensures { result ≡ boundedBy mostUnsigned (a * b) }
+    ensures { result ≡ bounded_by most_unsigned (a * b) }
 {
     a.checked_mul(b)
 }

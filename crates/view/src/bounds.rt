@@ -1,10 +1,10 @@
 //! How far the offsets of a layout reach, check-in's refusal 3, and the refusals 1 and 3 of a layout that is handed in.
 ghost use Rattle.std.specs.Prelude.{◌≡◌, ◌≤◌, length, OnOk};
-ghost use Rattle.specification.specs.CheckIn.{bounds, checkIn};
-ghost use Rattle.specification.specs.Layout.{inReach, handed};
-ghost use Rattle.view.specs.Answers.{outcomeOf, answer_of};
-ghost use Rattle.view.specs.Model.{modelOf};
-ghost use Rattle.view.specs.Reach.{candidate_model, spansUpTo, spans_within, ends_told, ends_within, within, in_bounds, reachTold, reachOf};
+ghost use Rattle.specification.specs.CheckIn.{bounds, check_in};
+ghost use Rattle.specification.specs.Layout.{is_in_reach, handed};
+ghost use Rattle.view.specs.Answers.{outcome_of, answer_of};
+ghost use Rattle.view.specs.Model.{model_of};
+ghost use Rattle.view.specs.Reach.{candidate_model, spans_up_to, spans_within, ends_told, ends_within, within, in_bounds, reach_told, reach_of};
 
 use crate::axes::{Axes, Lists};
 use crate::bounded::bounded_product;
@@ -34,7 +34,7 @@ pub struct Spans {
 
 /// The sums of the positive and of the negative spans, where each is at most its limit.
 pub fn sum_spans<A: Axes>(axes: A, above: u64, below: u64) -> Option<Spans>
-    ensures { result ≡ spansUpTo above below (A.axes_of axes) }
+    ensures { result ≡ spans_up_to above below (A.axes_of axes) }
 {
     spans_within(axes, above, below, true)
 }
@@ -104,15 +104,15 @@ impl<A: Axes> Candidate<A> {
         self.accepted_ends(true).is_some()
     }
 
-    /// Whether the rule after the table lets pass.
+    /// Whether no offset is outside: the layout is accepted, whose rank is tested apart.
     #[tactic(auto, using(crate::proofs::BoundsLaws::reach_within, crate::proofs::BoundsLaws::reach_beyond))]
     fn is_in_reach(&self) -> bool
-        ensures { result ≡ inReach (candidate_model A.axes_of self.now) }
+        ensures { result ≡ is_in_reach (candidate_model A.axes_of self.now) }
     {
         self.is_within() || has_no_position(self.axes.entries())
     }
 
-    // Both are inlined: a candidate then never stands in memory, and check-in takes a quarter less.
+    // Both are inlined: a candidate then never stands in memory.
 
     /// Whether check-in lets pass: where the offsets are within, each span fits, so only a wide extent is left to test.
     #[inline(always)]
@@ -126,7 +126,7 @@ impl<A: Axes> Candidate<A> {
     #[inline(always)]
     #[tactic(auto, using(crate::proofs::BoundsLaws::bounds_passed, crate::proofs::BoundsLaws::bounds_refused))]
     pub fn bounds_refusal(&self) -> Result<(), Refusal>
-        ensures { outcomeOf result ≡ bounds (candidate_model A.axes_of self.now) }
+        ensures { outcome_of result ≡ bounds (candidate_model A.axes_of self.now) }
     {
         if self.is_in_bounds() {
             Ok(())
@@ -144,7 +144,7 @@ pub fn validate_bounds(
     extents: &[u64],
     strides: &[i64],
 ) -> Result<(), Refusal>
-    ensures answer { outcomeOf result ≡ answer_of (checkIn len offset.0 extents.now strides.now) }
+    ensures answer { outcome_of result ≡ answer_of (check_in len offset.0 extents.now strides.now) }
     ensures few { OnOk result (length extents.now ≤ 16) }
     ensures alike { OnOk result (length strides.now ≡ length extents.now) }
 {
@@ -156,7 +156,7 @@ impl Layout {
     /// Itself, to be tested.
     fn candidate(&self) -> Candidate<&[Axis]>
         requires { self.now.rank ≤ 16 }
-        ensures { candidate_model (λ axes. axes.now) result ≡ modelOf self.now }
+        ensures { candidate_model (λ axes. axes.now) result ≡ model_of self.now }
     {
         Candidate {
             len: self.len,
@@ -169,7 +169,7 @@ impl Layout {
     #[tactic(auto, using(crate::proofs::BoundsLaws::reach_empty, crate::proofs::BoundsLaws::reach_outside, crate::proofs::BoundsLaws::reach_between))]
     pub fn reach(&self) -> Reach
         requires { self.now.rank ≤ 16 }
-        ensures { reachTold result ≡ reachOf (modelOf self.now) }
+        ensures { reach_told result ≡ reach_of (model_of self.now) }
     {
         let candidate = self.candidate();
         if has_no_position(candidate.axes) {
@@ -183,9 +183,9 @@ impl Layout {
 
     /// Refusal 1 for more than 16 axes or entries of the call's list (0 for a call that takes none), 3 for an offset that is not
     /// accepted.
-    #[tactic(auto, unfolding(specification::specs::Outcome::refuseIf), using(crate::proofs::HandedLaws::many_axes, crate::proofs::HandedLaws::many_entries, crate::proofs::HandedLaws::handed_few))]
+    #[tactic(auto, unfolding(specification::specs::Outcome::refuse_if), using(crate::proofs::HandedLaws::many_axes, crate::proofs::HandedLaws::many_entries, crate::proofs::HandedLaws::handed_few))]
     pub fn handed_refusal(&self, entries: usize) -> Result<(), Refusal>
-        ensures answer { outcomeOf result ≡ handed (modelOf self.now) entries }
+        ensures answer { outcome_of result ≡ handed (model_of self.now) entries }
         ensures few_axes { OnOk result (self.now.rank ≤ 16) }
         ensures few_entries { OnOk result (entries ≤ 16) }
     {

@@ -1,18 +1,18 @@
 //! broadcast: a layout stretched to target extents.
 ghost use Rattle.std.specs.Prelude.{◌≡◌, ◌≤◌, length, drop, OnOk, OnErr};
-ghost use Rattle.specification.specs.Views.{targetFault, spread, broadcast};
-ghost use Rattle.view.specs.Answers.{outcomeOf};
-ghost use Rattle.view.specs.Model.{modelOf, viewedOf, told};
+ghost use Rattle.specification.specs.Views.{target_fault, spread, broadcast};
+ghost use Rattle.view.specs.Answers.{outcome_of};
+ghost use Rattle.view.specs.Model.{model_of, viewed_of, told};
 ghost use Rattle.view.specs.Refusals.{broadcast_refusal};
 
 use crate::count::Extent;
 use crate::layout::{Layout, Refusal, Viewed};
 use axis::Axis;
 
-/// The first axis whose extent is neither equal to the target nor 1.
+/// The first axis whose extent is neither its target nor 1.
 fn target_fault<E: Extent>(axes: &[Axis], targets: &[E]) -> Result<(), Refusal>
     requires { length targets.now ≡ length axes.now }
-    ensures { outcomeOf result ≡ targetFault 0 axes.now (E.extents_of targets.now) }
+    ensures { outcome_of result ≡ target_fault 0 axes.now (E.extents_of targets.now) }
 {
     let unfit = axes.iter().zip(targets).position(|(axis, target)| axis.extent != target.extent()
         && axis.extent != 1);
@@ -38,8 +38,8 @@ fn stretch<E: Extent>(axes: &mut [Axis], targets: &[E])
 impl Layout {
     /// Every refusal of broadcast, in order.
     fn broadcast_refusal<E: Extent>(&self, targets: &[E]) -> Result<(), Refusal>
-        ensures answer { outcomeOf result
-            ≡ broadcast_refusal (modelOf self.now) (E.extents_of targets.now) }
+        ensures answer { outcome_of result
+            ≡ broadcast_refusal (model_of self.now) (E.extents_of targets.now) }
         ensures few { OnOk result (self.now.rank ≤ 16) }
         ensures listed { OnOk result (length targets.now ≡ self.now.rank) }
     {
@@ -54,7 +54,7 @@ impl Layout {
     /// extent is neither its target nor 1, and the layout as it was.
     pub fn broadcast_in_place<E: Extent>(&mut self, targets: &[E]) -> Result<(), Refusal>
         ensures told { told result self.new
-            ≡ broadcast (modelOf self.old) (E.extents_of targets.now) }
+            ≡ broadcast (model_of self.old) (E.extents_of targets.now) }
         ensures kept { OnErr result (self.new ≡ self.old) }
         ensures past { drop self.new.rank self.new.axes ≡ drop self.new.rank self.old.axes }
     {
@@ -65,7 +65,7 @@ impl Layout {
 
     /// The layout after it, or the refusal and the layout as it was.
     pub fn broadcast(mut self, targets: &[u64]) -> Viewed
-        ensures { viewedOf result ≡ broadcast (modelOf self) targets.now }
+        ensures { viewed_of result ≡ broadcast (model_of self) targets.now }
     {
         let answer = self.broadcast_in_place(targets);
         Viewed {

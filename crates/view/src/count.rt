@@ -1,8 +1,8 @@
 //! The number of positions.
 ghost use Rattle.std.specs.Prelude.{◌≡◌, List, ℕ, map};
-ghost use Rattle.specification.specs.Beside.{zeroAmong};
-ghost use Rattle.view.specs.Answers.{outcomeOf};
-ghost use Rattle.view.specs.Count.{elementCount};
+ghost use Rattle.specification.specs.Beside.{zero_among};
+ghost use Rattle.view.specs.Answers.{outcome_of};
+ghost use Rattle.view.specs.Count.{element_count};
 
 use crate::bounded::bounded_product;
 use crate::layout::{MOST_AXES, Refusal};
@@ -23,13 +23,13 @@ pub trait Extent: Copy {
 }
 
 impl Extent for u64 {
-    ghost use Rattle.view.specs.Count.{map-same};
+    ghost use Rattle.view.specs.Count.{map_same};
 
     ghost extents_of = { λ list. list };
 
     ghost extent_of = { λ n. n };
 
-    ghost each = { map-same };
+    ghost each = { map_same };
 
     fn extent(self) -> u64 {
         self
@@ -37,13 +37,13 @@ impl Extent for u64 {
 }
 
 impl Extent for usize {
-    ghost use Rattle.view.specs.Count.{map-same};
+    ghost use Rattle.view.specs.Count.{map_same};
 
     ghost extents_of = { λ list. list };
 
     ghost extent_of = { λ n. n };
 
-    ghost each = { map-same };
+    ghost each = { map_same };
 
     fn extent(self) -> u64 {
         self as u64
@@ -52,13 +52,13 @@ impl Extent for usize {
 
 impl Extent for Axis {
     ghost use Rattle.specification.specs.Axis.{extents};
-    ghost use Rattle.view.specs.Count.{extents-map};
+    ghost use Rattle.view.specs.Count.{extents_map};
 
     ghost extents_of = { extents };
 
     ghost extent_of = { λ axis. axis.extent };
 
-    ghost each = { extents-map };
+    ghost each = { extents_map };
 
     fn extent(self) -> u64 {
         self.extent
@@ -67,14 +67,14 @@ impl Extent for Axis {
 
 /// Whether there is no position: some extent is 0.
 pub fn has_no_position<E: Extent>(list: &[E]) -> bool
-    ensures { result ≡ zeroAmong (E.extents_of list.now) }
+    ensures { result ≡ zero_among (E.extents_of list.now) }
 {
     list.iter().any(|entry| entry.extent() == 0)
 }
 
 /// How many positions there are; refusal 1 for more than 16 extents, 8 for more than 2^64 - 1 positions.
 pub fn element_count<E: Extent>(list: &[E]) -> Result<u64, Refusal>
-    ensures { outcomeOf result ≡ elementCount (E.extents_of list.now) }
+    ensures { outcome_of result ≡ element_count (E.extents_of list.now) }
 {
     if MOST_AXES < list.len() {
         return Err(Refusal::TooManyAxes);
@@ -92,7 +92,7 @@ pub fn element_count<E: Extent>(list: &[E]) -> Result<u64, Refusal>
 
 /// `element_count` of a list of extents.
 pub fn checked_element_count(extents: &[u64]) -> Result<u64, Refusal>
-    ensures { outcomeOf result ≡ elementCount extents.now }
+    ensures { outcome_of result ≡ element_count extents.now }
 {
     element_count(extents)
 }

@@ -1,10 +1,10 @@
 //! diagonal: tied axes become one axis.
 ghost use Rattle.std.specs.Prelude.{◌≡◌, [], ◌∷◌, map, ◌%◌, ◌^◌, ◌≤◌, ◌<◌, length, drop, OnOk, OnErr};
 ghost use Rattle.std.specs.Int.Count.{ones};
-ghost use Rattle.specification.specs.Views.{pairFault, diagonalView};
-ghost use Rattle.view.specs.Answers.{outcomeOf};
-ghost use Rattle.view.specs.Model.{modelOf, viewedOf, told, first_axes};
-ghost use Rattle.view.specs.Ties.{pairsIn, own_roots, joined, joined_all, renamed, mask_of, Rooted, roots_below, fused_axes, fused_fault, fused_view};
+ghost use Rattle.specification.specs.Views.{pair_fault, diagonal_view};
+ghost use Rattle.view.specs.Answers.{outcome_of};
+ghost use Rattle.view.specs.Model.{model_of, viewed_of, told, first_axes};
+ghost use Rattle.view.specs.Ties.{pairs_in, own_roots, joined, joined_all, renamed, mask_of, IsRooted, roots_below, fused_axes, fused_fault, fused_view};
 
 use crate::bounds::Candidate;
 use crate::layout::{Layout, NO_AXIS, Refusal, Viewed};
@@ -21,7 +21,7 @@ pub(crate) struct Ties {
     roots: [usize; 16],
     rank: usize,
     ghost few: { rank ≤ 16 },
-    ghost rooted: { Rooted rank roots },
+    ghost rooted: { IsRooted rank roots },
 }
 
 /// Each axis whose root is `from` gets the root `to`.
@@ -37,7 +37,6 @@ fn relabel(roots: &mut [usize; 16], from: usize, to: usize)
 
 impl Ties {
     /// Each axis is a class of its own.
-    #[tactic(auto, unfolding(specification::specs::Tests::up_from))]
     fn new(rank: usize) -> Self
         requires { rank ≤ 16 }
         ensures roots { result.roots ≡ own_roots }
@@ -52,7 +51,7 @@ impl Ties {
     /// One pair more: 5 with the larger axis outside the rank, then 5 for equal axes; else both classes get the lower of their roots.
     #[tactic(auto, using(crate::proofs::TieLaws::fault_outside, crate::proofs::TieLaws::fault_equal, crate::proofs::TieLaws::fault_none))]
     fn tie(&mut self, a: usize, b: usize) -> Result<(), Refusal>
-        ensures answer { outcomeOf result ≡ pairFault self.old.rank ((a, b) ∷ []) }
+        ensures answer { outcome_of result ≡ pair_fault self.old.rank ((a, b) ∷ []) }
         ensures roots { OnOk result (self.new.roots ≡ joined self.old.roots (a, b)) }
         ensures rank { self.new.rank ≡ self.old.rank }
     {
@@ -71,7 +70,7 @@ impl Ties {
 
     /// The pairs in order, up to the first that is refused.
     fn tie_all<P: Pair>(&mut self, pairs: &[P]) -> Result<(), Refusal>
-        ensures answer { outcomeOf result ≡ pairFault self.old.rank (map P.numbers_of pairs.now) }
+        ensures answer { outcome_of result ≡ pair_fault self.old.rank (map P.numbers_of pairs.now) }
         ensures roots { OnOk result (self.new.roots
             ≡ joined_all self.old.roots (map P.numbers_of pairs.now)) }
         ensures rank { self.new.rank ≡ self.old.rank }
@@ -116,9 +115,9 @@ fn fuse(
     fused: &mut [Axis; 16],
 ) -> Result<(), Refusal>
     requires few { length axes.now ≤ 16 }
-    requires rooted { Rooted (length axes.now) roots.now }
+    requires rooted { IsRooted (length axes.now) roots.now }
     requires masked { mask ≡ mask_of roots.now (length axes.now) }
-    ensures answer { outcomeOf result
+    ensures answer { outcome_of result
         ≡ fused_fault axes.now roots.now (roots_below roots.now (length axes.now)) }
     ensures fused { OnOk result (first_axes fused.new (ones mask) ≡ fused_axes axes.now roots.now) }
 {
@@ -139,7 +138,7 @@ impl Layout {
     /// Each class as one axis, at the place of its root; or refusal 3 of a sum or of the bounds, and the layout as it was.
     fn fuse_in_place(&mut self, ties: &Ties) -> Result<(), Refusal>
         requires { ties.now.rank ≡ self.old.rank }
-        ensures told { told result self.new ≡ fused_view (modelOf self.old) ties.now.roots }
+        ensures told { told result self.new ≡ fused_view (model_of self.old) ties.now.roots }
         ensures kept { OnErr result (self.new ≡ self.old) }
         ensures past { drop self.new.rank self.new.axes ≡ drop self.new.rank self.old.axes }
     {
@@ -162,7 +161,7 @@ impl Layout {
     #[tactic(auto, using(crate::proofs::DiagonalLaws::diagonal_handed, crate::proofs::DiagonalLaws::diagonal_paired, crate::proofs::DiagonalLaws::diagonal_fused))]
     pub(crate) fn diagonal_by<P: Pair>(&mut self, pairs: &[P]) -> Result<(), Refusal>
         ensures told { told result self.new
-            ≡ diagonalView (modelOf self.old) (map P.numbers_of pairs.now) }
+            ≡ diagonal_view (model_of self.old) (map P.numbers_of pairs.now) }
         ensures kept { OnErr result (self.new ≡ self.old) }
         ensures past { drop self.new.rank self.new.axes ≡ drop self.new.rank self.old.axes }
     {
@@ -175,7 +174,7 @@ impl Layout {
     /// Tied axes as one axis, for pairs in order; or refusal 1, 3, 5 with an axis of the first pair that names one outside the
     /// rank or one twice, 3 of a sum of strides or of the bounds, and the layout as it was.
     pub fn diagonal_in_place(&mut self, pairs: &[AxisPair]) -> Result<(), Refusal>
-        ensures told { told result self.new ≡ diagonalView (modelOf self.old) (pairsIn pairs.now) }
+        ensures told { told result self.new ≡ diagonal_view (model_of self.old) (pairs_in pairs.now) }
         ensures kept { OnErr result (self.new ≡ self.old) }
         ensures past { drop self.new.rank self.new.axes ≡ drop self.new.rank self.old.axes }
     {
@@ -184,7 +183,7 @@ impl Layout {
 
     /// The layout after it, or the refusal and the layout as it was.
     pub fn diagonal_view(mut self, pairs: &[AxisPair]) -> Viewed
-        ensures { viewedOf result ≡ diagonalView (modelOf self) (pairsIn pairs.now) }
+        ensures { viewed_of result ≡ diagonal_view (model_of self) (pairs_in pairs.now) }
     {
         let answer = self.diagonal_in_place(pairs);
         Viewed {

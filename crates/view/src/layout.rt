@@ -1,8 +1,8 @@
 //! A layout, what a view of it answers, and why a call is refused.
 ghost use Rattle.std.specs.Prelude.{◌≡◌, ◌≤◌, length, drop, OnErr};
-ghost use Rattle.specification.specs.CheckIn.{checkIn};
+ghost use Rattle.specification.specs.CheckIn.{check_in};
 ghost use Rattle.view.specs.Answers.{number_of, values_of, listed};
-ghost use Rattle.view.specs.Model.{modelOf, told, accepted_of, layout_outcome, checked_into};
+ghost use Rattle.view.specs.Model.{model_of, told, accepted_of, layout_outcome, checked_into};
 
 use crate::axes::Lists;
 use crate::bounds::Candidate;
@@ -18,7 +18,7 @@ pub const MOST_AXES: usize = 16;
 #[derive(Clone, Copy, Debug, PartialEq, Eq, PartialOrd, Ord)]
 pub struct ReadingOffset(pub i64);
 
-/// Where readings stand in a buffer. Array places past the rank are no part of a layout and may hold anything. Whoever makes one
+/// Where readings stand in a buffer. Only the first `rank` places of `axes` count; the others may hold anything. Whoever makes one
 /// may set any rank.
 #[repr(C)]
 #[derive(Clone, Copy, Debug)]
@@ -42,13 +42,13 @@ pub struct Viewed {
     pub answer: Result<(), Refusal>,
 }
 
-/// Why a call is refused: one row of the table of refusals each, with the values that are returned.
+/// Why a call is refused, with the values that are returned (RULES, "Refusals, and which comes first").
 #[derive(Clone, Copy, Debug, PartialEq, Eq, Error)]
 pub enum Refusal {
-    /// 1: a list of axes has more than 16 entries, or a layout more than 16 axes.
+    /// 1: more than 16 entries in a list of axes, or more than 16 axes in a layout.
     #[error("more than 16 axes or entries")]
     TooManyAxes,
-    /// 2: extents and strides, or an output, differ in length.
+    /// 2: extents and strides, or strides and an output, are not of one length.
     #[error("the lists differ in length")]
     LengthsDiffer,
     /// 3: an offset is not accepted, or a stride, a span or a sum leaves its range.
@@ -90,7 +90,7 @@ impl Viewed {
 }
 
 impl Refusal {
-    /// Its row of the table: the number, and the values returned with it. A new refusal has its line here and one above.
+    /// Its number, and the values returned with it. A new refusal has its line here and one above.
     fn row(self) -> (u8, Values)
         ensures number { result.0 ≡ number_of self }
         ensures values { listed result.1 ≡ values_of self }
@@ -110,7 +110,7 @@ impl Refusal {
         }
     }
 
-    /// The number of its row.
+    /// Its number.
     pub fn number(self) -> u8
         ensures { result ≡ number_of self }
     {
@@ -136,7 +136,7 @@ impl Layout {
     #[tactic(auto, using(crate::proofs::AxesLaws::first_axes_take))]
     pub fn axes(&self) -> &[Axis]
         requires { self.now.rank ≤ 16 }
-        ensures meaning { result.now ≡ (modelOf self.now).axes }
+        ensures meaning { result.now ≡ (model_of self.now).axes }
         ensures count { length result.now ≡ self.now.rank }
     {
         &self.axes[..self.rank]
@@ -149,7 +149,7 @@ impl Layout {
         extents: &[u64],
         strides: &[i64],
     ) -> Result<Self, Refusal>
-        ensures { layout_outcome result ≡ checkIn len offset.0 extents.now strides.now }
+        ensures { layout_outcome result ≡ check_in len offset.0 extents.now strides.now }
     {
         let mut layout = Layout {
             len: 0,
@@ -172,7 +172,7 @@ impl Layout {
         strides: &[i64],
     ) -> Result<(), Refusal>
         ensures told { told result self.new
-            ≡ checked_into (modelOf self.old) (checkIn len offset.0 extents.now strides.now) }
+            ≡ checked_into (model_of self.old) (check_in len offset.0 extents.now strides.now) }
         ensures kept { OnErr result (self.new ≡ self.old) }
         ensures past { drop self.new.rank self.new.axes ≡ drop self.new.rank self.old.axes }
     {

@@ -1,7 +1,7 @@
 //! Pairs of axes as they are handed in: as structs, or in plain numbers by callers that hold no structs (a call list, a text, C).
-ghost use Rattle.std.specs.Prelude.{◌≡◌, ◌≤◌, ℕ, drop, get_or, OnErr};
-ghost use Rattle.specification.specs.Views.{pairsOf, diagonalView};
-ghost use Rattle.view.specs.Model.{modelOf, told};
+ghost use Rattle.std.specs.Prelude.{◌≡◌, ◌≤◌, ℕ, drop, slice_index_or, OnErr};
+ghost use Rattle.specification.specs.Views.{pairs_of, diagonal_view};
+ghost use Rattle.view.specs.Model.{model_of, told};
 
 use crate::diagonal::AxisPair;
 use crate::layout::{Layout, Refusal};
@@ -39,7 +39,7 @@ impl Layout {
     /// `diagonal_in_place` for pairs in flat numbers; an odd last number is passed over.
     #[tactic(auto, using(crate::proofs::PairLaws::numbers_paired))]
     pub fn diagonal_by_numbers(&mut self, pairs: &[usize]) -> Result<(), Refusal>
-        ensures told { told result self.new ≡ diagonalView (modelOf self.old) (pairsOf pairs.now) }
+        ensures told { told result self.new ≡ diagonal_view (model_of self.old) (pairs_of pairs.now) }
         ensures kept { OnErr result (self.new ≡ self.old) }
         ensures past { drop self.new.rank self.new.axes ≡ drop self.new.rank self.old.axes }
     {

@@ -44,7 +44,7 @@ impl Values {
         }
     }
 
-    /// The values, in the order of the table.
+    /// The values, in the order that the refusal names them.
     pub fn as_slice(&self) -> &[usize]
         ensures { result.now ≡ listed self.now }
     {

@@ -2,7 +2,7 @@
 use Rattle.std.proofs.Common.{◌≡◌, ◌∙◌, ℤ, Option, ℕ, suc, ◌+◌, ◌-◌, ◌<◌, ◌≤◌, Bool, true, false, Some, List, IsTrue, refl, if◌then◌else◌, sym, ap, arith}
 use mathlib.Core.Logic.{◌↔◌}
 use Rattle.std.proofs.lemmas.Int.{ints}
-use Rattle.specification.specs.Search.{ActiveAxis, box, half, first_of, differenceAt, differenceSum, Completes}
+use Rattle.specification.specs.Search.{ActiveAxis, box, half, first_of, difference_at, difference_sum, Completes}
 use Rattle.specification.specs.Verdict.{hit}
 use Rattle.differences.specs.AxisDifferences.{number_of}
 use Rattle.differences.proofs.VectorLaws.{number-low}
@@ -27,7 +27,7 @@ first-more test n m c e = ap (λ (k : ℕ). first_of test k c) e
 
 -- the answer of `is_completed` is the definitions' test of the place
 pub asked : (a b : ActiveAxis) (others : List ActiveAxis) (c k : ℕ) (r : Bool) → k ≡ half others + c
-    → (IsTrue r ↔ Completes a b (differenceSum others (differenceAt others k))) → hit a b others c ≡ r
+    → (IsTrue r ↔ Completes a b (difference_sum others (difference_at others k))) → hit a b others c ≡ r
 unfolding hit
 asked a b others c k r e w = grind (arith, ints)
 
@@ -38,7 +38,7 @@ first_from t others stop from = first_of (hit t.first t.second others) (stop - f
 -- the walk stands on the way from `from` to `stop`, and the first place is among those that are left
 pub record Running (t : TwoAxes) (others : List ActiveAxis) (from stop : ℕ) (ds : List DifferenceAxis) (p : Place) : Type 0 where
   pub at : At t ds p
-  pub others-are : others_of ds ≡ others
+  pub others_are : others_of ds ≡ others
   pub upto : p.count ≤ stop
   pub left : first_from t others stop from ≡ first_from t others stop p.count
 
@@ -51,7 +51,7 @@ module _ {t : TwoAxes} {others : List ActiveAxis} {from stop : ℕ} {ds : List D
     on-at = record { stands = s; number = omega (arith, n, w.at.number, ap half o) }
 
     abbrev sum : ℤ
-    sum = differenceSum (others_of ds') (differenceAt (others_of ds') (number_of (vector_of ds')))
+    sum = difference_sum (others_of ds') (difference_at (others_of ds') (number_of (vector_of ds')))
 
     module _ (y : Bool) (tells : IsTrue y ↔ Completes t.first t.second sum) where
       here : first_from t others stop from ≡ (if y then Some (p.count + 1) else first_from t others stop (p.count + 1))
@@ -60,10 +60,10 @@ module _ {t : TwoAxes} {others : List ActiveAxis} {from stop : ℕ} {ds : List D
           let e : suc p.count ≡ p.count + 1 = omega arith in
           w.left
           ∙ first-more (hit t.first t.second others) (stop - p.count) (stop - (p.count + 1)) (suc p.count) (omega arith)
-          ∙ rw (e, ← w.others-are, ← o, told) refl
+          ∙ rw (e, ← w.others_are, ← o, told) refl
 
       pub on-found : y ≡ true → Some (p.count + 1) ≡ first_from t others stop from
       on-found e = sym (here ∙ rw e refl)
 
       pub on-running : y ≡ false → Running t others from stop ds' (record { count = p.count + 1; residues = r })
-      on-running e = record { at = on-at; others-are = o ∙ w.others-are; upto = omega arith; left = here ∙ rw e refl }
+      on-running e = record { at = on-at; others_are = o ∙ w.others_are; upto = omega arith; left = here ∙ rw e refl }

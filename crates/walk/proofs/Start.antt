@@ -7,7 +7,7 @@ use Rattle.std.proofs.lemmas.List.Elements.{All-head, All-tail, All-push}
 use Rattle.std.proofs.lemmas.List.{take_more, take_more_set, map_push, length-set}
 use Rattle.std.proofs.lemmas.Int.{ints}
 use Rattle.specification.specs.Axis.{product}
-use Rattle.specification.specs.Search.{ActiveAxis, spanSum, total, half}
+use Rattle.specification.specs.Search.{ActiveAxis, span_sum, total, half}
 use Rattle.differences.specs.AxisDifferences.{axes_of, number_of}
 use Rattle.differences.proofs.ZeroVector.{zero_on, zero_vector, zero-axes, zero-number, zero-sum}
 use Rattle.walk.specs.Underway.{IsCountable, difference_of, vector_of, others_of, IsFit, IsResidue}
@@ -56,13 +56,13 @@ module _ (t : TwoAxes) (others : List ActiveAxis) (ds : List DifferenceAxis) (j 
   is-zero : vector_of front ≡ zero_vector others
   is-zero = ap (λ (k : ℕ). vector_of (take k ds)) (sym here) ∙ w.vector ∙ ap zero_vector (take_all j others all)
 
-  others-are : others_of front ≡ others
-  others-are = ap axes_of is-zero ∙ zero-axes others
+  others_are : others_of front ≡ others
+  others_are = ap axes_of is-zero ∙ zero-axes others
 
   pub start-view : walk_at t front none ≡ record { first = t.first; second = t.second; others = others; count = 0 }
   start-view =
       let view = λ (o : List ActiveAxis). let w : WalkAt = record { first = t.first; second = t.second; others = o; count = 0 } in w in
-      ap view others-are
+      ap view others_are
 
   start-residue : (m x r : ℕ) → r < m → IsResidue m x r front r
   start-residue m x r h = record {
@@ -70,13 +70,13 @@ module _ (t : TwoAxes) (others : List ActiveAxis) (ds : List DifferenceAxis) (j 
     so = rw (← above-is front, ← below-is front, is-zero, zero-sum (λ d. d.above) (λ a. refl) others, zero-sum (λ d. d.below) (λ a. refl) others) (record { p = 0; q = 0; eq = omega arith });
   }
 
-  pub start : All IsCountable others → spanSum (t.first ∷ t.second ∷ others) < 2 ^ 64 → At t front none
+  pub start : All IsCountable others → span_sum (t.first ∷ t.second ∷ others) < 2 ^ 64 → At t front none
   start c fits = record {
     stands = record {
       fit = rw (← here) w.fit;
-      fits = rw others-are fits;
+      fits = rw others_are fits;
       z = start-residue t.second.stride t.inverse t.window t.apart;
       q = start-residue t.g (1 % t.g) 0 t.above;
     };
-    number = omega (arith, ap number_of is-zero ∙ zero-number others (some-total others c), ap half others-are);
+    number = omega (arith, ap number_of is-zero ∙ zero-number others (some-total others c), ap half others_are);
   }

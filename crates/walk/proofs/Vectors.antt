@@ -7,9 +7,9 @@ use Rattle.std.proofs.Math.ListN.{get_or-map}
 use Rattle.std.proofs.lemmas.List.{map-set, length-map}
 use Rattle.std.proofs.lemmas.List.Elements.{All-nil, All-cons, All-head, All-tail}
 use Rattle.std.proofs.lemmas.List.Sums.{sum_by-cons, sum_by-set}
-use Rattle.integer.specs.Congruence.{Congruent}
+use Rattle.integer.specs.Congruence.{IsCongruent}
 use Rattle.integer.proofs.Congruence.{congruent-of-equal}
-use Rattle.specification.specs.Search.{spanSum}
+use Rattle.specification.specs.Search.{span_sum}
 use Rattle.differences.specs.declared.AxisDifference.{AxisDifference}
 use Rattle.differences.specs.AxisDifferences.{axes_of, number_of, sum_of, up_of, down_of, IsSmall}
 use Rattle.differences.proofs.VectorLaws.{entry, digit_of, box_before, axes-set, number-set, sum-cons}
@@ -48,8 +48,8 @@ pub below-is : (ds : List DifferenceAxis) → down_of (vector_of ds) ≡ sum_bel
 below-is = sum-is (λ d. d.below)
 
 -- the two together are at most the span
-pub sums-low : (t : TwoAxes) (ds : List DifferenceAxis) → All (IsFit t) ds → sum_above ds + sum_below ds ≤ spanSum (others_of ds)
-unfolding spanSum
+pub sums-low : (t : TwoAxes) (ds : List DifferenceAxis) → All (IsFit t) ds → sum_above ds + sum_below ds ≤ span_sum (others_of ds)
+unfolding span_sum
 sums-low t [] f = omega arith
 sums-low t (d ∷ ds) f =
     let m = d.axis.extent - 1 in
@@ -78,11 +78,11 @@ module _ (ds : List DifferenceAxis) (j v : ℕ) where
   set-vector : vector_of turned ≡ set (vector_of ds) j (difference_of there)
   set-vector = map-set difference_of ds j there
 
-  same-axis : here.axis ≡ (entry (vector_of ds) j).axis
-  same-axis = ap (λ (d : AxisDifference). d.axis) (sym (entry-is ds j))
+  same_axis : here.axis ≡ (entry (vector_of ds) j).axis
+  same_axis = ap (λ (d : AxisDifference). d.axis) (sym (entry-is ds j))
 
   pub turned-others : others_of turned ≡ others_of ds
-  turned-others = ap axes_of set-vector ∙ axes-set (vector_of ds) j (difference_of there) same-axis
+  turned-others = ap axes_of set-vector ∙ axes-set (vector_of ds) j (difference_of there) same_axis
 
   module _ (h : j < length ds) where
     abbrev b : ℕ
@@ -90,7 +90,7 @@ module _ (ds : List DifferenceAxis) (j v : ℕ) where
 
     pub turned-number : number_of (vector_of turned) + here.digit * b ≡ number_of (vector_of ds) + v * b
     turned-number =
-        let n = number-set (vector_of ds) j (difference_of there) (omega (arith, length-map ds difference_of)) same-axis in
+        let n = number-set (vector_of ds) j (difference_of there) (omega (arith, length-map ds difference_of)) same_axis in
         let e = ap (λ (d : AxisDifference). digit_of d * b) (entry-is ds j) in
         let digit = λ (d : DifferenceAxis). ap (λ (k : ℕ). k * b) (digit-is d) in
         omega (arith, ap number_of set-vector, n, e, digit here, digit there)
@@ -106,7 +106,7 @@ module _ (ds : List DifferenceAxis) (j v : ℕ) where
 
     -- and with it a residue, by a step that comes to as much
     pub turned-residue : (m c w r s r' : ℕ) → IsResidue m c w ds r
-        → Congruent m (s + here.digit * (here.axis.stride * c)) (v * (here.axis.stride * c))
+        → IsCongruent m (s + here.digit * (here.axis.stride * c)) (v * (here.axis.stride * c))
         → (r' < m) × (r' ≡ (r + s) % m) → IsResidue m c w turned r'
     turned-residue m c w r s r' i k n =
         let o = congruent-of-equal m r' (r + s) n.1 in

@@ -1,7 +1,7 @@
 //! The axes whose differences are walked over, each with its digit, and the residues of their sum that go along.
 ghost use Rattle.std.specs.Prelude.{◌↔◌, IsTrue, ◌≡◌, ◌+◌, ◌-◌, ◌*◌, ◌%◌, ◌^◌, ◌<◌, All};
-ghost use Rattle.integer.specs.Congruence.{Congruent};
-ghost use Rattle.specification.specs.Search.{box, differenceAt, differenceSum, Completes};
+ghost use Rattle.integer.specs.Congruence.{IsCongruent};
+ghost use Rattle.specification.specs.Search.{box, difference_at, difference_sum, Completes};
 ghost use Rattle.differences.specs.AxisDifferences.{number_of};
 ghost use Rattle.walk.specs.Underway.{IsStep, IsFit, IsCountable, vector_of, others_of, sum_above, sum_below, Stands};
 
@@ -138,7 +138,7 @@ fn parts_of(axes: &[DifferenceAxis]) -> Sums
 pub fn is_completed(two: TwoAxes, axes: &[DifferenceAxis], residues: Residues) -> bool
     requires { Stands two axes.now residues }
     ensures { let others = others_of axes.now in
-        IsTrue result ↔ Completes two.first two.second (differenceSum others (differenceAt others (number_of (vector_of axes.now)))) }
+        IsTrue result ↔ Completes two.first two.second (difference_sum others (difference_at others (number_of (vector_of axes.now)))) }
 {
     let Residues { z, q } = residues;
     if z > 2 * two.window || q > 0 {

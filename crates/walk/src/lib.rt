@@ -16,7 +16,7 @@ mod difference_axis;
 mod two_axes;
 
 ghost use Rattle.std.specs.Prelude.{◌≡◌, ◌+◌, ◌-◌, ◌^◌, ◌<◌, ◌≤◌, [], ◌∷◌, suc, length, unwrap_or, All};
-ghost use Rattle.specification.specs.Search.{half, spanSum, first_of};
+ghost use Rattle.specification.specs.Search.{half, span_sum, first_of};
 ghost use Rattle.specification.specs.Verdict.{hit};
 ghost use Rattle.walk.specs.Underway.{IsCountable};
 ghost use Rattle.walk.specs.WalkAt.{At, walk_at};
@@ -86,7 +86,7 @@ impl Walk {
     pub fn new(two: TwoAxes, others: &[ActiveAxis]) -> Walk
         requires few { length others.now ≤ 16 }
         requires countable { All IsCountable others.now }
-        requires fits { spanSum (two.first ∷ two.second ∷ others.now) < 2 ^ 64 }
+        requires fits { span_sum (two.first ∷ two.second ∷ others.now) < 2 ^ 64 }
         ensures { result ≡ record { first = two.first; second = two.second; others = others.now; count = 0 } }
     {
         let mut axes = [DifferenceAxis::NONE; 16];

@@ -1,6 +1,6 @@
 //! The two axes that are set apart, and which sums some difference of each completes to 0.
 ghost use Rattle.std.specs.Prelude.{◌≡◌, ◌↔◌, IsTrue, ◌+◌, ◌-◌, ◌*◌, ◌/◌, ◌%◌, ◌^◌, ◌<◌, ◌≤◌, pos, ◌-ℤ◌};
-ghost use Rattle.integer.specs.Congruence.{Congruent};
+ghost use Rattle.integer.specs.Congruence.{IsCongruent};
 ghost use Rattle.integer.specs.Gcd.{gcd};
 ghost use Rattle.specification.specs.Search.{Completes};
 
@@ -66,8 +66,8 @@ fn near(two: TwoAxes, up: u64, down: u64, k: u64, span: u64) -> bool
 #[tactic(auto, using(crate::proofs::Completing::window_part))]
 pub(crate) fn completes(two: TwoAxes, up: u64, down: u64, k: u64) -> bool
     requires low { k < two.second.stride }
-    requires residue { Congruent two.second.stride (k + down * two.inverse) (up * two.inverse) }
-    requires divides { Congruent two.g up down }
+    requires residue { IsCongruent two.second.stride (k + down * two.inverse) (up * two.inverse) }
+    requires divides { IsCongruent two.g up down }
     requires fits { (two.first.extent - 1) * two.first.stride + ((two.second.extent - 1) * two.second.stride + (up + down)) < 2 ^ 64 }
     ensures { IsTrue result ↔ Completes two.first two.second (pos up -ℤ pos down) }
 {

@@ -1,4 +1,4 @@
-//! 01's own examples of the verdict, normal form and record, held against the reference before it is used.
+//! Examples of the verdict, the normal form and the record, those of docs/RULES.md among them, held against the reference before it is used.
 
 use crate::input::Layout;
 use crate::record::{normal_form, read, write};

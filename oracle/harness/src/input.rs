@@ -77,7 +77,7 @@ impl Layout {
     }
 }
 
-/// Places past the rank are no part of a layout.
+/// Places past the rank do not count.
 impl PartialEq for Layout {
     fn eq(&self, other: &Layout) -> bool {
         (self.len, self.offset, self.rank) == (other.len, other.offset, other.rank)
@@ -168,7 +168,7 @@ impl<T: Copy + Default + PartialEq> PartialEq for List<T> {
     }
 }
 
-/// 0 and what is given, or 01's refusal number with its values (unused ones are 0).
+/// 0 and what is given, or a refusal's number with its values (unused ones are 0).
 #[derive(Clone, Copy, PartialEq)]
 pub struct Answer {
     pub number: u8,

@@ -189,7 +189,7 @@ impl Lent {
         })
     }
 
-    /// Whether scratch holds what it held, but for the words that step 6 is free to use.
+    /// Whether scratch holds what it held, but for the words that the enumeration is free to use.
     fn scratch_kept(&mut self, extents: &List<u64>, strides: &List<i64>, words: usize) -> bool {
         let needed = words_needed(extents.slice(), strides.slice()).unwrap_or(0) as usize;
         let free = if needed <= words { needed } else { 0 };

@@ -1,4 +1,4 @@
-//! The calls that 01 adds, written from 01: normal form, record, reading, stepping over. The Rust has none of them.
+//! The calls that the Rust does not have, by docs/RULES.md: normal form, record, reading, stepping over.
 
 use crate::input::Layout;
 use crate::reference::{accepted, judge, reach, Judged};

@@ -1,4 +1,4 @@
-//! Document 01 once more, as plain Rust over 128-bit numbers: what the Rust has no answer for (the accepted test, refusal numbers, the count, words needed).
+//! The rules (docs/RULES.md) once more, as plain Rust over 128-bit numbers: what the Rust has no answer for (the accepted test, refusal numbers, the count, words needed).
 
 use crate::input::Layout;
 use strided_view::KernelDType;
@@ -16,7 +16,7 @@ pub fn reach(extents: &[u64], strides: &[i64]) -> (i128, i128) {
     (low, high)
 }
 
-/// The rule after 01's table, for a rank of at most 16.
+/// Whether a layout is accepted, for a rank of at most 16.
 pub fn accepted(layout: &Layout) -> bool {
     if layout.extents().contains(&0) {
         return true;
@@ -26,14 +26,14 @@ pub fn accepted(layout: &Layout) -> bool {
     low >= 0 && high < 1 << 63 && high < layout.len as i128
 }
 
-/// What 01 says of extents and strides.
+/// What the rules say of extents and strides.
 #[derive(Clone, Copy, PartialEq, Debug)]
 pub enum Judged {
     Refused(u8),
     Distinct(u64),
     Repeated(u64),
     Undecided,
-    /// Step 6 enumerates, with so many words of scratch.
+    /// The block is enumerated, with so many words of scratch.
     Enumerated(u64),
 }
 
@@ -50,13 +50,13 @@ impl Axis {
     }
 }
 
-/// Judged before step 5, or what step 5 is to search: the two set apart, the others, half.
+/// Judged before the search, or what is to be searched: the two set apart, the others, half.
 enum Plan {
     Judged(Judged),
     Search(Vec<Axis>, Vec<Axis>, u64),
 }
 
-/// The verdict by 01's six steps, without the enumeration itself.
+/// The verdict by its parts, without the enumeration itself.
 pub fn judge(extents: &[u64], strides: &[i64]) -> Judged {
     match plan(extents, strides) {
         Plan::Judged(judged) => judged,
@@ -64,7 +64,7 @@ pub fn judge(extents: &[u64], strides: &[i64]) -> Judged {
     }
 }
 
-/// Step 5's answer once more, with the differences in the order of the Rust's own walk.
+/// The search's answer once more, with the differences in the order of the Rust's own walk.
 pub fn judge_by_rust_walk(extents: &[u64], strides: &[i64]) -> Option<Judged> {
     let Plan::Search(two, others, half) = plan(extents, strides) else {
         return None;
@@ -80,7 +80,7 @@ pub fn judge_by_rust_walk(extents: &[u64], strides: &[i64]) -> Option<Judged> {
     })
 }
 
-/// The words of scratch that step 6 needs, if it is reached; fewer than 8 axes never reach it.
+/// The words of scratch that the enumeration needs, if it is reached; fewer than 8 axes never reach it.
 pub fn words_needed(extents: &[u64], strides: &[i64]) -> Option<u64> {
     if extents.len() < 8 {
         return None;
@@ -100,7 +100,7 @@ pub fn cost(extents: &[u64], strides: &[i64]) -> u64 {
     }
 }
 
-/// Steps 1 and 2.
+/// The inputs.
 fn refused(extents: &[u64], strides: &[i64]) -> Option<Judged> {
     if extents.len() > 16 || strides.len() > 16 {
         return Some(Judged::Refused(1));
@@ -129,7 +129,7 @@ fn refused(extents: &[u64], strides: &[i64]) -> Option<Judged> {
     None
 }
 
-/// From step 3 on.
+/// From the block on.
 fn plan(extents: &[u64], strides: &[i64]) -> Plan {
     if let Some(judged) = refused(extents, strides) {
         return Plan::Judged(judged);
@@ -190,7 +190,7 @@ fn collide_alone(one: &Axis, other: &Axis) -> bool {
     other.stride / g < one.extent && one.stride / g < other.extent
 }
 
-/// Step 5: the differences of `others` in 01's order, the first that the two complete.
+/// The search: the differences of `others` in the rules' order, the first that the two complete.
 fn search(two: &[Axis], others: &[Axis], half: u64) -> Judged {
     if collide_alone(&two[0], &two[1]) {
         return Judged::Repeated(0);

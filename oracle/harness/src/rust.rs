@@ -1,5 +1,5 @@
-//! The Rust's answer to an input, each result, error and panic as 01's number and values.
-//! 01's refusals that the Rust cannot give come first: 1, and 3 for a layout that no constructor of the Rust would have made.
+//! The Rust's answer to an input, each result, error and panic as a number and values of docs/RULES.md.
+//! Refusals that the Rust cannot give come first: 1, and 3 for a layout that no constructor of the Rust would have made.
 
 use crate::input::{Answer, Given, Input, Layout, List};
 use crate::reference::{accepted, judge, Judged};
@@ -45,7 +45,7 @@ fn refusal(error: StridedError) -> Answer {
         StridedError::OffsetOverflow => Answer::refused(3),
         StridedError::RankMismatch(first, second) => Answer::with(4, first as u64, second as u64),
         StridedError::InvalidAxis { axis, rank } => Answer::with(5, axis as u64, rank as u64),
-        other => panic!("the Rust answers {other}, which 01 has no number for"),
+        other => panic!("the Rust answers {other}, which the rules have no number for"),
     }
 }
 
@@ -56,7 +56,7 @@ fn viewed(result: Result<StridedView<'static, ()>>) -> Answer {
     }
 }
 
-/// 1, then 3, as 01 refuses a layout and a list handed to a call.
+/// 1, then 3, as a layout and a list handed to a call are refused.
 pub fn handed(layout: &Layout, list: usize) -> Option<Answer> {
     if layout.rank > 16 || list > 16 {
         Some(Answer::refused(1))
@@ -101,11 +101,11 @@ fn panicked(message: &str, extents: &[u64], index: &[u64]) -> Answer {
     } else if message.contains("index offset overflow") {
         Answer::refused(3)
     } else {
-        panic!("the Rust panics with {message}, which 01 has no number for")
+        panic!("the Rust panics with {message}, which the rules have no number for")
     }
 }
 
-/// The Rust says distinct or not; number, count and the words that step 6 needs are the reference's, which must agree with it.
+/// The Rust says distinct or not; number, count and the words that the enumeration needs are the reference's, which must agree with it.
 fn injective(extents: &[u64], strides: &[i64], words: usize) -> Answer {
     let judged = judge(extents, strides);
     if judged == Judged::Refused(1) {
@@ -188,7 +188,7 @@ pub fn answer(input: &Input) -> Answer {
     }
 }
 
-/// Whether the Rust itself was asked: 01's own refusals come before it.
+/// Whether the Rust itself was asked: refusals that it cannot give come before it.
 pub fn asked(input: &Input) -> bool {
     match input {
         Input::Bounds { extents, strides, .. } | Input::New { extents, strides, .. } => extents.len <= 16 && strides.len <= 16,

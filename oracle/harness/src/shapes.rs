@@ -1,4 +1,4 @@
-//! Random extents and strides for the verdict, aimed at each of its steps.
+//! Random extents and strides for the verdict, aimed at each of its parts.
 
 use crate::input::{Input, List};
 use crate::random::Random;
@@ -15,7 +15,7 @@ fn of(axes: &[(u64, i64)]) -> Axes {
     (extents, strides)
 }
 
-/// Few positions and small strides: every step is near.
+/// Few positions and small strides: every part is near.
 fn small(random: &mut Random) -> Axes {
     let rank = random.between(0, 5);
     let reach = random.between(1, 30) as i64;
@@ -173,7 +173,7 @@ fn long_search(random: &mut Random, most: u64) -> Axes {
     of(&axes)
 }
 
-/// Signs, order, axes of extent 1 and a zero stride do not change the step that is aimed at, or end it early.
+/// Signs, order, axes of extent 1 and a zero stride do not change the part that is aimed at, or end it early.
 fn dressed(random: &mut Random, (mut extents, mut strides): Axes) -> Axes {
     if random.once_in(3) {
         while extents.len < 16 && random.once_in(2) {
@@ -206,7 +206,7 @@ fn dressed(random: &mut Random, (mut extents, mut strides): Axes) -> Axes {
     (extents, strides)
 }
 
-/// Extents and strides aimed at some step.
+/// Extents and strides aimed at some part of the verdict.
 pub fn shape(random: &mut Random) -> Axes {
     let axes = match random.below(64) {
         0..=11 => small(random),

@@ -177,7 +177,7 @@ impl<'a> Words<'a> {
     }
 }
 
-/// A list of axes as the library takes it: 01 refuses one of more than 16 entries before all else.
+/// A list of axes as the library takes it: one of more than 16 entries is refused 1 before all else.
 fn axes<T: Copy + Default>(list: &[T]) -> Said<List<T>> {
     if list.len() > 16 {
         return Err(refused((1, 0)));

@@ -7,7 +7,7 @@ use Rattle.walk.proofs.run.Goals as goal
 pub turn-residues-requires-clause-more : goal.turn-residues-requires-clause-more
 turn-residues-requires-clause-more c =
     let i = c.loop-count.invariant in
-    one_more _ _ _ i.at (omega (arith, c.loop-count-test.true, c.requires.to, ap half i.others-are))
+    one_more _ _ _ i.at (omega (arith, c.loop-count-test.true, c.requires.to, ap half i.others_are))
 
 pub returns-then-is_completed-clause-found : goal.returns-then-is_completed-clause-found
 returns-then-is_completed-clause-found c =

@@ -1,4 +1,4 @@
-//! The calls that 01 adds, our library beside the reference: `added SECONDS SEED`. The Rust has no such calls.
+//! The calls that the Rust does not have, our library beside the reference: `added SECONDS SEED`.
 
 use harness::input::{joined, Layout};
 use harness::ours::{self, strided_normal_form, strided_read, strided_step, strided_write, Values};
@@ -43,7 +43,7 @@ impl Lent {
         Lent { layout: Guarded::of(layout.into()), values: Guarded::of(NO_VALUES), scratch: vec![PATTERN; words] }
     }
 
-    /// The words past what was handed over, and scratch but for the words that step 6 may use.
+    /// The words past what was handed over, and scratch but for the words that the enumeration may use.
     fn kept(&self, layout: &Layout, words: usize) -> bool {
         let needed = words_needed(layout.extents(), layout.strides()).unwrap_or(0) as usize;
         let free = if needed <= words { needed } else { 0 };

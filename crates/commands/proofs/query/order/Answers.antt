@@ -3,10 +3,10 @@ use Rattle.std.proofs.Common.{rules, arith, ◌≡◌, ◌≤◌, ◌<◌, ◌�
 use Rattle.std.proofs.lemmas.Bool.{cases_lt, ne_eqb}
 use Rattle.std.proofs.lemmas.List.{take_at}
 use Rattle.specification.specs.Outcome.{Outcome, done, refused}
-use Rattle.specification.specs.Beside.{indexOrder, orderAfter}
+use Rattle.specification.specs.Beside.{index_order, order_after}
 use Rattle.specification.proofs.OutcomeLaws.{clash}
 use Rattle.view.specs.declared.layout.Refusal.{Refusal}
-use Rattle.view.specs.Answers.{outcomeOf, answer_of}
+use Rattle.view.specs.Answers.{outcome_of, answer_of}
 use Rattle.commands.specs.Texts.{told_refusal}
 use Rattle.commands.specs.Obeyed.{told, order_text}
 use Rattle.commands.proofs.query.order.Goals as goal
@@ -18,15 +18,15 @@ same_test n places room e few = go (cases_lt 65 places)
     go (inl h) = ne_eqb n places (λ k. omega arith) ∙ sym (ne_eqb n room (λ k. omega arith))
     go (inr h) = ap (eqb n) (omega arith)
 
-same_order : (items strides : List ℤ) (places room : ℕ) → strides ≡ items → room ≡ min places 65 → length strides ≤ 64 → indexOrder items places ≡ indexOrder strides room
-unfolding indexOrder
+same_order : (items strides : List ℤ) (places room : ℕ) → strides ≡ items → room ≡ min places 65 → length strides ≤ 64 → index_order items places ≡ index_order strides room
+unfolding index_order
 same_order items strides places room same e few = rw (← same, same_test (length strides) places room e few) refl
 
-refused_is : (o : Outcome (List ℕ)) (why : Refusal) → outcomeOf (Err why) ≡ answer_of o → told o ≡ Err (told_refusal why)
+refused_is : (o : Outcome (List ℕ)) (why : Refusal) → outcome_of (Err why) ≡ answer_of o → told o ≡ Err (told_refusal why)
 refused_is (done order) why e = absurd (clash (sym e))
 refused_is (refused number values) why e = cc
 
-given_is : (o : Outcome (List ℕ)) (before after : List ℕ) → outcomeOf (Ok tt) ≡ answer_of o → after ≡ orderAfter o before → told o ≡ Ok after
+given_is : (o : Outcome (List ℕ)) (before after : List ℕ) → outcome_of (Ok tt) ≡ answer_of o → after ≡ order_after o before → told o ≡ Ok after
 given_is (done order) before after e out = cc
 given_is (refused number values) before after e out = absurd (clash e)
 

@@ -3,10 +3,10 @@ use Rattle.std.proofs.Common.{◌∙◌, rules, tests}
 use Rattle.std.proofs.lemmas.Iterator.{YieldsList-from_slice}
 use Rattle.std.proofs.lemmas.Iterator.Search.{any_from_yields_List}
 use Rattle.injectivity.specs.Inputs.{unfit}
-use Rattle.view.proofs.AxesLaws.{any-some}
+use Rattle.view.proofs.AxesLaws.{any-list_any}
 use Rattle.injectivity.proofs.inputs.some_unfit.Goals as goal
 
 pub returns : goal.returns
 returns c =
     any_from_yields_List unfit _ _ _ c.any.ensures.ran (YieldsList-from_slice c.args.axes.now cc) (λ x b q k. search (rules, tests))
-    ∙ any-some unfit c.args.axes.now
+    ∙ any-list_any unfit c.args.axes.now

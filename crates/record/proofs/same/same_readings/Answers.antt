@@ -1,7 +1,7 @@
 -- `same_readings`: each return is one of the three ways in which two writers in turn can answer.
 use Rattle.std.proofs.Common.{map, rules, Ok, Err}
 use Rattle.std.proofs.lemmas.Result.{err_from_is_err_and}
-use Rattle.view.specs.Model.{modelOf}
+use Rattle.view.specs.Model.{model_of}
 use Rattle.record.specs.Calls.{call_in}
 use Rattle.record.proofs.SameLaws.{written_at_end, first_turned, second_turned, both_done, meant}
 use Rattle.record.proofs.same.same_readings.Goals as goal
@@ -10,7 +10,7 @@ pub returns-in_err-end : goal.returns-in_err-end
 returns-in_err-end c =
     let p = err_from_is_err_and c.from_residual.result c.from_residual.ensures.1 in
     let w = written_at_end c.args.first c.run.result c.args.calls.now (Err c.in_err-end.field-0.0) c.run.ensures c.in_err-end.ensures in
-    let s = first_turned _ (modelOf c.args.second) _ (map call_in c.args.other_calls.now) w in
+    let s = first_turned _ (model_of c.args.second) _ (map call_in c.args.other_calls.now) w in
     rw (p.1, p.2) record { compared = s; means = meant _ _ _ _ s }
 
 pub returns-in_err-other_end : goal.returns-in_err-other_end

@@ -1,7 +1,7 @@
 -- By the sign of its stride an axis takes of one of the limits alone; a span above what is left of it is found by the product.
 use Rattle.std.proofs.Common.{◌≡◌, ◌-◌, ◌+◌, ◌*◌, ◌≤◌, false, sym, ◌∙◌, arith}
 use borrow.Author.Rules.{rules}
-use Rattle.specification.specs.Views.{axisAt}
+use Rattle.specification.specs.Views.{axis_at}
 use Rattle.view.proofs.BoundedLaws.{is-bounded, over-bounded}
 use Rattle.view.proofs.CountLaws.{entry-length, entry-last}
 use Rattle.view.proofs.SpansLaws.{spans-are, spans-above, spans-below, falling-turn, rising-turn, spans-end, widths-turn, widths-stop, widths-end, none-wider}
@@ -47,7 +47,7 @@ loop-place-preserved g c =
     let a = c.args in
     let axes = g.A.Axes.axes_of a.axes in
     let last = entry-last g.A.Entry.Extent.extent_of _ axes _ (g.met.A.Entry.Extent.each _) c.entries-entry-items.ensures l.place c.entry-item.result c.loop-place-test.true c.entry-item.is _ _ c.extent.ensures c.saturating_sub-last.ensures in
-    let thin : a.wide_passes ≡ false → (axisAt axes l.place).extent ≤ 9223372036854775808 = λ f. elim c.else-not-wide_passes.branch [
+    let thin : a.wide_passes ≡ false → (axis_at axes l.place).extent ≤ 9223372036854775808 = λ f. elim c.else-not-wide_passes.branch [
       | else-not-wide_passes-via-then-not-wide_passes+else-last w ↦ omega (arith, last.1, w.if-last.false)
       | else-not-wide_passes-via-else-not-wide_passes w ↦ cc (f, w.if-not-wide_passes.false)
     ]

@@ -2,9 +2,9 @@
 use Rattle.std.proofs.lemmas.Result.{err_from_is_err_and}
 use Rattle.std.proofs.Common.{Some, None, ◌≡◌, ℕ, sym, ap, ◌∙◌, ◌*◌, get_or, arith}
 use native.Mathlib.Nat.{mul-one}
-use Rattle.integer.specs.Range.{mostUnsigned}
+use Rattle.integer.specs.Range.{most_unsigned}
 use Rattle.specification.specs.Axis.{product}
-use Rattle.view.specs.Bounded.{boundedBy}
+use Rattle.view.specs.Bounded.{bounded_by}
 use Rattle.view.proofs.BoundedLaws.{is-bounded, over-bounded}
 use Rattle.view.proofs.CountLaws.{length-each, extent-here, product-turn, product-end, product-above, factor-below, count-many, count-empty, count-within, count-over}
 use Rattle.view.proofs.count.element_count.Goals as goal
@@ -28,10 +28,10 @@ returns-in_err-count g c =
     let next = l.count * get_or es l.entry-index 0 in
     let q : c.bounded_product.result ≡ None = grind arith in
     let p = err_from_is_err_and c.from_residual.result c.from_residual.ensures.1 in
-    let over = over-bounded mostUnsigned next (c.bounded_product.ensures ∙ ap (λ (x : ℕ). boundedBy mostUnsigned (l.count * x)) (c.extent.ensures ∙ sym here)) q in
+    let over = over-bounded most_unsigned next (c.bounded_product.ensures ∙ ap (λ (x : ℕ). bounded_by most_unsigned (l.count * x)) (c.extent.ensures ∙ sym here)) q in
     let why : c.in_err-count.field-0.0 ≡ Rattle.view.specs.declared.layout.Refusal.TheVariants.TooManyPositions = grind arith in
     rw (p.1, p.2, why) (sym (count-over es (omega arith) l.invariant.none_zero
-    (factor-below next _ _ mostUnsigned (product-turn es l.entry-index l.count (omega arith) l.invariant.left) (product-above es l.invariant.none_zero) over)))
+    (factor-below next _ _ most_unsigned (product-turn es l.entry-index l.count (omega arith) l.invariant.left) (product-above es l.invariant.none_zero) over)))
 
 pub loop-entry-preserved : goal.loop-entry-preserved
 loop-entry-preserved g c =
@@ -43,7 +43,7 @@ loop-entry-preserved g c =
     let here = extent-here g.E.Extent.extent_of list es l.entry-index c.entry-item.result e (omega arith) c.entry-item.is in
     let next = l.count * get_or es l.entry-index 0 in
     let q : c.bounded_product.result ≡ Some c.in_ok-count.count = grind arith in
-    let more = is-bounded mostUnsigned next _ (c.bounded_product.ensures ∙ ap (λ (x : ℕ). boundedBy mostUnsigned (l.count * x)) (c.extent.ensures ∙ sym here)) q in
+    let more = is-bounded most_unsigned next _ (c.bounded_product.ensures ∙ ap (λ (x : ℕ). bounded_by most_unsigned (l.count * x)) (c.extent.ensures ∙ sym here)) q in
     record {
       few = l.invariant.few;
       none_zero = l.invariant.none_zero;

@@ -12,10 +12,10 @@ use mir.Val.{SFits, of_z, to_z}
 use mir.ValLaws.{to_z-of_z}
 use Rattle.integer.specs.Range.{fits}
 use Rattle.specification.specs.Axis.{Axis}
-use Rattle.specification.specs.Views.{axisAt}
+use Rattle.specification.specs.Views.{axis_at}
 use Rattle.view.specs.declared.layout.Refusal.TheVariants.{OutOfRange}
 use Rattle.view.specs.Model.{first_axes}
-use Rattle.view.specs.Ties.{rootAt, isRoot, mask_of, Rooted}
+use Rattle.view.specs.Ties.{root_at, is_root, mask_of, IsRooted}
 use Rattle.view.proofs.RangeLaws.{count, count_most}
 use Rattle.view.proofs.RootLaws.{ones_below, mask-ones}
 use Rattle.view.proofs.FusedLaws.{Stored, stored-first, stored-later, over-here, sums-over, sums_none, axes-stored}
@@ -23,8 +23,8 @@ use Rattle.view.proofs.diagonal.fuse.Goals as goal
 use Rattle.view.proofs.diagonal.fuse.Goals.{then-root-axis, else-root-axis+in_ok-class}
 
 -- what an i64 holds passes the test
-in-range : (z : ℤ) → SFits w64 z → fits z ≡ true
-in-range z f = grind (arith, ints)
+in_range : (z : ℤ) → SFits w64 z → fits z ≡ true
+in_range z f = grind (arith, ints)
 
 -- an integer as the machine reads it back
 abbrev back : ℤ → ℤ
@@ -39,13 +39,13 @@ module _ {sum : Option ℤ} (x y : ℤ) (f : SFits w64 x) (g : SFits w64 y) (tol
   sum-fits z e = grind (arith, ints)
 
 -- the place of an axis: that of its root, and below 16
-module _ {n : ℕ} {roots : List ℕ} (of : Rooted n roots) (few : n ≤ 16) (axis : ℕ) (below : axis < n) {mask at : ℕ}
-    (found : at ≡ ones (mask % 2 ^ rootAt roots axis)) (masked : mask ≡ mask_of roots n) where
-  place_is : at ≡ count (isRoot roots) (rootAt roots axis)
-  place_is = found ∙ ap (λ (m : ℕ). ones (m % 2 ^ rootAt roots axis)) masked ∙ ones_below roots n (rootAt roots axis) (omega (arith, of.low axis below))
+module _ {n : ℕ} {roots : List ℕ} (of : IsRooted n roots) (few : n ≤ 16) (axis : ℕ) (below : axis < n) {mask at : ℕ}
+    (found : at ≡ ones (mask % 2 ^ root_at roots axis)) (masked : mask ≡ mask_of roots n) where
+  place_is : at ≡ count (is_root roots) (root_at roots axis)
+  place_is = found ∙ ap (λ (m : ℕ). ones (m % 2 ^ root_at roots axis)) masked ∙ ones_below roots n (root_at roots axis) (omega (arith, of.low axis below))
 
   place-low : at < 16
-  place-low = omega (arith, place_is, count_most (isRoot roots) (rootAt roots axis), of.low axis below)
+  place-low = omega (arith, place_is, count_most (is_root roots) (root_at roots axis), of.low axis below)
 
 pub bounds-fused-place : goal.bounds-fused-place
 bounds-fused-place c = place-low c.requires.rooted c.requires.few c.loop-axis.axis (omega arith) c.place.ensures c.requires.masked
@@ -57,11 +57,11 @@ returns-in_err-class-clause-answer c =
     let l = c.loop-axis in
     let h : l.axis < length axes = omega arith in
     let of = c.requires.rooted in
-    let r : ℕ = rootAt roots l.axis in
+    let r : ℕ = root_at roots l.axis in
     let low : r ≤ l.axis = of.low l.axis h in
     let less : r < l.axis = omega arith in
-    let so_far : ℤ = (axisAt l.fused c.place.result).stride in
-    let stride : ℤ = (axisAt axes l.axis).stride in
+    let so_far : ℤ = (axis_at l.fused c.place.result).stride in
+    let stride : ℤ = (axis_at axes l.axis).stride in
     let none : c.checked_add.result ≡ None = grind arith in
     let here = over-here axes roots l.axis l.invariant.stored c.place.result r refl less (of.own l.axis h)
     (place_is of c.requires.few l.axis h c.place.ensures c.requires.masked) (sum-over so_far stride (search rules) (search rules) c.checked_add.ensures none) in
@@ -76,22 +76,22 @@ loop-axis-preserved c =
     let l = c.loop-axis in
     let h : l.axis < length axes = omega arith in
     let of = c.requires.rooted in
-    let r : ℕ = rootAt roots l.axis in
+    let r : ℕ = root_at roots l.axis in
     let at-low : c.place.result < 16 = place-low of c.requires.few l.axis h c.place.ensures c.requires.masked in
-    let stride : ℤ = (axisAt axes l.axis).stride in
+    let stride : ℤ = (axis_at axes l.axis).stride in
     let g : SFits w64 stride = search rules in
     elim c.if-root-axis.branch [
       | then-root-axis w ↦ rw w.fused-is record {
         long = simp length-set l.invariant.long;
         stored = stored-first axes roots l.axis l.invariant.stored c.place.result w.if-root-axis.true
-            (place_is of c.requires.few l.axis h c.place.ensures c.requires.masked ∙ ap (count (isRoot roots)) w.if-root-axis.true)
-            (λ b k. of.low b (omega arith)) (in-range _ g) (omega (arith, at-low)) _
-            (ap {B = Axis} (λ (z : ℤ). record { extent = (axisAt axes l.axis).extent; stride = z }) (to_z-of_z w64 _ g));
+            (place_is of c.requires.few l.axis h c.place.ensures c.requires.masked ∙ ap (count (is_root roots)) w.if-root-axis.true)
+            (λ b k. of.low b (omega arith)) (in_range _ g) (omega (arith, at-low)) _
+            (ap {B = Axis} (λ (z : ℤ). record { extent = (axis_at axes l.axis).extent; stride = z }) (to_z-of_z w64 _ g));
       }
       | else-root-axis+in_ok-class w ↦
           let low : r ≤ l.axis = of.low l.axis h in
           let less : r < l.axis = omega arith in
-          let so_far : ℤ = (axisAt l.fused c.place.result).stride in
+          let so_far : ℤ = (axis_at l.fused c.place.result).stride in
           let some : w.checked_add.result ≡ Some w.in_ok-class.field-0 = grind arith in
           let sum = sum-fits so_far stride (search rules) g w.checked_add.ensures _ some in
           rw w.fused-is record {

@@ -4,12 +4,12 @@ use lib.Seq.{length-take-le}
 use mir.Syntax.{w64}
 use mir.Val.{SFits}
 use mir.ValLaws.{to_z-of_z}
-use Rattle.specification.specs.Axis.{axesOf}
-use Rattle.view.proofs.AxesLaws.{set-seam, axesOf-more, axesOf-none, length-axesOf}
+use Rattle.specification.specs.Axis.{axes_of_lists}
+use Rattle.view.proofs.AxesLaws.{set-seam, axes_of_lists-more, axes_of_lists-none, length-axes_of_lists}
 use Rattle.view.proofs.axes.Lists.store.Goals as goal
 
 pub loop-i-init : goal.loop-i-init
-loop-i-init c = rw axesOf-none
+loop-i-init c = rw axes_of_lists-none
 
 pub loop-i-preserved : goal.loop-i-preserved
 loop-i-preserved c =
@@ -17,6 +17,6 @@ loop-i-preserved c =
     let es = c.args.self.now.extents.now in
     let ss = c.args.self.now.strides.now in
     let m : length (take i es) ≡ i = length-take-le i es (omega arith) in
-    let n : length (axesOf (take i es) (take i ss)) ≡ i = length-axesOf (take i es) (take i ss) (omega (arith, m, length-take-le i ss)) ∙ m in
+    let n : length (axes_of_lists (take i es) (take i ss)) ≡ i = length-axes_of_lists (take i es) (take i ss) (omega (arith, m, length-take-le i ss)) ∙ m in
     let fits : SFits w64 c.stride_at-stride.result = search rules in
-    rw (c.loop-i.invariant, to_z-of_z w64 _ fits, c.stride_at-stride.ensures, axesOf-more es ss i (omega arith) (omega arith)) (set-seam (axesOf (take i es) (take i ss)) c.args.axes.now i _ n (omega arith))
+    rw (c.loop-i.invariant, to_z-of_z w64 _ fits, c.stride_at-stride.ensures, axes_of_lists-more es ss i (omega arith) (omega arith)) (set-seam (axes_of_lists (take i es) (take i ss)) c.args.axes.now i _ n (omega arith))

@@ -2,7 +2,7 @@
 use Rattle.std.proofs.lemmas.Result.{err_from_is_err_and}
 use Rattle.std.proofs.Common.{◌≡◌, ◌∙◌, sym, ap, arith, ℕ, ◌+◌, ◌<◌, List, drop, length, get_or, [], ◌∷◌, map}
 use Rattle.specification.specs.Outcome.{Check}
-use Rattle.specification.specs.Views.{pairFault}
+use Rattle.specification.specs.Views.{pair_fault}
 use Rattle.view.specs.Ties.{joined, joined_all}
 use Rattle.view.proofs.TieLaws.{fault-here, fault-next, fault-empty}
 use Rattle.view.proofs.PairLaws.{pairs-next, pairs-end}
@@ -10,12 +10,12 @@ use Rattle.view.proofs.diagonal.Ties.tie_all.Goals as goal
 
 -- the pair that stands next is the first of the rest
 next : {P : Type 0} (of : P → ℕ × ℕ) (rank : ℕ) (pairs : List P) (i : ℕ) (p : P) → i < length pairs → p ≡ get_or pairs i p
-    → pairFault rank (map of pairs) ≡ pairFault rank (drop i (map of pairs)) → pairFault rank (map of pairs) ≡ pairFault rank (of p ∷ drop (i + 1) (map of pairs))
-next of rank pairs i p h is e = e ∙ ap (pairFault rank) (pairs-next of pairs i p h is)
+    → pair_fault rank (map of pairs) ≡ pair_fault rank (drop i (map of pairs)) → pair_fault rank (map of pairs) ≡ pair_fault rank (of p ∷ drop (i + 1) (map of pairs))
+next of rank pairs i p h is e = e ∙ ap (pair_fault rank) (pairs-next of pairs i p h is)
 
 -- what the pair is refused, by its numbers
-by-pair : (rank : ℕ) {p q : ℕ × ℕ} {c : Check} → c ≡ pairFault rank (p ∷ []) → p ≡ q → c ≡ pairFault rank (q ∷ [])
-by-pair rank f e = f ∙ ap (λ (x : ℕ × ℕ). pairFault rank (x ∷ [])) e
+by-pair : (rank : ℕ) {p q : ℕ × ℕ} {c : Check} → c ≡ pair_fault rank (p ∷ []) → p ≡ q → c ≡ pair_fault rank (q ∷ [])
+by-pair rank f e = f ∙ ap (λ (x : ℕ × ℕ). pair_fault rank (x ∷ [])) e
 
 pub returns-in_err-tie-clause-answer : goal.returns-in_err-tie-clause-answer
 returns-in_err-tie-clause-answer g c =
@@ -41,4 +41,4 @@ pub returns-clause-answer : goal.returns-clause-answer
 returns-clause-answer g c =
     let l = c.loop-pair in
     let n : ℕ = c.args.self.now.rank in
-    sym (l.invariant.faults ∙ ap (pairFault n) (pairs-end g.P.Pair.numbers_of c.args.pairs.now l.pair-index (omega arith)) ∙ fault-empty n)
+    sym (l.invariant.faults ∙ ap (pair_fault n) (pairs-end g.P.Pair.numbers_of c.args.pairs.now l.pair-index (omega arith)) ∙ fault-empty n)

@@ -1,8 +1,8 @@
 -- The refusal and the layout as it was, or the stretched axes.
 use Rattle.std.proofs.lemmas.Result.{err_from_is_err_and}
 use Rattle.std.proofs.Common.{◌∙◌, refl, sym, ap, length, rules}
-use Rattle.view.specs.Answers.{outcomeOf}
-use Rattle.view.specs.Model.{modelOf}
+use Rattle.view.specs.Answers.{outcome_of}
+use Rattle.view.specs.Model.{model_of}
 use Rattle.view.proofs.CountLaws.{length-each}
 use Rattle.view.proofs.ViewLaws.{broadcast_refused, stretched_told}
 use Rattle.view.proofs.layout.Layout.broadcast_in_place.Goals as goal
@@ -10,7 +10,7 @@ use Rattle.view.proofs.layout.Layout.broadcast_in_place.Goals as goal
 pub returns-in_err-broadcast_refusal-clause-told : goal.returns-in_err-broadcast_refusal-clause-told
 returns-in_err-broadcast_refusal-clause-told g c =
     let p = err_from_is_err_and c.from_residual.result c.from_residual.ensures.1 in
-    rw (p.1, p.2) (sym (broadcast_refused (modelOf c.args.self.now) (g.E.Extent.extents_of c.args.targets.now) _ _ (sym c.broadcast_refusal.ensures.answer ∙ ap outcomeOf c.in_err-broadcast_refusal.was)))
+    rw (p.1, p.2) (sym (broadcast_refused (model_of c.args.self.now) (g.E.Extent.extents_of c.args.targets.now) _ _ (sym c.broadcast_refusal.ensures.answer ∙ ap outcome_of c.in_err-broadcast_refusal.was)))
 
 pub returns-clause-told : goal.returns-clause-told
 returns-clause-told g c =
@@ -18,4 +18,4 @@ returns-clause-told g c =
     let es = g.E.Extent.extents_of c.args.targets.now in
     let n = length-each g.E.Extent.extent_of c.args.targets.now es (g.met.E.Extent.each c.args.targets.now) in
     let is = c.in_ok-broadcast_refusal.ensures in
-    stretched_told (modelOf s) s.axes s.rank (length c.args.targets.now) es c.stretch.new.axes _ refl n is.listed (search rules) c.stretch.ensures (sym is.answer)
+    stretched_told (model_of s) s.axes s.rank (length c.args.targets.now) es c.stretch.new.axes _ refl n is.listed (search rules) c.stretch.ensures (sym is.answer)
