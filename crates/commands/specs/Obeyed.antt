@@ -49,7 +49,7 @@ new_layout four = do
   parts ← four_parts four
   told (check_in parts.0 parts.1 parts.2 parts.3)
 
--- a layout of any rank with no check: the first 16 axes of the lists, and any past them with extent and stride 0
+-- a layout of any rank without check-in, of lists of one length: the first 16 axes of the lists, and any past them with extent and stride 0
 unfoldable pub unchecked : ℕ → ℤ → List ℕ → List ℤ → Told LayoutModel
 unchecked len offset extents strides =
     if length extents == length strides then Ok (model_from len offset (first_axes (axes_of_lists (take 16 extents) (take 16 strides)) (length extents)))

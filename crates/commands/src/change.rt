@@ -78,7 +78,7 @@ fn sixteen(given: &Given) -> [Axis; 16]
     places
 }
 
-/// A layout of any rank with no check, its first 16 axes in place.
+/// A layout of any rank without check-in, of lists of one length; its first 16 axes in place.
 #[tactic(auto, unfolding(crate::specs::Obeyed::set_layout, crate::specs::Obeyed::unchecked))]
 pub fn set_layout<'a>(alloc: Global, words: Four<'a>) -> Result<Layout, Problem<'a>>
     ensures { Gives model_of result (set_layout

@@ -180,7 +180,7 @@ pub fn rest<'a>(alloc: Global, bytes: Word<'a>) -> Result<Reply, Problem<'a>>
     Ok(Reply::bytes(alloc, step_over(bytes.as_slice()))?)
 }
 
-/// The index order of strides. An output of more places than a list has entries is answered as one of one more.
+/// The index order of strides. An output of more places than a list may have entries, 64, is answered as one of 65.
 #[tactic(auto, unfolding(crate::specs::Obeyed::order_text))]
 pub fn order<'a>(alloc: Global, words: (Word<'a>, Word<'a>)) -> Result<Reply, Problem<'a>>
     ensures { Gives reply_text result (order_text (numbered words.entry.0, numbered words.entry.1)) }

@@ -8,7 +8,7 @@ use crate::fault::Form;
 use spelling::number::{read_signed, read_unsigned};
 use view::diagonal::AxisPair;
 
-/// The most words or bytes that a line lends to a call.
+/// The most words or bytes that a line can name to be lent to a call.
 const LENT_MOST: usize = 65536;
 
 /// A number of words or of bytes that a line lends to a call.

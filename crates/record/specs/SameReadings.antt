@@ -21,7 +21,7 @@ pub data InTurn (First Second : OneWriter) (x y : LayoutModel) (output other scr
   -- nothing was changed
   first_refused : {number : ℕ} {values : List ℕ} → First output scratch (refused number values) output scratch
       → InTurn First Second x y output other scratch (refused number values) output other scratch
-  -- the first record was written, and nothing else
+  -- the first record was written; the other output is as it was, and the scratch as the first writer left it
   second_refused : {n number : ℕ} {values output-then between : List ℕ} → First output scratch (done n) output-then between
       → Second other between (refused number values) other between
       → InTurn First Second x y output other scratch (refused number values) output-then other between

@@ -11,7 +11,7 @@ use integer::signed::checked_mul;
 use view::count::element_count;
 use view::layout::{Layout, MOST_AXES, NO_AXIS, ReadingOffset, Refusal};
 
-/// Whether an axis goes on where the one before it ends: its stride is their extent × stride.
+/// Whether an axis goes on where the one before it ends: its stride is that one's extent × stride.
 /// A product that 64 bits do not hold equals no stride.
 #[tactic(auto, using(crate::proofs::MergeLaws::continues_tested))]
 pub(crate) fn continues(before: Axis, axis: Axis) -> bool

@@ -60,7 +60,7 @@ pub extern "C" fn strided_indexed_offset(
     }
 }
 
-/// Each stride's number by absolute value, 1 for the least and for 0: 0, and the numbers in `out`.
+/// Each stride's number by absolute value, 1 for the least above 0 and for 0: 0, and the numbers in `out`.
 ///
 /// Refusals: 1 more than 16 strides; 2 `out` has another length. After a refusal `out` is as it
 /// was.
@@ -72,7 +72,7 @@ pub extern "C" fn strided_index_order(strides: &[i64], out: &mut [usize]) -> u8
     answer_number(index_order_into(strides, out))
 }
 
-/// Whether an array is as long as the extents that strides are wanted for.
+/// Whether an array is at least as long as the extents that strides are wanted for.
 fn has_room(strides: &[i64], extents: &[u64]) -> bool
     ensures { result ≡ nat_le (length extents.now) (length strides.now) }
 {

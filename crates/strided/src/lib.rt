@@ -1,4 +1,4 @@
-//! The static library: every call of the crates below it, over numbers, and structs and slices
+//! The static library: fourteen calls of the crates below it, over numbers, and structs and slices
 //! that are lent. A call that changes a layout works in the caller's.
 #![tactic(auto)]
 

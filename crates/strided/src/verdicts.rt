@@ -34,7 +34,7 @@ fn answer_judgement(
 
 /// Whether no two positions of the axes share an offset: 0, and the verdict in `found`.
 ///
-/// Refusals: 1 more than 16 axes; 8 more than 2^64 - 1 positions; 3 an extent, a stride or a span
+/// Refusals: 1 more than 16 axes; 8 more than 2^64 - 1 positions; 3 an extent, a stride, a span or a sum of spans
 /// is out of range; 9, with the words that are needed, a shorter scratch. After a refusal `found`
 /// and the scratch are as they were, and its values stand in the first places of `values`; other
 /// places stay. After 0 the scratch words that the verdict needs may hold anything, and those past

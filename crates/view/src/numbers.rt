@@ -1,4 +1,4 @@
-//! Pairs of axes as they are handed in: as structs, or in plain numbers by callers that hold no structs (a call list, a text, C).
+//! Pairs of axes as they are handed in: as structs, or in plain numbers, as C hands them in.
 ghost use Rattle.std.specs.Prelude.{◌≡◌, ◌≤◌, ℕ, drop, slice_index_or, OnErr};
 ghost use Rattle.specification.specs.Views.{pairs_of, diagonal_view};
 ghost use Rattle.view.specs.Model.{model_of, told};

@@ -1,8 +1,8 @@
 //! Which is the first difference vector of some axes, in their order, whose sum two axes set apart bring to 0?
 //!
-//! The others are walked like an odometer, `DifferenceAxis` by `DifferenceAxis`, from the vector of no difference on. At each vector
-//! that sum r is asked for x and y in reach with x times A + y times B + r = 0. Modulo B the first axis can be solved for: g, the
-//! greatest common divisor of A and B, times x is r times an inverse, so at most two x are in reach, and y is what they leave.
+//! The others are walked like an odometer, `DifferenceAxis` by `DifferenceAxis`, from the vector of no difference on. At each vector,
+//! of sum r, x and y in reach are asked for with x times A + y times B + r = 0. Modulo B the first axis can be solved for: g, the
+//! greatest common divisor of A and B, times x is -r times an inverse, so at most two x are in reach, and y is what they leave.
 //!
 //! Two residues of r go along: that of r times the inverse, moved up by the window, and that of r modulo g. Either alone rules
 //! most vectors out, so a vector costs two additions and a comparison, and a step over an axis end two more. No sum is kept: it
