@@ -1,4 +1,4 @@
-// Answers the examples, from a file: those of docs/RULES.md, of docs/WHY.md, of docs/TRACE.md and of the README.
+// Answers the examples, from a file: those of docs/RULES.md, of docs/WHY.md, of docs/DIFFERENCES.md, of docs/TRACE.md and of the README.
 #![tactic(auto)]
 
 use std::process::ExitCode;
