@@ -1,5 +1,5 @@
 -- What a command answers, and the layout after it: each by the definition of the call that it makes. Assumes nothing.
-use Rattle.std.specs.Prelude.{ℕ, ℤ, List, [], ◌∷◌, ◌==◌, length, take, codes, string_bytes, Option, Some, None, Ok, Err, if◌then◌else◌}
+use Rattle.std.specs.Prelude.{ℕ, ℤ, List, [], ◌∷◌, ◌==◌, length, take, codes, Option, Some, None, Ok, Err, if◌then◌else◌}
 use Rattle.std.specs.Fmt.{decimal, signed_decimal}
 use Rattle.specification.specs.Axis.{axes_of_lists}
 use Rattle.specification.specs.Outcome.{Outcome, done, refused, refuse_if, ◌>>◌}
@@ -13,16 +13,15 @@ use Rattle.specification.specs.Beside.{col_major, row_major, index_order, indexe
 use Rattle.view.specs.Model.{model_of, model_from, first_axes}
 use Rattle.view.specs.Ties.{pairs_in}
 use Rattle.record.specs.Reading.{layout_read}
-use Rattle.injectivity.specs.Judgement.{told_of, verdict_told}
+use Rattle.injectivity.specs.Judgement.{told_of}
 use Rattle.commands.specs.declared.command.Command.{Command}
 use Rattle.commands.specs.declared.command.Command.TheVariants.{New, Bounds, Set, Show, Permute, Diagonal, Broadcast, Offset, Normal, Verdict, Injective, Record, Read, Rest, Order, Column, Row, Help}
-use Rattle.commands.specs.declared.fault.Form.TheVariants.{Unsigned, Signed, Pair, Lent}
-use Rattle.commands.specs.declared.reply.Reply.{Reply}
-use Rattle.commands.specs.declared.reply.Reply.TheVariants as reply
-use Rattle.commands.specs.Commands.{commands, named, help_line}
-use Rattle.commands.specs.Spelled.{unsigned, signed, lent, pair}
-use Rattle.commands.specs.Texts.{refusal_text, unknown_command, unequal_lists, joined, list_text, layout_text, bytes_text, verdict_text}
-use Rattle.commands.specs.Words.{Told, ◌>>=◌, Numbered, no_word, one_word, two_words, four_words, up_to_one_word, one_or_two_words, two_or_three_words, one_of, list_of, bytes_of}
+use Rattle.words.specs.declared.fault.Form.TheVariants.{Unsigned, Signed, Pair, Lent}
+use Rattle.commands.specs.Commands.{commands, named, usage_of, help_line}
+use Rattle.commands.specs.Replies.{layout_text, bytes_text, verdict_text}
+use Rattle.words.specs.Spelled.{unsigned, signed, lent, pair}
+use Rattle.words.specs.Texts.{refusal_text, unknown_command, unequal_lists, joined, list_text}
+use Rattle.words.specs.Words.{Told, ◌>>=◌, Numbered, no_word, one_word, two_words, four_words, up_to_one_word, one_or_two_words, two_or_three_words, one_of, list_of, bytes_of}
 
 -- what a call answers, or its refusal as a text
 abbrev pub told : {A : Type 0} → Outcome A → Told A
@@ -184,74 +183,74 @@ asked l text = record { text = text; layout = l }
 -- a command with the words behind its name
 unfoldable pub run : LayoutModel → Command → List (List ℕ) → Told Answered
 run l New words = do
-  four ← four_words New words
+  four ← four_words (usage_of New) words
   next ← new_layout four
   Ok (changed next)
 run l Set words = do
-  four ← four_words Set words
+  four ← four_words (usage_of Set) words
   next ← set_layout four
   Ok (changed next)
 run l Permute words = do
-  order ← one_word Permute words
+  order ← one_word (usage_of Permute) words
   next ← permuted l order
   Ok (changed next)
 run l Diagonal words = do
-  pairs ← one_word Diagonal words
+  pairs ← one_word (usage_of Diagonal) words
   next ← tied l pairs
   Ok (changed next)
 run l Broadcast words = do
-  targets ← one_word Broadcast words
+  targets ← one_word (usage_of Broadcast) words
   next ← stretched l targets
   Ok (changed next)
 run l Read words = do
-  two ← one_or_two_words Read words
+  two ← one_or_two_words (usage_of Read) words
   next ← read_layout two
   Ok (changed next)
 run l Bounds words = do
-  four ← four_words Bounds words
+  four ← four_words (usage_of Bounds) words
   text ← bounds_text four
   Ok (asked l text)
 run l Show words = do
-  none ← no_word Show words
+  none ← no_word (usage_of Show) words
   Ok (asked l (layout_text l))
 run l Offset words = do
-  index ← one_word Offset words
+  index ← one_word (usage_of Offset) words
   text ← offset_text l index
   Ok (asked l text)
 run l Normal words = do
-  none ← no_word Normal words
+  none ← no_word (usage_of Normal) words
   text ← normal_text l
   Ok (asked l text)
 run l Verdict words = do
-  scratch ← up_to_one_word Verdict words
+  scratch ← up_to_one_word (usage_of Verdict) words
   text ← verdict_of l scratch
   Ok (asked l text)
 run l Injective words = do
-  three ← two_or_three_words Injective words
+  three ← two_or_three_words (usage_of Injective) words
   text ← injective_text three
   Ok (asked l text)
 run l Record words = do
-  two ← one_or_two_words Record words
+  two ← one_or_two_words (usage_of Record) words
   text ← record_text l two
   Ok (asked l text)
 run l Rest words = do
-  bytes ← one_word Rest words
+  bytes ← one_word (usage_of Rest) words
   text ← rest_text bytes
   Ok (asked l text)
 run l Order words = do
-  two ← two_words Order words
+  two ← two_words (usage_of Order) words
   text ← order_text two
   Ok (asked l text)
 run l Column words = do
-  extents ← one_word Column words
+  extents ← one_word (usage_of Column) words
   text ← dense_text col_major extents
   Ok (asked l text)
 run l Row words = do
-  extents ← one_word Row words
+  extents ← one_word (usage_of Row) words
   text ← dense_text row_major extents
   Ok (asked l text)
 run l Help words = do
-  name ← up_to_one_word Help words
+  name ← up_to_one_word (usage_of Help) words
   text ← help_text name
   Ok (asked l text)
 
@@ -261,15 +260,3 @@ obeyed l name words = elim (named name) [
   | None ↦ Err (unknown_command 1 name)
   | Some command ↦ run l command words
 ]
-
--- what a reply prints
-abbrev pub reply_text : Reply → List ℕ
-reply_text reply.Done = codes "ok"
-reply_text (reply.Current l) = layout_text (model_of l)
-reply_text (reply.Offset z) = signed_decimal z
-reply_text (reply.Judged judgement) = verdict_text (verdict_told judgement).answer (verdict_told judgement).count
-reply_text (reply.Bytes digits) = string_bytes digits
-reply_text (reply.Order axes) = list_text decimal axes.items
-reply_text (reply.Strides dense) = list_text signed_decimal dense
-reply_text (reply.Help command) = help_line command
-reply_text reply.AllHelp = joined (10 ∷ []) help_line commands

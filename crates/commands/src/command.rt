@@ -2,6 +2,7 @@
 ghost use Rattle.std.specs.Prelude.{◌≡◌};
 
 use std::fmt;
+use words::list::Entry;
 
 #[derive(Clone, Copy)]
 pub enum Command {
@@ -158,4 +159,13 @@ impl fmt::Display for Command {
     fn fmt<W: fmt::Write>(&self, f: &mut fmt::Formatter<W>) -> fmt::Result {
         write!(f, "{}: {}", self.usage(), self.meaning())
     }
+}
+
+impl Entry for Command {
+    ghost use Rattle.std.specs.Prelude.{refl};
+    ghost use Rattle.commands.specs.Commands.{help_line};
+
+    ghost text = { help_line };
+
+    ghost prints = { λ _. refl };
 }

@@ -1,21 +1,22 @@
 // A line of words obeyed: which function each command is.
 ghost use Rattle.std.specs.Prelude.{◌≡◌, OnErr, map};
 ghost use Rattle.view.specs.Model.{model_of};
-ghost use Rattle.commands.specs.Words.{Gives};
-ghost use Rattle.commands.specs.Obeyed.{reply_text, run, obeyed};
+ghost use Rattle.words.specs.Words.{Gives};
+ghost use Rattle.commands.specs.Replies.{reply_text};
+ghost use Rattle.commands.specs.Obeyed.{run, obeyed};
 
 use crate::change::{broadcast, diagonal, new_layout, permute, read, set_layout};
 use crate::command::Command;
-use crate::fault::{Fault, Problem};
 use crate::memory::Memory;
-use crate::place::Word;
 use crate::query::{
     bounds, column, help, injective, normal, offset, order, record, rest, row, verdict,
 };
 use crate::reply::Reply;
-use crate::word::Words;
 use std::alloc::Global;
 use view::layout::Layout;
+use words::fault::{Fault, Problem};
+use words::place::Word;
+use words::word::Words;
 
 // What a command answers with the words behind its name, or why it is not obeyed; then the current layout stays.
 #[tactic(auto, unfolding(crate::specs::Obeyed::run))]
@@ -23,13 +24,18 @@ fn run<'a>(
     alloc: Global,
     current: &mut Layout,
     memory: &mut Memory,
-    words: Words<'a>,
+    command: Command,
+    texts: &'a [&'a [u8]],
 ) -> Result<Reply, Problem<'a>>
     ensures told { Gives (λ reply. record { text = reply_text reply; layout = model_of current.new }) result
-        (run (model_of current.old) words.entry.command (map (λ text. text.now) words.entry.texts.now)) }
+        (run (model_of current.old) command (map (λ text. text.now) texts.now)) }
     ensures kept { OnErr result (current.new ≡ current.old) }
 {
-    match words.command {
+    let words = Words {
+        usage: command.usage(),
+        texts,
+    };
+    match command {
         Command::New => {
             *current = new_layout(alloc, words.four()?)?;
             Ok(Reply::Done)
@@ -89,7 +95,7 @@ pub fn obey<'a>(
     ensures kept { OnErr result (current.new ≡ current.old) }
 {
     match Command::named(name) {
-        Some(command) => run(alloc, current, memory, Words { command, texts }),
+        Some(command) => run(alloc, current, memory, command, texts),
         None => Err(Fault::UnknownCommand(Word::new(1, name)).into()),
     }
 }
