@@ -1,4 +1,3 @@
-pub mod Listed
 pub mod Shown
 pub mod ScratchLaws
 pub mod RecordText

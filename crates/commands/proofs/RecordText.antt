@@ -4,8 +4,8 @@ use Rattle.specification.specs.Outcome.{Outcome, done, refused}
 use Rattle.specification.specs.Record.{Made}
 use Rattle.commands.specs.Obeyed.{told}
 use Rattle.commands.specs.Scratch.{bytes_made}
-use Rattle.commands.specs.Texts.{bytes_text}
-use Rattle.commands.specs.Words.{◌>>=◌}
+use Rattle.commands.specs.Replies.{bytes_text}
+use Rattle.words.specs.Words.{◌>>=◌}
 
 pub record_told : (o : Outcome Made) → (told o >>= λ made. Ok (bytes_text made.bytes)) ≡ (told (bytes_made o) >>= λ bytes. Ok (bytes_text bytes))
 record_told (done m) = refl

@@ -1,6 +1,4 @@
 pub mod Commands
-pub mod Texts
-pub mod Words
-pub mod Spelled
+pub mod Replies
 pub mod Obeyed
 pub mod Scratch

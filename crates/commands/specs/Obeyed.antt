@@ -1,5 +1,5 @@
 -- What a command answers, and the layout after it: each by the definition of the call that it makes. Assumes nothing.
-use Rattle.std.specs.Prelude.{ℕ, ℤ, List, [], ◌∷◌, ◌==◌, length, take, codes, string_bytes, Option, Some, None, Ok, Err, if◌then◌else◌}
+use Rattle.std.specs.Prelude.{ℕ, ℤ, List, [], ◌∷◌, ◌==◌, length, take, codes, Option, Some, None, Ok, Err, if◌then◌else◌}
 use Rattle.std.specs.Fmt.{decimal, signed_decimal}
 use Rattle.specification.specs.Axis.{axes_of_lists}
 use Rattle.specification.specs.Outcome.{Outcome, done, refused, refuse_if, ◌>>◌}
@@ -13,16 +13,19 @@ use Rattle.specification.specs.Beside.{col_major, row_major, index_order, indexe
 use Rattle.view.specs.Model.{model_of, model_from, first_axes}
 use Rattle.view.specs.Ties.{pairs_in}
 use Rattle.record.specs.Reading.{layout_read}
-use Rattle.injectivity.specs.Judgement.{told_of, verdict_told}
+use Rattle.injectivity.specs.Judgement.{told_of}
 use Rattle.commands.specs.declared.command.Command.{Command}
-use Rattle.commands.specs.declared.command.Command.TheVariants.{New, Bounds, Set, Show, Permute, Diagonal, Broadcast, Offset, Normal, Verdict, Injective, Record, Read, Rest, Order, Column, Row, Help}
-use Rattle.commands.specs.declared.fault.Form.TheVariants.{Unsigned, Signed, Pair, Lent}
-use Rattle.commands.specs.declared.reply.Reply.{Reply}
-use Rattle.commands.specs.declared.reply.Reply.TheVariants as reply
-use Rattle.commands.specs.Commands.{commands, named, help_line}
-use Rattle.commands.specs.Spelled.{unsigned, signed, lent, pair}
-use Rattle.commands.specs.Texts.{refusal_text, unknown_command, unequal_lists, joined, list_text, layout_text, bytes_text, verdict_text}
-use Rattle.commands.specs.Words.{Told, ◌>>=◌, Numbered, no_word, one_word, two_words, four_words, up_to_one_word, one_or_two_words, two_or_three_words, one_of, list_of, bytes_of}
+use Rattle.commands.specs.declared.command.Command.TheVariants as command
+use Rattle.commands.specs.declared.command.Change.{Change}
+use Rattle.commands.specs.declared.command.Change.TheVariants.{New, Set, Permute, Diagonal, Broadcast, Read}
+use Rattle.commands.specs.declared.command.Query.{Query}
+use Rattle.commands.specs.declared.command.Query.TheVariants.{Bounds, Show, Offset, Normal, Verdict, Injective, Record, Rest, Order, Column, Row, Help}
+use Rattle.words.specs.declared.fault.Form.TheVariants.{Unsigned, Signed, Pair, Lent}
+use Rattle.commands.specs.Commands.{commands, named, usage_of, help_line}
+use Rattle.commands.specs.Replies.{layout_text, bytes_text, verdict_text}
+use Rattle.words.specs.Spelled.{unsigned, signed, lent, pair}
+use Rattle.words.specs.Texts.{refusal_text, unknown_command, unequal_lists, joined, list_text}
+use Rattle.words.specs.Words.{Told, ◌>>=◌, Numbered, no_word, one_word, two_words, four_words, up_to_one_word, one_or_two_words, two_or_three_words, one_of, list_of, bytes_of}
 
 -- what a call answers, or its refusal as a text
 abbrev pub told : {A : Type 0} → Outcome A → Told A
@@ -92,6 +95,27 @@ read_layout (bytes, words) = do
   bytes ← bytes_of bytes
   words ← words_given words
   told (layout_read (read_of bytes (or_most words)))
+
+-- the layout after a command that changes it, of the words behind the name
+unfoldable pub next_layout : LayoutModel → Change → List ℕ → List (List ℕ) → Told LayoutModel
+next_layout l New usage words = do
+  four ← four_words usage words
+  new_layout four
+next_layout l Set usage words = do
+  four ← four_words usage words
+  set_layout four
+next_layout l Permute usage words = do
+  order ← one_word usage words
+  permuted l order
+next_layout l Diagonal usage words = do
+  pairs ← one_word usage words
+  tied l pairs
+next_layout l Broadcast usage words = do
+  targets ← one_word usage words
+  stretched l targets
+next_layout l Read usage words = do
+  two ← one_or_two_words usage words
+  read_layout two
 
 -- ---- the commands that answer and leave the layout
 
@@ -168,6 +192,45 @@ help_text (Some (number, name)) = elim (named name) [
   | Some command ↦ Ok (help_line command)
 ]
 
+-- what a command prints that leaves the layout, of the words behind the name
+unfoldable pub answer_text : LayoutModel → Query → List ℕ → List (List ℕ) → Told (List ℕ)
+answer_text l Bounds usage words = do
+  four ← four_words usage words
+  bounds_text four
+answer_text l Show usage words = do
+  none ← no_word usage words
+  Ok (layout_text l)
+answer_text l Offset usage words = do
+  index ← one_word usage words
+  offset_text l index
+answer_text l Normal usage words = do
+  none ← no_word usage words
+  normal_text l
+answer_text l Verdict usage words = do
+  scratch ← up_to_one_word usage words
+  verdict_of l scratch
+answer_text l Injective usage words = do
+  three ← two_or_three_words usage words
+  injective_text three
+answer_text l Record usage words = do
+  two ← one_or_two_words usage words
+  record_text l two
+answer_text l Rest usage words = do
+  bytes ← one_word usage words
+  rest_text bytes
+answer_text l Order usage words = do
+  two ← two_words usage words
+  order_text two
+answer_text l Column usage words = do
+  extents ← one_word usage words
+  dense_text col_major extents
+answer_text l Row usage words = do
+  extents ← one_word usage words
+  dense_text row_major extents
+answer_text l Help usage words = do
+  name ← up_to_one_word usage words
+  help_text name
+
 -- ---- a line
 
 -- a text to print, and the layout afterwards
@@ -183,76 +246,11 @@ asked l text = record { text = text; layout = l }
 
 -- a command with the words behind its name
 unfoldable pub run : LayoutModel → Command → List (List ℕ) → Told Answered
-run l New words = do
-  four ← four_words New words
-  next ← new_layout four
+run l (command.Change change) words = do
+  next ← next_layout l change (usage_of (command.Change change)) words
   Ok (changed next)
-run l Set words = do
-  four ← four_words Set words
-  next ← set_layout four
-  Ok (changed next)
-run l Permute words = do
-  order ← one_word Permute words
-  next ← permuted l order
-  Ok (changed next)
-run l Diagonal words = do
-  pairs ← one_word Diagonal words
-  next ← tied l pairs
-  Ok (changed next)
-run l Broadcast words = do
-  targets ← one_word Broadcast words
-  next ← stretched l targets
-  Ok (changed next)
-run l Read words = do
-  two ← one_or_two_words Read words
-  next ← read_layout two
-  Ok (changed next)
-run l Bounds words = do
-  four ← four_words Bounds words
-  text ← bounds_text four
-  Ok (asked l text)
-run l Show words = do
-  none ← no_word Show words
-  Ok (asked l (layout_text l))
-run l Offset words = do
-  index ← one_word Offset words
-  text ← offset_text l index
-  Ok (asked l text)
-run l Normal words = do
-  none ← no_word Normal words
-  text ← normal_text l
-  Ok (asked l text)
-run l Verdict words = do
-  scratch ← up_to_one_word Verdict words
-  text ← verdict_of l scratch
-  Ok (asked l text)
-run l Injective words = do
-  three ← two_or_three_words Injective words
-  text ← injective_text three
-  Ok (asked l text)
-run l Record words = do
-  two ← one_or_two_words Record words
-  text ← record_text l two
-  Ok (asked l text)
-run l Rest words = do
-  bytes ← one_word Rest words
-  text ← rest_text bytes
-  Ok (asked l text)
-run l Order words = do
-  two ← two_words Order words
-  text ← order_text two
-  Ok (asked l text)
-run l Column words = do
-  extents ← one_word Column words
-  text ← dense_text col_major extents
-  Ok (asked l text)
-run l Row words = do
-  extents ← one_word Row words
-  text ← dense_text row_major extents
-  Ok (asked l text)
-run l Help words = do
-  name ← up_to_one_word Help words
-  text ← help_text name
+run l (command.Query query) words = do
+  text ← answer_text l query (usage_of (command.Query query)) words
   Ok (asked l text)
 
 -- a line by its name and the words behind it
@@ -261,15 +259,3 @@ obeyed l name words = elim (named name) [
   | None ↦ Err (unknown_command 1 name)
   | Some command ↦ run l command words
 ]
-
--- what a reply prints
-abbrev pub reply_text : Reply → List ℕ
-reply_text reply.Done = codes "ok"
-reply_text (reply.Current l) = layout_text (model_of l)
-reply_text (reply.Offset z) = signed_decimal z
-reply_text (reply.Judged judgement) = verdict_text (verdict_told judgement).answer (verdict_told judgement).count
-reply_text (reply.Bytes digits) = string_bytes digits
-reply_text (reply.Order axes) = list_text decimal axes.items
-reply_text (reply.Strides dense) = list_text signed_decimal dense
-reply_text (reply.Help command) = help_line command
-reply_text reply.AllHelp = joined (10 ∷ []) help_line commands

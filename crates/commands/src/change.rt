@@ -4,12 +4,10 @@ ghost use Rattle.specification.specs.Axis.{axes_of_lists};
 ghost use Rattle.specification.specs.Record.{read_of};
 ghost use Rattle.view.specs.Model.{model_of, first_axes, layout_outcome};
 ghost use Rattle.record.specs.Reading.{layout_read};
-ghost use Rattle.commands.specs.Words.{Gives, numbered, numbered_if};
+ghost use Rattle.words.specs.Words.{Gives, numbered, numbered_if};
 ghost use Rattle.commands.specs.Obeyed.{or_most, four_parts, new_layout, set_layout, permuted, tied, stretched, read_layout};
 
-use crate::fault::{Fault, Problem};
 use crate::memory::{Memory, lend};
-use crate::place::Word;
 use crate::scratch::{lacking, words_given};
 use axis::Axis;
 use record::read::read_record;
@@ -17,6 +15,8 @@ use std::alloc::{AllocError, Global};
 use view::axes::Lists;
 use view::diagonal::AxisPair;
 use view::layout::{Layout, MOST_AXES, NO_AXIS, ReadingOffset, Refusal, Viewed};
+use words::fault::{Fault, Problem};
+use words::place::Word;
 
 /// LEN OFFSET EXTENTS STRIDES, as a line gives them.
 #[derive(Drop)]

@@ -2,22 +2,29 @@
 ghost use Rattle.std.specs.Prelude.{◌≡◌};
 
 use std::fmt;
+use words::list::Entry;
 
+/// A command that changes the current layout.
 #[derive(Clone, Copy)]
-pub enum Command {
+pub enum Change {
     New,
-    Bounds,
     Set,
-    Show,
     Permute,
     Diagonal,
     Broadcast,
+    Read,
+}
+
+/// A command that answers and leaves the current layout.
+#[derive(Clone, Copy)]
+pub enum Query {
+    Bounds,
+    Show,
     Offset,
     Normal,
     Verdict,
     Injective,
     Record,
-    Read,
     Rest,
     Order,
     Column,
@@ -25,26 +32,32 @@ pub enum Command {
     Help,
 }
 
+#[derive(Clone, Copy)]
+pub enum Command {
+    Change(Change),
+    Query(Query),
+}
+
 /// Each command, in the order of `help`.
 pub const COMMANDS: [Command; 18] = [
-    Command::New,
-    Command::Bounds,
-    Command::Set,
-    Command::Show,
-    Command::Permute,
-    Command::Diagonal,
-    Command::Broadcast,
-    Command::Offset,
-    Command::Normal,
-    Command::Verdict,
-    Command::Injective,
-    Command::Record,
-    Command::Read,
-    Command::Rest,
-    Command::Order,
-    Command::Column,
-    Command::Row,
-    Command::Help,
+    Command::Change(Change::New),
+    Command::Query(Query::Bounds),
+    Command::Change(Change::Set),
+    Command::Query(Query::Show),
+    Command::Change(Change::Permute),
+    Command::Change(Change::Diagonal),
+    Command::Change(Change::Broadcast),
+    Command::Query(Query::Offset),
+    Command::Query(Query::Normal),
+    Command::Query(Query::Verdict),
+    Command::Query(Query::Injective),
+    Command::Query(Query::Record),
+    Command::Change(Change::Read),
+    Command::Query(Query::Rest),
+    Command::Query(Query::Order),
+    Command::Query(Query::Column),
+    Command::Query(Query::Row),
+    Command::Query(Query::Help),
 ];
 
 impl Command {
@@ -56,24 +69,24 @@ impl Command {
         ensures { result.now ≡ name_of self }
     {
         match self {
-            Command::New => "new",
-            Command::Bounds => "bounds",
-            Command::Set => "set",
-            Command::Show => "show",
-            Command::Permute => "permute",
-            Command::Diagonal => "diagonal",
-            Command::Broadcast => "broadcast",
-            Command::Offset => "offset",
-            Command::Normal => "normal",
-            Command::Verdict => "verdict",
-            Command::Injective => "injective",
-            Command::Record => "record",
-            Command::Read => "read",
-            Command::Rest => "rest",
-            Command::Order => "order",
-            Command::Column => "column",
-            Command::Row => "row",
-            Command::Help => "help",
+            Command::Change(Change::New) => "new",
+            Command::Query(Query::Bounds) => "bounds",
+            Command::Change(Change::Set) => "set",
+            Command::Query(Query::Show) => "show",
+            Command::Change(Change::Permute) => "permute",
+            Command::Change(Change::Diagonal) => "diagonal",
+            Command::Change(Change::Broadcast) => "broadcast",
+            Command::Query(Query::Offset) => "offset",
+            Command::Query(Query::Normal) => "normal",
+            Command::Query(Query::Verdict) => "verdict",
+            Command::Query(Query::Injective) => "injective",
+            Command::Query(Query::Record) => "record",
+            Command::Change(Change::Read) => "read",
+            Command::Query(Query::Rest) => "rest",
+            Command::Query(Query::Order) => "order",
+            Command::Query(Query::Column) => "column",
+            Command::Query(Query::Row) => "row",
+            Command::Query(Query::Help) => "help",
         }
     }
 
@@ -93,24 +106,24 @@ impl Command {
         ensures { result.now ≡ usage_of self }
     {
         match self {
-            Command::New => "new LEN OFFSET EXTENTS STRIDES",
-            Command::Bounds => "bounds LEN OFFSET EXTENTS STRIDES",
-            Command::Set => "set LEN OFFSET EXTENTS STRIDES",
-            Command::Show => "show",
-            Command::Permute => "permute LIST",
-            Command::Diagonal => "diagonal PAIRS",
-            Command::Broadcast => "broadcast LIST",
-            Command::Offset => "offset LIST",
-            Command::Normal => "normal",
-            Command::Verdict => "verdict [WORDS]",
-            Command::Injective => "injective EXTENTS STRIDES [WORDS]",
-            Command::Record => "record ROOM [WORDS]",
-            Command::Read => "read BYTES [WORDS]",
-            Command::Rest => "rest BYTES",
-            Command::Order => "order STRIDES OUTLEN",
-            Command::Column => "column EXTENTS",
-            Command::Row => "row EXTENTS",
-            Command::Help => "help [COMMAND]",
+            Command::Change(Change::New) => "new LEN OFFSET EXTENTS STRIDES",
+            Command::Query(Query::Bounds) => "bounds LEN OFFSET EXTENTS STRIDES",
+            Command::Change(Change::Set) => "set LEN OFFSET EXTENTS STRIDES",
+            Command::Query(Query::Show) => "show",
+            Command::Change(Change::Permute) => "permute LIST",
+            Command::Change(Change::Diagonal) => "diagonal PAIRS",
+            Command::Change(Change::Broadcast) => "broadcast LIST",
+            Command::Query(Query::Offset) => "offset LIST",
+            Command::Query(Query::Normal) => "normal",
+            Command::Query(Query::Verdict) => "verdict [WORDS]",
+            Command::Query(Query::Injective) => "injective EXTENTS STRIDES [WORDS]",
+            Command::Query(Query::Record) => "record ROOM [WORDS]",
+            Command::Change(Change::Read) => "read BYTES [WORDS]",
+            Command::Query(Query::Rest) => "rest BYTES",
+            Command::Query(Query::Order) => "order STRIDES OUTLEN",
+            Command::Query(Query::Column) => "column EXTENTS",
+            Command::Query(Query::Row) => "row EXTENTS",
+            Command::Query(Query::Help) => "help [COMMAND]",
         }
     }
 
@@ -120,29 +133,31 @@ impl Command {
         ensures { result.now ≡ meaning_of self }
     {
         match self {
-            Command::New => "check a layout in and make it current",
-            Command::Bounds => "check the bounds of a layout; the current one stays",
-            Command::Set => {
+            Command::Change(Change::New) => "check a layout in and make it current",
+            Command::Query(Query::Bounds) => "check the bounds of a layout; the current one stays",
+            Command::Change(Change::Set) => {
                 "make a layout current with no check; of more than 16 axes the first 16 are held"
             }
-            Command::Show => "the current layout, as LEN OFFSET EXTENTS STRIDES",
-            Command::Permute => "put the axes into the order of the list",
-            Command::Diagonal => "tie the axes of each pair a:b into one",
-            Command::Broadcast => "stretch axes of extent 1 to the extents of the list",
-            Command::Offset => "the offset of an index vector",
-            Command::Normal => "the normal form; the current layout stays",
-            Command::Verdict => {
+            Command::Query(Query::Show) => "the current layout, as LEN OFFSET EXTENTS STRIDES",
+            Command::Change(Change::Permute) => "put the axes into the order of the list",
+            Command::Change(Change::Diagonal) => "tie the axes of each pair a:b into one",
+            Command::Change(Change::Broadcast) =>
+                "stretch axes of extent 1 to the extents of the list",
+            Command::Query(Query::Offset) => "the offset of an index vector",
+            Command::Query(Query::Normal) => "the normal form; the current layout stays",
+            Command::Query(Query::Verdict) => {
                 "whether two positions of the current layout share a cell, with WORDS words of scratch"
             }
-            Command::Injective =>
+            Command::Query(Query::Injective) =>
                 "whether two positions of a layout of these extents and strides share a cell, with WORDS words of scratch",
-            Command::Record => "the record of the current layout, in at most ROOM bytes",
-            Command::Read => "read a record and make its layout current",
-            Command::Rest => "what stands behind the record at the front",
-            Command::Order => "the index order of strides, into OUTLEN places",
-            Command::Column => "dense strides, the first axis the densest",
-            Command::Row => "dense strides, the last axis the densest",
-            Command::Help => "what a command does, or each of them",
+            Command::Query(Query::Record) =>
+                "the record of the current layout, in at most ROOM bytes",
+            Command::Change(Change::Read) => "read a record and make its layout current",
+            Command::Query(Query::Rest) => "what stands behind the record at the front",
+            Command::Query(Query::Order) => "the index order of strides, into OUTLEN places",
+            Command::Query(Query::Column) => "dense strides, the first axis the densest",
+            Command::Query(Query::Row) => "dense strides, the last axis the densest",
+            Command::Query(Query::Help) => "what a command does, or each of them",
         }
     }
 }
@@ -158,4 +173,13 @@ impl fmt::Display for Command {
     fn fmt<W: fmt::Write>(&self, f: &mut fmt::Formatter<W>) -> fmt::Result {
         write!(f, "{}: {}", self.usage(), self.meaning())
     }
+}
+
+impl Entry for Command {
+    ghost use Rattle.std.specs.Prelude.{refl};
+    ghost use Rattle.commands.specs.Commands.{help_line};
+
+    ghost text = { help_line };
+
+    ghost prints = { λ _. refl };
 }

@@ -3,13 +3,8 @@
 
 mod change;
 pub mod command;
-pub mod fault;
-mod list;
 pub mod memory;
 pub mod obey;
-pub mod place;
 mod query;
 pub mod reply;
 mod scratch;
-mod spelled;
-pub mod word;

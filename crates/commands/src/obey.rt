@@ -1,21 +1,78 @@
 // A line of words obeyed: which function each command is.
 ghost use Rattle.std.specs.Prelude.{◌≡◌, OnErr, map};
 ghost use Rattle.view.specs.Model.{model_of};
-ghost use Rattle.commands.specs.Words.{Gives};
-ghost use Rattle.commands.specs.Obeyed.{reply_text, run, obeyed};
+ghost use Rattle.words.specs.Words.{Gives};
+ghost use Rattle.commands.specs.Replies.{reply_text};
+ghost use Rattle.commands.specs.Obeyed.{next_layout, answer_text, run, obeyed};
 
 use crate::change::{broadcast, diagonal, new_layout, permute, read, set_layout};
-use crate::command::Command;
-use crate::fault::{Fault, Problem};
+use crate::command::{Change, Command, Query};
 use crate::memory::Memory;
-use crate::place::Word;
 use crate::query::{
     bounds, column, help, injective, normal, offset, order, record, rest, row, verdict,
 };
 use crate::reply::Reply;
-use crate::word::Words;
 use std::alloc::Global;
 use view::layout::Layout;
+use words::fault::{Fault, Problem};
+use words::place::Word;
+use words::word::Words;
+
+// The layout after a command that changes it, with the words behind its name.
+#[tactic(auto, unfolding(crate::specs::Obeyed::next_layout))]
+fn next_layout<'a>(
+    alloc: Global,
+    current: &Layout,
+    memory: &mut Memory,
+    change: Change,
+    words: Words<'a>,
+) -> Result<Layout, Problem<'a>>
+    ensures { Gives model_of result (next_layout (model_of current.now) change
+        words.entry.usage.now (map (λ text. text.now) words.entry.texts.now)) }
+{
+    match change {
+        Change::New => new_layout(alloc, words.four()?),
+        Change::Set => set_layout(alloc, words.four()?),
+        Change::Permute => permute(alloc, *current, words.one()?),
+        Change::Diagonal => diagonal(alloc, *current, words.one()?),
+        Change::Broadcast => broadcast(alloc, *current, words.one()?),
+        Change::Read => read(alloc, memory, words.one_or_two()?),
+    }
+}
+
+// What a command answers that leaves the layout, with the words behind its name.
+#[tactic(auto, unfolding(crate::specs::Obeyed::answer_text))]
+fn answer<'a>(
+    alloc: Global,
+    current: &Layout,
+    memory: &mut Memory,
+    query: Query,
+    words: Words<'a>,
+) -> Result<Reply, Problem<'a>>
+    ensures { Gives reply_text result (answer_text (model_of current.now) query
+        words.entry.usage.now (map (λ text. text.now) words.entry.texts.now)) }
+{
+    match query {
+        Query::Bounds => bounds(alloc, words.four()?),
+        Query::Show => {
+            words.none()?;
+            Ok(Reply::Current(*current))
+        }
+        Query::Offset => offset(alloc, current, words.one()?),
+        Query::Normal => {
+            words.none()?;
+            normal(current)
+        }
+        Query::Verdict => verdict(current, memory, words.up_to_one()?),
+        Query::Injective => injective(alloc, memory, words.two_or_three()?),
+        Query::Record => record(alloc, current, memory, words.one_or_two()?),
+        Query::Rest => rest(alloc, words.one()?),
+        Query::Order => order(alloc, words.two()?),
+        Query::Column => column(alloc, words.one()?),
+        Query::Row => row(alloc, words.one()?),
+        Query::Help => help(words.up_to_one()?),
+    }
+}
 
 // What a command answers with the words behind its name, or why it is not obeyed; then the current layout stays.
 #[tactic(auto, unfolding(crate::specs::Obeyed::run))]
@@ -23,55 +80,23 @@ fn run<'a>(
     alloc: Global,
     current: &mut Layout,
     memory: &mut Memory,
-    words: Words<'a>,
+    command: Command,
+    texts: &'a [&'a [u8]],
 ) -> Result<Reply, Problem<'a>>
     ensures told { Gives (λ reply. record { text = reply_text reply; layout = model_of current.new }) result
-        (run (model_of current.old) words.entry.command (map (λ text. text.now) words.entry.texts.now)) }
+        (run (model_of current.old) command (map (λ text. text.now) texts.now)) }
     ensures kept { OnErr result (current.new ≡ current.old) }
 {
-    match words.command {
-        Command::New => {
-            *current = new_layout(alloc, words.four()?)?;
+    let words = Words {
+        usage: command.usage(),
+        texts,
+    };
+    match command {
+        Command::Change(change) => {
+            *current = next_layout(alloc, current, memory, change, words)?;
             Ok(Reply::Done)
         }
-        Command::Set => {
-            *current = set_layout(alloc, words.four()?)?;
-            Ok(Reply::Done)
-        }
-        Command::Permute => {
-            *current = permute(alloc, *current, words.one()?)?;
-            Ok(Reply::Done)
-        }
-        Command::Diagonal => {
-            *current = diagonal(alloc, *current, words.one()?)?;
-            Ok(Reply::Done)
-        }
-        Command::Broadcast => {
-            *current = broadcast(alloc, *current, words.one()?)?;
-            Ok(Reply::Done)
-        }
-        Command::Read => {
-            *current = read(alloc, memory, words.one_or_two()?)?;
-            Ok(Reply::Done)
-        }
-        Command::Bounds => bounds(alloc, words.four()?),
-        Command::Show => {
-            words.none()?;
-            Ok(Reply::Current(*current))
-        }
-        Command::Offset => offset(alloc, current, words.one()?),
-        Command::Normal => {
-            words.none()?;
-            normal(current)
-        }
-        Command::Verdict => verdict(current, memory, words.up_to_one()?),
-        Command::Injective => injective(alloc, memory, words.two_or_three()?),
-        Command::Record => record(alloc, current, memory, words.one_or_two()?),
-        Command::Rest => rest(alloc, words.one()?),
-        Command::Order => order(alloc, words.two()?),
-        Command::Column => column(alloc, words.one()?),
-        Command::Row => row(alloc, words.one()?),
-        Command::Help => help(words.up_to_one()?),
+        Command::Query(query) => answer(alloc, current, memory, query, words),
     }
 }
 
@@ -89,7 +114,7 @@ pub fn obey<'a>(
     ensures kept { OnErr result (current.new ≡ current.old) }
 {
     match Command::named(name) {
-        Some(command) => run(alloc, current, memory, Words { command, texts }),
+        Some(command) => run(alloc, current, memory, command, texts),
         None => Err(Fault::UnknownCommand(Word::new(1, name)).into()),
     }
 }

@@ -4,22 +4,18 @@ ghost use Rattle.specification.specs.Record.{written};
 ghost use Rattle.specification.specs.Verdict.{verdict};
 ghost use Rattle.specification.specs.Beside.{col_major, row_major};
 ghost use Rattle.view.specs.Model.{model_of};
-ghost use Rattle.commands.specs.Words.{Gives, numbered, numbered_if};
+ghost use Rattle.words.specs.Words.{Gives, numbered, numbered_if};
 ghost use Rattle.injectivity.specs.Judgement.{judged_of, told_of};
-ghost use Rattle.commands.specs.declared.fault.Problem.TheVariants.{Memory as out_of_memory};
+ghost use Rattle.words.specs.declared.fault.Problem.TheVariants.{Memory as out_of_memory};
 ghost use Rattle.commands.specs.Scratch.{bytes_made, front_written};
-ghost use Rattle.commands.specs.Obeyed.{or_most, layout_judged, reply_text, bounds_text, offset_text, normal_text, verdict_of, injective_text, record_text, rest_text, order_text, dense_text, help_text};
+ghost use Rattle.commands.specs.Replies.{reply_text};
+ghost use Rattle.commands.specs.Obeyed.{or_most, layout_judged, bounds_text, offset_text, normal_text, verdict_of, injective_text, record_text, rest_text, order_text, dense_text, help_text};
 
 use crate::change::{Four, Given};
 use crate::command::Command;
-use crate::fault::{Fault, Problem};
-use crate::list::first;
 use crate::memory::{Memory, lend};
-use crate::place::Word;
 use crate::reply::Reply;
 use crate::scratch::{lacking, words_given};
-use crate::spelled::Lent;
-use crate::word::ENTRIES_MOST;
 use auxiliary::index_order_into;
 use dense::{checked_col_major_strides, checked_row_major_strides};
 use injectivity::{Judgement, is_injective_layout};
@@ -30,6 +26,11 @@ use record::writer::{judge_layout, write_record};
 use std::alloc::{AllocError, Global};
 use view::bounds::validate_bounds;
 use view::layout::{Layout, ReadingOffset, Refusal};
+use words::fault::{Fault, Problem};
+use words::list::first;
+use words::place::Word;
+use words::spelled::Lent;
+use words::word::ENTRIES_MOST;
 
 /// Whether check-in finds the bounds of a layout right.
 #[tactic(auto, unfolding(crate::specs::Obeyed::bounds_text))]

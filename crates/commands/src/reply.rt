@@ -1,11 +1,11 @@
 // What an obeyed line answers.
 use crate::command::{COMMANDS, Command};
-use crate::list::{Joined, List, first};
 use dense::DenseStrides;
 use injectivity::Judgement;
 use std::alloc::{AllocError, Global};
 use std::fmt;
 use view::layout::Layout;
+use words::list::{Joined, List, first};
 
 #[derive(Drop)]
 pub enum Reply {
@@ -22,8 +22,7 @@ pub enum Reply {
 
 impl Reply {
     ghost use Rattle.std.specs.Prelude.{◌≡◌, IfOk};
-    ghost use Rattle.commands.specs.Texts.{bytes_text};
-    ghost use Rattle.commands.specs.Obeyed.{reply_text};
+    ghost use Rattle.commands.specs.Replies.{bytes_text, reply_text};
 
     /// Bytes as two digits each; `-` for none.
     pub fn bytes(alloc: Global, bytes: &[u8]) -> Result<Reply, AllocError>
@@ -43,7 +42,7 @@ struct Shown<'a>(&'a Layout);
 impl fmt::Display for Shown<'_> {
     ghost use Rattle.std.specs.Prelude.{Some};
     ghost use Rattle.view.specs.Model.{model_of};
-    ghost use Rattle.commands.specs.Texts.{layout_text};
+    ghost use Rattle.commands.specs.Replies.{layout_text};
 
     ghost output = { λ shown. Some (layout_text (model_of shown.0.now)) };
 
@@ -59,7 +58,7 @@ impl fmt::Display for Shown<'_> {
 
 impl fmt::Display for Reply {
     ghost use Rattle.std.specs.Prelude.{Some};
-    ghost use Rattle.commands.specs.Obeyed.{reply_text};
+    ghost use Rattle.commands.specs.Replies.{reply_text};
 
     ghost output = { λ reply. Some (reply_text reply) };
 

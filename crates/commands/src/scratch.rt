@@ -1,13 +1,13 @@
 // How many words of scratch a line lends: those that it names, or as many as are needed.
 ghost use Rattle.std.specs.Prelude.{◌≡◌, Option};
-ghost use Rattle.commands.specs.Words.{Gives, numbered_if};
+ghost use Rattle.words.specs.Words.{Gives, numbered_if};
 ghost use Rattle.commands.specs.Obeyed.{words_given};
 ghost use Rattle.commands.specs.Scratch.{words_lacking};
 
-use crate::fault::Problem;
-use crate::place::Word;
-use crate::spelled::Lent;
 use view::layout::Refusal;
+use words::fault::Problem;
+use words::place::Word;
+use words::spelled::Lent;
 
 /// WORDS, where the line has them.
 pub fn words_given<'a>(words: Option<Word<'a>>) -> Result<Option<usize>, Problem<'a>>

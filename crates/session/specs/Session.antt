@@ -5,8 +5,8 @@ use Rattle.specification.specs.Layout.{LayoutModel}
 use Rattle.lines.specs.Lines.{lines_of}
 use Rattle.lines.specs.declared.failure.Failure.{Failure}
 use Rattle.lines.specs.declared.failure.Failure.TheVariants.{Write}
-use Rattle.commands.specs.Texts.{long_line}
-use Rattle.commands.specs.Words.{Told, words}
+use Rattle.words.specs.Texts.{long_line}
+use Rattle.words.specs.Words.{Told, words}
 use Rattle.commands.specs.Obeyed.{Answered, obeyed}
 
 abbrev pub begins_with : ℕ → List ℕ → Bool

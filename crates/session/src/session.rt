@@ -5,10 +5,8 @@ ghost use Rattle.lines.specs.Lines.{AppendsFront};
 ghost use Rattle.view.specs.Model.{model_of};
 ghost use Rattle.session.specs.Session.{begins_with, empty_layout, by_words, by_length, output_of, Answers};
 
-use commands::fault::{Fault, Problem};
 use commands::memory::Memory;
 use commands::obey::obey;
-use commands::word::words_of;
 use lines::failure::Failure;
 use lines::line::Line;
 use lines::write::write_front;
@@ -16,6 +14,8 @@ use std::alloc::Global;
 use std::fmt;
 use std::io::{BufRead, Write};
 use view::layout::{Layout, MOST_AXES, NO_AXIS, ReadingOffset};
+use words::fault::{Fault, Problem};
+use words::word::words_of;
 
 // At the start the layout is empty.
 #[tactic(auto, unfolding(view::specs::Table::table))]

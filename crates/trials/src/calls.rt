@@ -2,7 +2,6 @@
 use auxiliary::index_order_into;
 use commands::memory::Memory;
 use commands::obey::obey;
-use commands::word::words_of;
 use dense::{checked_col_major_strides, checked_row_major_strides};
 use injectivity::{Judgement, is_injective_layout};
 use lines::line::Line;
@@ -19,6 +18,7 @@ use view::bounds::validate_bounds;
 use view::count::checked_element_count;
 use view::diagonal::AxisPair;
 use view::layout::{Layout, ReadingOffset};
+use words::word::words_of;
 
 #[test]
 fn views(rt: HostRuntime) -> Result<(), Fail> {

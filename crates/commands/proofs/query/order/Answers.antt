@@ -7,7 +7,7 @@ use Rattle.specification.specs.Beside.{index_order, order_after}
 use Rattle.specification.proofs.OutcomeLaws.{clash}
 use Rattle.view.specs.declared.layout.Refusal.{Refusal}
 use Rattle.view.specs.Answers.{outcome_of, answer_of}
-use Rattle.commands.specs.Texts.{told_refusal}
+use Rattle.words.specs.Texts.{told_refusal}
 use Rattle.commands.specs.Obeyed.{told, order_text}
 use Rattle.commands.proofs.query.order.Goals as goal
 

@@ -1,7 +1,8 @@
 use Rattle.std.proofs.Common.{rules, ◌≡◌, take, ap, ◌∙◌}
 use Rattle.std.specs.Fmt.{decimal, signed_decimal}
 use Rattle.view.specs.Model.{first_axes}
-use Rattle.commands.specs.Texts.{layout_text, list_text}
+use Rattle.words.specs.Texts.{list_text}
+use Rattle.commands.specs.Replies.{layout_text}
 use Rattle.commands.proofs.Shown.{parts_shown}
 use Rattle.commands.proofs.reply.ShownDisplay.fmt.Goals as goal
 

@@ -36,7 +36,7 @@ struct Excerpt<'a>(&'a [u8]);
 #[tactic(auto, unfolding(crate::specs::Texts::excerpt))]
 impl fmt::Display for Excerpt<'_> {
     ghost use Rattle.std.specs.Prelude.{Some};
-    ghost use Rattle.commands.specs.Texts.{excerpt};
+    ghost use Rattle.words.specs.Texts.{excerpt};
 
     ghost output = { λ text. Some (excerpt text.0.now) };
 
@@ -48,7 +48,7 @@ impl fmt::Display for Excerpt<'_> {
 
 impl fmt::Display for Word<'_> {
     ghost use Rattle.std.specs.Prelude.{Some};
-    ghost use Rattle.commands.specs.Texts.{at_number};
+    ghost use Rattle.words.specs.Texts.{at_number};
 
     ghost output = { λ word. Some (at_number word.number word.text.now) };
 
@@ -60,7 +60,7 @@ impl fmt::Display for Word<'_> {
 #[tactic(auto, unfolding(crate::specs::Texts::at_word, crate::specs::Texts::at_entry))]
 impl fmt::Display for Place<'_> {
     ghost use Rattle.std.specs.Prelude.{Some};
-    ghost use Rattle.commands.specs.Texts.{place_text};
+    ghost use Rattle.words.specs.Texts.{place_text};
 
     ghost output = { λ place. Some (place_text place) };
 

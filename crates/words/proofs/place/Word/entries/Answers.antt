@@ -3,7 +3,7 @@ use Rattle.std.specs.Prelude.{◌==◌, if◌then◌else◌}
 use Rattle.std.specs.List.{slice_split}
 use Rattle.std.proofs.lemmas.Iterator.Consumers.{map_from_collect}
 use Rattle.std.proofs.lemmas.Iterator.Splits.{YieldsList-from_slice_split}
-use Rattle.commands.proofs.place.Word.entries.Goals as goal
+use Rattle.words.proofs.place.Word.entries.Goals as goal
 
 pub returns : goal.returns
 returns c =

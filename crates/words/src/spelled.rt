@@ -1,8 +1,8 @@
 // What a word, or an entry of a list, can spell.
 ghost use Rattle.std.specs.Prelude.{◌≡◌, ◌<◌, List, ℕ, Option, IfSome, length};
-ghost use Rattle.commands.specs.declared.fault.Form.{Form};
-ghost use Rattle.commands.specs.declared.fault.Form.TheVariants.{Unsigned, Signed, Pair, Lent as lent_form};
-ghost use Rattle.commands.specs.Spelled.{unsigned, signed, lent, colon, pair};
+ghost use Rattle.words.specs.declared.fault.Form.{Form};
+ghost use Rattle.words.specs.declared.fault.Form.TheVariants.{Unsigned, Signed, Pair, Lent as lent_form};
+ghost use Rattle.words.specs.Spelled.{unsigned, signed, lent, colon, pair};
 
 use crate::fault::Form;
 use spelling::number::{read_signed, read_unsigned};

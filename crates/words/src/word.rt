@@ -1,9 +1,8 @@
 // Words of a line, and what they spell.
 ghost use Rattle.std.specs.Prelude.{◌≡◌, ◌≤◌, IfOk, length, map, vec_len};
 ghost use Rattle.std.specs.Io.BufRead.{strip_last};
-ghost use Rattle.commands.specs.Words.{Gives, is_space, words, numbered, numbered_if, no_word, one_word, two_words, four_words, up_to_one_word, one_or_two_words, two_or_three_words, is_none, entries, one_of, list_of, listed, bytes_of};
+ghost use Rattle.words.specs.Words.{Gives, is_space, words, numbered, numbered_if, no_word, one_word, two_words, four_words, up_to_one_word, one_or_two_words, two_or_three_words, is_none, entries, one_of, list_of, listed, bytes_of};
 
-use crate::command::Command;
 use crate::fault::{Fault, Problem};
 use crate::place::{Place, Word};
 use crate::spelled::Spelled;
@@ -13,10 +12,10 @@ use std::alloc::{AllocError, Global};
 /// The most entries of a list.
 pub const ENTRIES_MOST: usize = 64;
 
-/// The words behind the name of a command, which takes so many of them.
+/// The words behind the name of a command, and how the command is used.
 #[derive(Clone, Copy)]
 pub struct Words<'a> {
-    pub command: Command,
+    pub usage: &'static str,
     pub texts: &'a [&'a [u8]],
 }
 
@@ -50,40 +49,40 @@ impl<'a> Words<'a> {
     #[tactic(auto, unfolding(crate::specs::Words::no_word))]
     pub fn none(self) -> Result<(), Problem<'a>>
         ensures { Gives (λ none. none) result
-            (no_word self.entry.command (map (λ text. text.now) self.entry.texts.now)) }
+            (no_word self.entry.usage.now (map (λ text. text.now) self.entry.texts.now)) }
     {
         match self.texts {
             [] => Ok(()),
-            [..] => Err(Fault::WordCount(self.command).into()),
+            [..] => Err(Fault::WordCount(self.usage).into()),
         }
     }
 
     #[tactic(auto, unfolding(crate::specs::Words::one_word))]
     pub fn one(self) -> Result<Word<'a>, Problem<'a>>
         ensures { Gives numbered result
-            (one_word self.entry.command (map (λ text. text.now) self.entry.texts.now)) }
+            (one_word self.entry.usage.now (map (λ text. text.now) self.entry.texts.now)) }
     {
         match self.texts {
             [a] => Ok(Word::new(2, *a)),
-            [..] => Err(Fault::WordCount(self.command).into()),
+            [..] => Err(Fault::WordCount(self.usage).into()),
         }
     }
 
     #[tactic(auto, unfolding(crate::specs::Words::two_words))]
     pub fn two(self) -> Result<(Word<'a>, Word<'a>), Problem<'a>>
         ensures { Gives (λ w. (numbered w.0, numbered w.1)) result
-            (two_words self.entry.command (map (λ text. text.now) self.entry.texts.now)) }
+            (two_words self.entry.usage.now (map (λ text. text.now) self.entry.texts.now)) }
     {
         match self.texts {
             [a, b] => Ok((Word::new(2, *a), Word::new(3, *b))),
-            [..] => Err(Fault::WordCount(self.command).into()),
+            [..] => Err(Fault::WordCount(self.usage).into()),
         }
     }
 
     #[tactic(auto, unfolding(crate::specs::Words::four_words))]
     pub fn four(self) -> Result<(Word<'a>, Word<'a>, Word<'a>, Word<'a>), Problem<'a>>
         ensures { Gives (λ w. (numbered w.0, numbered w.1, numbered w.2, numbered w.3)) result
-            (four_words self.entry.command (map (λ text. text.now) self.entry.texts.now)) }
+            (four_words self.entry.usage.now (map (λ text. text.now) self.entry.texts.now)) }
     {
         match self.texts {
             [a, b, c, d] => Ok((
@@ -92,7 +91,7 @@ impl<'a> Words<'a> {
                 Word::new(4, *c),
                 Word::new(5, *d),
             )),
-            [..] => Err(Fault::WordCount(self.command).into()),
+            [..] => Err(Fault::WordCount(self.usage).into()),
         }
     }
 
@@ -100,12 +99,12 @@ impl<'a> Words<'a> {
     #[tactic(auto, unfolding(crate::specs::Words::up_to_one_word))]
     pub fn up_to_one(self) -> Result<Option<Word<'a>>, Problem<'a>>
         ensures { Gives numbered_if result
-            (up_to_one_word self.entry.command (map (λ text. text.now) self.entry.texts.now)) }
+            (up_to_one_word self.entry.usage.now (map (λ text. text.now) self.entry.texts.now)) }
     {
         match self.texts {
             [] => Ok(None),
             [a] => Ok(Some(Word::new(2, *a))),
-            [..] => Err(Fault::WordCount(self.command).into()),
+            [..] => Err(Fault::WordCount(self.usage).into()),
         }
     }
 
@@ -113,12 +112,12 @@ impl<'a> Words<'a> {
     #[tactic(auto, unfolding(crate::specs::Words::one_or_two_words))]
     pub fn one_or_two(self) -> Result<(Word<'a>, Option<Word<'a>>), Problem<'a>>
         ensures { Gives (λ w. (numbered w.0, numbered_if w.1)) result
-            (one_or_two_words self.entry.command (map (λ text. text.now) self.entry.texts.now)) }
+            (one_or_two_words self.entry.usage.now (map (λ text. text.now) self.entry.texts.now)) }
     {
         match self.texts {
             [a] => Ok((Word::new(2, *a), None)),
             [a, b] => Ok((Word::new(2, *a), Some(Word::new(3, *b)))),
-            [..] => Err(Fault::WordCount(self.command).into()),
+            [..] => Err(Fault::WordCount(self.usage).into()),
         }
     }
 
@@ -126,12 +125,12 @@ impl<'a> Words<'a> {
     #[tactic(auto, unfolding(crate::specs::Words::two_or_three_words))]
     pub fn two_or_three(self) -> Result<(Word<'a>, Word<'a>, Option<Word<'a>>), Problem<'a>>
         ensures { Gives (λ w. (numbered w.0, numbered w.1, numbered_if w.2)) result
-            (two_or_three_words self.entry.command (map (λ text. text.now) self.entry.texts.now)) }
+            (two_or_three_words self.entry.usage.now (map (λ text. text.now) self.entry.texts.now)) }
     {
         match self.texts {
             [a, b] => Ok((Word::new(2, *a), Word::new(3, *b), None)),
             [a, b, c] => Ok((Word::new(2, *a), Word::new(3, *b), Some(Word::new(4, *c)))),
-            [..] => Err(Fault::WordCount(self.command).into()),
+            [..] => Err(Fault::WordCount(self.usage).into()),
         }
     }
 }

@@ -1,7 +1,6 @@
 // Lists as they are printed, and the front of a list.
 ghost use Rattle.std.specs.Prelude.{◌≡◌, take};
 
-use crate::command::Command;
 use std::fmt;
 
 /// As many of the first entries as a number says, or all.
@@ -47,15 +46,6 @@ impl Entry for i64 {
     ghost prints = { λ _. refl };
 }
 
-impl Entry for Command {
-    ghost use Rattle.std.specs.Prelude.{refl};
-    ghost use Rattle.commands.specs.Commands.{help_line};
-
-    ghost text = { help_line };
-
-    ghost prints = { λ _. refl };
-}
-
 /// Entries with a text between each two.
 #[derive(Clone, Copy)]
 pub struct Joined<'a, T> {
@@ -66,7 +56,7 @@ pub struct Joined<'a, T> {
 #[tactic(auto, unfolding(crate::specs::Texts::joined))]
 impl<'a, T: Entry> fmt::Display for Joined<'a, T> {
     ghost use Rattle.std.specs.Prelude.{Some};
-    ghost use Rattle.commands.specs.Texts.{joined};
+    ghost use Rattle.words.specs.Texts.{joined};
 
     ghost output = { λ list. Some (joined list.between.now T.text list.entries.now) };
 
@@ -89,7 +79,7 @@ pub struct List<'a, T>(pub &'a [T]);
 #[tactic(auto, unfolding(crate::specs::Texts::list_text))]
 impl<'a, T: Entry> fmt::Display for List<'a, T> {
     ghost use Rattle.std.specs.Prelude.{Some};
-    ghost use Rattle.commands.specs.Texts.{list_text};
+    ghost use Rattle.words.specs.Texts.{list_text};
 
     ghost output = { λ list. Some (list_text T.text list.0.now) };
 

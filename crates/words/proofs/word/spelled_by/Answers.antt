@@ -1,8 +1,8 @@
 use Rattle.std.proofs.Common.{rules, ◌+◌, Err, sym, ap, ◌∙◌, refl}
-use Rattle.commands.specs.Texts.{at_entry, misspelled}
-use Rattle.commands.specs.Words.{listed}
-use Rattle.commands.proofs.Listed.{with_front, goes_on, stops, ends, drop_map, drop_map_end}
-use Rattle.commands.proofs.word.spelled_by.Goals as goal
+use Rattle.words.specs.Texts.{at_entry, misspelled}
+use Rattle.words.specs.Words.{listed}
+use Rattle.words.proofs.Listed.{with_front, goes_on, stops, ends, drop_map, drop_map_end}
+use Rattle.words.proofs.word.spelled_by.Goals as goal
 
 pub returns-in-None-clause-spelled : goal.returns-in-None-clause-spelled
 returns-in-None-clause-spelled g c =

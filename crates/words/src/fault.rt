@@ -1,9 +1,8 @@
 // Why a line is not obeyed: its words are no command, or the library refuses it.
 ghost use Rattle.std.specs.Prelude.{◌≡◌};
-ghost use Rattle.commands.specs.declared.fault.Fault.TheVariants.{Refused};
-ghost use Rattle.commands.specs.declared.fault.Problem.TheVariants.{Memory, Told};
+ghost use Rattle.words.specs.declared.fault.Fault.TheVariants.{Refused};
+ghost use Rattle.words.specs.declared.fault.Problem.TheVariants.{Memory, Told};
 
-use crate::command::Command;
 use crate::place::{Place, Word};
 use std::alloc::{AllocError, AllocFailed};
 use std::fmt;
@@ -23,7 +22,7 @@ pub enum Form {
 pub enum Fault<'a> {
     LongLine,
     UnknownCommand(Word<'a>),
-    WordCount(Command),
+    WordCount(&'static str),
     UnequalLists,
     Misspelled(Place<'a>, Form),
     ManyEntries(Word<'a>),
@@ -73,7 +72,7 @@ impl<'a, T: Drop> From<AllocFailed<T>> for Problem<'a> {
 
 impl fmt::Display for Form {
     ghost use Rattle.std.specs.Prelude.{Some};
-    ghost use Rattle.commands.specs.Texts.{form_text};
+    ghost use Rattle.words.specs.Texts.{form_text};
 
     ghost output = { λ form. Some (form_text form) };
 
@@ -94,7 +93,7 @@ struct ByNumber(Refusal);
 #[tactic(auto, unfolding(crate::specs::Texts::refusal_text))]
 impl fmt::Display for ByNumber {
     ghost use Rattle.std.specs.Prelude.{Some};
-    ghost use Rattle.commands.specs.Texts.{told_refusal};
+    ghost use Rattle.words.specs.Texts.{told_refusal};
 
     ghost output = { λ why. Some (told_refusal why.0) };
 
@@ -113,7 +112,7 @@ impl fmt::Display for ByNumber {
 #[tactic(auto, unfolding(crate::specs::Texts::at_word, crate::specs::Texts::long_line, crate::specs::Texts::unknown_command, crate::specs::Texts::word_count, crate::specs::Texts::unequal_lists, crate::specs::Texts::misspelled, crate::specs::Texts::many_entries, crate::specs::Texts::odd_digits, crate::specs::Texts::bad_digit))]
 impl fmt::Display for Fault<'_> {
     ghost use Rattle.std.specs.Prelude.{Some};
-    ghost use Rattle.commands.specs.Texts.{fault_text};
+    ghost use Rattle.words.specs.Texts.{fault_text};
 
     ghost output = { λ fault. Some (fault_text fault) };
 
@@ -124,11 +123,7 @@ impl fmt::Display for Fault<'_> {
                 f,
                 "error: word {word} is no command; help lists the commands"
             ),
-            Fault::WordCount(command) => write!(
-                f,
-                "error: wrong number of words; usage: {}",
-                command.usage()
-            ),
+            Fault::WordCount(usage) => write!(f, "error: wrong number of words; usage: {usage}"),
             Fault::UnequalLists => f.write_str(
                 "error: set takes as many strides as extents: words 4 and 5",
             ),

@@ -5,12 +5,11 @@ use Rattle.std.specs.Io.BufRead.{strip_last}
 use Rattle.hex.specs.Hex.{decode_of}
 use Rattle.hex.specs.declared.error.FromHexError.{FromHexError}
 use Rattle.hex.specs.declared.error.FromHexError.TheVariants.{OddLength}
-use Rattle.commands.specs.declared.command.Command.{Command}
-use Rattle.commands.specs.declared.place.Word.{Word}
-use Rattle.commands.specs.declared.fault.Form.{Form}
-use Rattle.commands.specs.declared.fault.Problem.{Problem}
-use Rattle.commands.specs.declared.fault.Problem.TheVariants as problem
-use Rattle.commands.specs.Texts.{at_word, at_entry, word_count, misspelled, many_entries, odd_digits, bad_digit, fault_text}
+use Rattle.words.specs.declared.place.Word.{Word}
+use Rattle.words.specs.declared.fault.Form.{Form}
+use Rattle.words.specs.declared.fault.Problem.{Problem}
+use Rattle.words.specs.declared.fault.Problem.TheVariants as problem
+use Rattle.words.specs.Texts.{at_word, at_entry, word_count, misspelled, many_entries, odd_digits, bad_digit, fault_text}
 
 -- ---- what is told
 
@@ -54,38 +53,38 @@ abbrev pub numbered_if : Option Word → Option Numbered
 numbered_if None = None
 numbered_if (Some w) = Some (numbered w)
 
--- the words behind the name of a command, which takes so many of them
-unfoldable pub no_word : Command → List (List ℕ) → Told (Unit {0})
-no_word command [] = Ok tt
-no_word command other = Err (word_count command)
+-- the words behind the name of a command that takes so many of them; its usage tells of any other number
+unfoldable pub no_word : List ℕ → List (List ℕ) → Told (Unit {0})
+no_word usage [] = Ok tt
+no_word usage other = Err (word_count usage)
 
-unfoldable pub one_word : Command → List (List ℕ) → Told Numbered
-one_word command (a ∷ []) = Ok (2, a)
-one_word command other = Err (word_count command)
+unfoldable pub one_word : List ℕ → List (List ℕ) → Told Numbered
+one_word usage (a ∷ []) = Ok (2, a)
+one_word usage other = Err (word_count usage)
 
-unfoldable pub two_words : Command → List (List ℕ) → Told (Numbered × Numbered)
-two_words command (a ∷ b ∷ []) = Ok ((2, a), (3, b))
-two_words command other = Err (word_count command)
+unfoldable pub two_words : List ℕ → List (List ℕ) → Told (Numbered × Numbered)
+two_words usage (a ∷ b ∷ []) = Ok ((2, a), (3, b))
+two_words usage other = Err (word_count usage)
 
-unfoldable pub four_words : Command → List (List ℕ) → Told (Numbered × Numbered × Numbered × Numbered)
-four_words command (a ∷ b ∷ c ∷ d ∷ []) = Ok ((2, a), (3, b), (4, c), (5, d))
-four_words command other = Err (word_count command)
+unfoldable pub four_words : List ℕ → List (List ℕ) → Told (Numbered × Numbered × Numbered × Numbered)
+four_words usage (a ∷ b ∷ c ∷ d ∷ []) = Ok ((2, a), (3, b), (4, c), (5, d))
+four_words usage other = Err (word_count usage)
 
 -- the last of them may be left out
-unfoldable pub up_to_one_word : Command → List (List ℕ) → Told (Option Numbered)
-up_to_one_word command [] = Ok None
-up_to_one_word command (a ∷ []) = Ok (Some (2, a))
-up_to_one_word command other = Err (word_count command)
+unfoldable pub up_to_one_word : List ℕ → List (List ℕ) → Told (Option Numbered)
+up_to_one_word usage [] = Ok None
+up_to_one_word usage (a ∷ []) = Ok (Some (2, a))
+up_to_one_word usage other = Err (word_count usage)
 
-unfoldable pub one_or_two_words : Command → List (List ℕ) → Told (Numbered × Option Numbered)
-one_or_two_words command (a ∷ []) = Ok ((2, a), None)
-one_or_two_words command (a ∷ b ∷ []) = Ok ((2, a), Some (3, b))
-one_or_two_words command other = Err (word_count command)
+unfoldable pub one_or_two_words : List ℕ → List (List ℕ) → Told (Numbered × Option Numbered)
+one_or_two_words usage (a ∷ []) = Ok ((2, a), None)
+one_or_two_words usage (a ∷ b ∷ []) = Ok ((2, a), Some (3, b))
+one_or_two_words usage other = Err (word_count usage)
 
-unfoldable pub two_or_three_words : Command → List (List ℕ) → Told (Numbered × Numbered × Option Numbered)
-two_or_three_words command (a ∷ b ∷ []) = Ok ((2, a), (3, b), None)
-two_or_three_words command (a ∷ b ∷ c ∷ []) = Ok ((2, a), (3, b), Some (4, c))
-two_or_three_words command other = Err (word_count command)
+unfoldable pub two_or_three_words : List ℕ → List (List ℕ) → Told (Numbered × Numbered × Option Numbered)
+two_or_three_words usage (a ∷ b ∷ []) = Ok ((2, a), (3, b), None)
+two_or_three_words usage (a ∷ b ∷ c ∷ []) = Ok ((2, a), (3, b), Some (4, c))
+two_or_three_words usage other = Err (word_count usage)
 
 -- ---- what a word spells
 

@@ -1,9 +1,9 @@
 -- Entries read one after another, as a loop does.
 use Rattle.std.proofs.Common.{◌≡◌, ℕ, zero, suc, ◌+◌, ◌<◌, ◌≤◌, List, [], ◌∷◌, ◌++◌, length, map, drop, get_or, Option, Some, None, Ok, Err, refl, sym, ap, append_assoc, arith}
 use Rattle.std.proofs.lemmas.List.{append-nil}
-use Rattle.commands.specs.declared.fault.Form.{Form}
-use Rattle.commands.specs.Texts.{at_entry, misspelled}
-use Rattle.commands.specs.Words.{Told, ◌>>=◌, listed}
+use Rattle.words.specs.declared.fault.Form.{Form}
+use Rattle.words.specs.Texts.{at_entry, misspelled}
+use Rattle.words.specs.Words.{Told, ◌>>=◌, listed}
 
 -- what was read before, and what is still read
 abbrev pub with_front : {A : Type 0} → List A → Told (List A) → Told (List A)

@@ -3,7 +3,7 @@ use Rattle.std.specs.Prelude.{ℕ, ℤ, ◌+◌, List, Option, Some, None, ◌==
 use Rattle.std.specs.List.{position}
 use Rattle.spelling.specs.Number.{unsigned_of, signed_of}
 use Rattle.view.specs.declared.diagonal.AxisPair.{AxisPair}
-use Rattle.commands.specs.declared.spelled.Lent.{Lent}
+use Rattle.words.specs.declared.spelled.Lent.{Lent}
 
 -- a number below 2^64
 abbrev pub unsigned : List ℕ → Option ℕ

@@ -1,21 +1,16 @@
--- What is printed of a fault and of an answer, byte by byte. Assumes nothing.
+-- What is printed of a fault and of a list, byte by byte. Assumes nothing.
 use Rattle.std.specs.Prelude.{ℕ, List, [], ◌∷◌, ◌++◌, codes, take, length, nat_lt, encode_utf8_all, if◌then◌else◌}
 use Rattle.std.specs.List.{flat_map}
-use Rattle.std.specs.Fmt.{decimal, signed_decimal}
-use Rattle.hex.specs.Hex.{encode_lower}
+use Rattle.std.specs.Fmt.{decimal}
 use Rattle.bstr.specs.Escape.{escaped}
-use Rattle.specification.specs.Layout.{LayoutModel}
-use Rattle.specification.specs.Verdict.{Verdict, Distinct, Repeated, Undecided}
 use Rattle.view.specs.Answers.{number_of, values_of}
 use Rattle.view.specs.declared.layout.Refusal.{Refusal}
-use Rattle.commands.specs.declared.command.Command.{Command}
-use Rattle.commands.specs.declared.place.Place.{Place}
-use Rattle.commands.specs.declared.place.Place.TheVariants as place
-use Rattle.commands.specs.declared.fault.Form.{Form}
-use Rattle.commands.specs.declared.fault.Form.TheVariants.{Unsigned, Signed, Pair, Lent}
-use Rattle.commands.specs.declared.fault.Fault.{Fault}
-use Rattle.commands.specs.declared.fault.Fault.TheVariants.{LongLine, UnknownCommand, WordCount, UnequalLists, Misspelled, ManyEntries, OddDigits, BadDigit, Refused}
-use Rattle.commands.specs.Commands.{usage_of}
+use Rattle.words.specs.declared.place.Place.{Place}
+use Rattle.words.specs.declared.place.Place.TheVariants as place
+use Rattle.words.specs.declared.fault.Form.{Form}
+use Rattle.words.specs.declared.fault.Form.TheVariants.{Unsigned, Signed, Pair, Lent}
+use Rattle.words.specs.declared.fault.Fault.{Fault}
+use Rattle.words.specs.declared.fault.Fault.TheVariants.{LongLine, UnknownCommand, WordCount, UnequalLists, Misspelled, ManyEntries, OddDigits, BadDigit, Refused}
 
 -- ---- where a fault is
 
@@ -61,8 +56,9 @@ long_line = codes "error: the line is longer than 4096 bytes"
 unfoldable pub unknown_command : ℕ → List ℕ → List ℕ
 unknown_command number text = codes "error: " ++ at_word number text ++ codes " is no command; help lists the commands"
 
-unfoldable pub word_count : Command → List ℕ
-word_count command = codes "error: wrong number of words; usage: " ++ usage_of command
+-- other words than the usage of a command names
+unfoldable pub word_count : List ℕ → List ℕ
+word_count usage = codes "error: wrong number of words; usage: " ++ usage
 
 unfoldable pub unequal_lists : List ℕ
 unequal_lists = codes "error: set takes as many strides as extents: words 4 and 5"
@@ -84,7 +80,7 @@ bad_digit number text = codes "error: " ++ at_word number text ++ codes " has a 
 abbrev pub fault_text : Fault → List ℕ
 fault_text LongLine = long_line
 fault_text (UnknownCommand w) = unknown_command w.number w.text.now
-fault_text (WordCount command) = word_count command
+fault_text (WordCount usage) = word_count usage.now
 fault_text UnequalLists = unequal_lists
 fault_text (Misspelled place form) = misspelled (place_text place) form
 fault_text (ManyEntries w) = many_entries w.number w.text.now
@@ -92,7 +88,7 @@ fault_text (OddDigits w) = odd_digits w.number w.text.now
 fault_text (BadDigit w) = bad_digit w.number w.text.now
 fault_text (Refused why) = told_refusal why
 
--- ---- answers
+-- ---- lists
 
 -- the texts of entries, with a text between each two
 unfoldable pub joined : {A : Type 0} → List ℕ → (A → List ℕ) → List A → List ℕ
@@ -103,21 +99,3 @@ joined between text_of (first ∷ others) = text_of first ++ flat_map (λ other.
 unfoldable pub list_text : {A : Type 0} → (A → List ℕ) → List A → List ℕ
 list_text text_of [] = codes "-"
 list_text text_of (first ∷ others) = joined (codes ",") text_of (first ∷ others)
-
--- LEN OFFSET EXTENTS STRIDES; above rank 16 the 16 axes that a layout holds
-unfoldable pub layout_text : LayoutModel → List ℕ
-layout_text l =
-    decimal l.buffer ++ 32 ∷ (signed_decimal l.offset
-    ++ 32 ∷ (list_text (λ a. decimal a.extent) (take 16 l.axes)
-    ++ 32 ∷ list_text (λ a. signed_decimal a.stride) (take 16 l.axes)))
-
--- bytes as two digits each; `-` for none
-abbrev pub bytes_text : List ℕ → List ℕ
-bytes_text [] = codes "-"
-bytes_text (byte ∷ bytes) = encode_lower (byte ∷ bytes)
-
--- a verdict with its count
-abbrev pub verdict_text : Verdict → ℕ → List ℕ
-verdict_text Distinct count = codes "distinct " ++ decimal count
-verdict_text Repeated count = codes "repeated " ++ decimal count
-verdict_text Undecided count = codes "undecided 0"

@@ -1,7 +1,7 @@
 use Rattle.std.proofs.Common.{◌≡◌, ◌+◌, vec_len, map, drop}
-use Rattle.commands.specs.Words.{listed}
-use Rattle.commands.proofs.Listed.{with_front}
-use Rattle.commands.proofs.word.spelled_by.Given as goal
+use Rattle.words.specs.Words.{listed}
+use Rattle.words.proofs.Listed.{with_front}
+use Rattle.words.proofs.word.spelled_by.Given as goal
 
 abbrev pub invariant-loop-text : goal.invariant-loop-text
 invariant-loop-text g l = record {

@@ -1,9 +1,9 @@
 use Rattle.std.proofs.Common.{rules, length}
 use Rattle.std.specs.Prelude.{not, ◌==◌}
-use Rattle.commands.specs.Words.{is_space}
+use Rattle.words.specs.Words.{is_space}
 use Rattle.std.proofs.lemmas.Iterator.Consumers.{map_from_collect, YieldsList-at, YieldsList-from_filter}
 use Rattle.std.proofs.lemmas.Iterator.Splits.{YieldsList-from_slice_split}
-use Rattle.commands.proofs.word.words_of.Goals as goal
+use Rattle.words.proofs.word.words_of.Goals as goal
 
 pub returns : goal.returns
 returns c =

@@ -1,0 +1,8 @@
+//! The words of a line: what they spell, and how a fault is told.
+#![tactic(auto)]
+
+pub mod fault;
+pub mod list;
+pub mod place;
+pub mod spelled;
+pub mod word;
