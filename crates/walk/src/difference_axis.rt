@@ -87,7 +87,6 @@ impl DifferenceAxis {
 }
 
 // One vector on: the first axis's digit goes up, or goes round and leaves it to the next axis.
-#[tactic(auto, using(crate::proofs::Turning::turns), unfolding(specification::specs::Axis::product))]
 pub fn turn(two: TwoAxes, axes: &mut [DifferenceAxis], residues: Residues) -> Residues
     requires stands { Stands two axes.old residues }
     requires more { number_of (vector_of axes.old) + 1 < box (others_of axes.old) }
