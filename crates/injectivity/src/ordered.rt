@@ -14,7 +14,7 @@ const MOST_EXTENT: u64 = i32::MAX as u64;
 
 const MOST_STRIDE: u64 = u32::MAX as u64;
 
-/// The sum of the absolute spans with that of one axis more, where it is separated by them and no
+/// The sum of the absolute spans with that of one axis more, if it is separated by them and no
 /// larger than is told here. One that is not active adds nothing.
 #[tactic(auto, using(crate::proofs::OrderedLaws::span_fits))]
 fn span_after(span: u64, axis: &Axis) -> Option<u64>
