@@ -52,6 +52,10 @@ pub fn few_axes() {
     verdict("rank 2, dense", &[8, 8], &[1, 8]);
     verdict("rank 3, dense", &[4, 5, 6], &[1, 4, 20]);
     verdict("rank 4, dense, by row", &[4, 5, 6, 7], &[210, 42, 7, 1]);
+    verdict("rank 8, dense, by row", &[2, 3, 2, 3, 2, 3, 2, 3], &[648, 216, 108, 36, 18, 6, 3, 1]);
+    verdict("rank 3, every other index, backwards", &[8, 3, 5], &[1, -16, 48]);
+    verdict("rank 2, a sliding window", &[8, 3], &[1, 1]);
+    verdict("rank 3, a broadcast axis", &[4, 5, 6], &[1, 0, 4]);
     verdict("rank 2, crowded", &[8, 8], &[1, 2]);
     verdict("rank 3, count 1", &[2, 2, 2], &[2, 3, 5]);
     verdict("rank 3, two set apart are long", &[2, 2, 5_000_000], &[4, 5, 6]);

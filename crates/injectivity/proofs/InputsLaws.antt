@@ -36,6 +36,11 @@ pub out_is : (axes : List Axis) → is_out_of_range axes ≡ (list_any unfit axe
 unfolding is_out_of_range least
 out_is axes = let u = list_any-unfit axes in let f = spans_fit axes in grind (arith, ints, nat_tests)
 
+-- in range is what these three say
+pub all_in_range : (axes : List Axis) → list_any unfit axes ≡ false → upward axes < 2 ^ 63 → downward axes ≤ 2 ^ 63 → is_out_of_range axes ≡ false
+unfolding is_out_of_range least
+all_in_range axes f u d = let e = list_any-unfit axes in let s = spans_fit axes u d in grind (arith, ints, nat_tests)
+
 -- what is in range
 pub in_range : (axes : List Axis) → is_out_of_range axes ≡ false → (list_any unfit axes ≡ false) × (upward axes < 2 ^ 63) × (downward axes ≤ 2 ^ 63)
 unfolding is_out_of_range least

@@ -34,7 +34,7 @@ active-span k (a ∷ r) = let e = active-span (suc k) r in let p = span-parts a 
 -- ---- each of them
 
 -- a stride is at most the span of an active axis
-below_span : (n m : ℕ) → 1 < n → m ≤ (n - 1) * m
+pub below_span : (n m : ℕ) → 1 < n → m ≤ (n - 1) * m
 below_span n m h = let g : 0 < n - 1 = omega arith in omega (arith, le-mul_of_pos_right m g, mul_comm (n - 1) m)
 
 side_of : (a : Axis) → 1 < a.extent → still a ≡ false → unfit a ≡ false → positive_part (span a) < 2 ^ 63 → negative_part (span a) ≤ 2 ^ 63

@@ -7,4 +7,5 @@ pub mod SearchableLaws
 pub mod CoverLaws
 pub mod JudgeLaws
 pub mod ReadyLaws
+pub mod OrderedLaws
 pub mod MeaningProved

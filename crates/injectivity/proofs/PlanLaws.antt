@@ -49,6 +49,12 @@ module _ (axes : List Axis) (few : length axes ≤ 16) where
   unfolding overfull
   not_counted e = grind (arith, ints, count_is, plan_is axes)
 
+pub plan_empty : (axes : List Axis) → is_empty axes ≡ true → plan_of axes ≡ done (answered Distinct 0)
+plan_empty axes e = grind (arith, plan_is axes)
+
+pub plan_block : (axes : List Axis) → IsLeftToBlock axes → plan_of axes ≡ done (by_block_size (block_of axes))
+plan_block axes l = grind (arith, nat_tests, plan_is axes, not-empty axes l.many)
+
 module _ (axes : List Axis) (fits : overfull axes ≡ false) where
   pub plan_few : positions axes ≤ 1 → plan_of axes ≡ done (answered Distinct 0)
   plan_few h = grind (arith, nat_tests, plan_is axes, some_position axes)

@@ -21,7 +21,7 @@ use Rattle.injectivity.proofs.LeftLaws.{active-total, active-span, active-sides}
 use Rattle.injectivity.proofs.JudgeLaws.{no_block}
 use Rattle.injectivity.proofs.PlanLaws.{by_block, not-empty}
 
-total-perm : {l m : List ActiveAxis} → Perm l m → total l ≡ total m
+pub total-perm : {l m : List ActiveAxis} → Perm l m → total l ≡ total m
 unfolding product
 total-perm nil = refl
 total-perm (skip {a} p) = ap (λ (k : ℕ). a.extent * k) (total-perm p)

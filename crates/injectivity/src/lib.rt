@@ -5,6 +5,7 @@
 //! is left is the block, and it alone decides. More positions than sums is Repeated; two axes are
 //! settled by their greatest common divisor; more are searched for a difference that adds up to 0,
 //! or enumerated in the caller's scratch; past both budgets the answer is Undecided.
+//! Of axes that stand separated as they are, or from the last on, the answer is found at sight.
 //!
 //! Nothing is allocated. A search looks at no more than 2^22 differences; an enumeration is of no
 //! more than 2^24 positions and asks for no more than 2^24 + 1 words.
@@ -17,6 +18,7 @@
 mod active;
 mod block;
 mod inputs;
+mod ordered;
 
 ghost use Rattle.std.specs.Prelude.{◌≤◌, length};
 ghost use Rattle.specification.specs.Axis.{extents, strides};
@@ -29,6 +31,7 @@ use active::{NO_ACTIVE_AXIS, gather_active};
 use axis::Axis;
 use block::interleaved_block;
 use inputs::validate_injective_layout_inputs;
+use ordered::{is_separated_by_column, is_separated_by_row};
 use search::Searched;
 use sorting::sort_by_stride;
 use view::axes::Lists;
@@ -120,12 +123,16 @@ pub fn is_injective_axes(axes: &[Axis], scratch: &mut [u64]) -> Result<Judgement
     judge_axes(axes, scratch)
 }
 
-/// The verdict of at most 16 axes.
-#[tactic(auto, using(crate::proofs::PlanLaws::settled, crate::proofs::PlanLaws::turned_down))]
+/// The verdict of at most 16 axes. Of axes that stand separated as they are, or from the last on, it
+/// is told before anything else is asked.
+#[tactic(auto, using(crate::proofs::PlanLaws::settled, crate::proofs::PlanLaws::turned_down, crate::proofs::OrderedLaws::in_order))]
 fn judge_axes(axes: &[Axis], scratch: &mut [u64]) -> Result<Judgement, Refusal>
     requires { length axes.now ≤ 16 }
     ensures { IsJudgedAs (judged axes.now (length scratch.old)) scratch.old scratch.new result }
 {
+    if is_separated_by_column(axes) || is_separated_by_row(axes) {
+        return Ok(Judgement::Distinct(0));
+    }
     match validate_injective_layout_inputs(axes)? {
         Some(judgement) => Ok(judgement),
         None => judge_active_axes(axes, scratch),
