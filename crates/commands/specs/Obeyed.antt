@@ -10,7 +10,7 @@ use Rattle.specification.specs.Normal.{normal_form}
 use Rattle.specification.specs.Verdict.{Judged, judge, verdict}
 use Rattle.specification.specs.Record.{written, read_of, rest_of}
 use Rattle.specification.specs.Beside.{col_major, row_major, index_order, indexed_offset}
-use Rattle.view.specs.Model.{model_of, model_from, first_axes}
+use Rattle.view.specs.Model.{model_from, first_axes}
 use Rattle.view.specs.Ties.{pairs_in}
 use Rattle.record.specs.Reading.{layout_read}
 use Rattle.injectivity.specs.Judgement.{told_of}
