@@ -60,21 +60,25 @@ impl<'a> Lists<'a> {
         ensures extents { IfOk result (λ lists. lists.extents.now ≡ extents.now) }
         ensures strides { IfOk result (λ lists. lists.strides.now ≡ strides.now) }
     {
+        // the common case first: it takes two tests
+        if extents.len() == strides.len() && extents.len() <= MOST_AXES {
+            return Ok(Lists { extents, strides });
+        }
         if MOST_AXES < extents.len() || MOST_AXES < strides.len() {
             return Err(Refusal::TooManyAxes);
         }
-        if extents.len() != strides.len() {
-            return Err(Refusal::LengthsDiffer);
-        }
-        Ok(Lists { extents, strides })
+        Err(Refusal::LengthsDiffer)
     }
 
     /// Their axes into the first places of an array; the places past them stay.
     pub fn store(&self, axes: &mut [Axis; 16])
         ensures { axes.new ≡ axes_in self.now ++ drop (length self.now.extents.now) axes.old }
     {
-        for (i, &extent) in self.extents.iter().enumerate() {
-            let stride = stride_at(self.strides, i);
+        // over all sixteen places: the compiler knows their number, and needs no counter
+        for i in 0..MOST_AXES {
+            let (Some(&extent), Some(&stride)) = (self.extents.get(i), self.strides.get(i)) else {
+                break;
+            };
             axes[i] = Axis { extent, stride };
         }
     }

@@ -18,9 +18,8 @@ pub fn bounded_product(a: u64, b: u64, limit: u64) -> Option<u64>
     if limit < product { None } else { Some(product) }
 }
 
-/// a * b, where a word holds it. Few factors are so large: kept apart, it takes no registers from the loops over axes.
-#[cold]
-#[inline(never)]
+/// a * b, where a word holds it. Inlined: a call would take registers from the loops over axes, although few factors are so large.
+#[inline(always)]
 fn wide_product(a: u64, b: u64) -> Option<u64>
     ensures { result ≡ bounded_by most_unsigned (a * b) }
 {

@@ -183,6 +183,7 @@ impl Layout {
 
     /// Refusal 1 for more than 16 axes or entries of the call's list (0 for a call that takes none), 3 for an offset that is not
     /// accepted.
+    #[inline(always)]
     #[tactic(auto, unfolding(specification::specs::Outcome::refuse_if), using(crate::proofs::HandedLaws::many_axes, crate::proofs::HandedLaws::many_entries, crate::proofs::HandedLaws::handed_few))]
     pub fn handed_refusal(&self, entries: usize) -> Result<(), Refusal>
         ensures answer { outcome_of result ≡ handed (model_of self.now) entries }

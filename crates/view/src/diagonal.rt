@@ -18,14 +18,14 @@ pub struct AxisPair(pub usize, pub usize);
 /// The root of each axis, which is the lowest axis of its class, for the pairs tied so far.
 #[derive(Drop)]
 pub(crate) struct Ties {
-    roots: [usize; 16],
+    roots: [u8; 16],
     rank: usize,
     ghost few: { rank ≤ 16 },
     ghost rooted: { IsRooted rank roots },
 }
 
 /// Each axis whose root is `from` gets the root `to`.
-fn relabel(roots: &mut [usize; 16], from: usize, to: usize)
+fn relabel(roots: &mut [u8; 16], from: u8, to: u8)
     ensures { roots.new ≡ map (renamed from to) roots.old }
 {
     for root in roots.iter_mut() {
@@ -85,13 +85,13 @@ impl Ties {
 
 /// Bit a is set where axis a is a root.
 #[tactic(auto, using(crate::proofs::RootLaws::mask_none, crate::proofs::RootLaws::mask_set, crate::proofs::RootLaws::mask_clear))]
-fn root_mask(roots: &[usize; 16], rank: usize) -> u16
+fn root_mask(roots: &[u8; 16], rank: usize) -> u16
     requires { rank ≤ 16 }
     ensures { result ≡ mask_of roots.now rank }
 {
     let mut mask: u16 = 0;
     for axis in 0..rank {
-        if roots[axis] == axis {
+        if roots[axis] as usize == axis {
             mask |= 1 << axis;
         }
     }
@@ -108,12 +108,7 @@ fn place(mask: u16, root: usize) -> usize
 }
 
 /// One axis for each root into the first places: the least extent, and the sum of the strides in ascending axis order.
-fn fuse(
-    axes: &[Axis],
-    roots: &[usize; 16],
-    mask: u16,
-    fused: &mut [Axis; 16],
-) -> Result<(), Refusal>
+fn fuse(axes: &[Axis], roots: &[u8; 16], mask: u16, fused: &mut [Axis; 16]) -> Result<(), Refusal>
     requires few { length axes.now ≤ 16 }
     requires rooted { IsRooted (length axes.now) roots.now }
     requires masked { mask ≡ mask_of roots.now (length axes.now) }
@@ -122,7 +117,7 @@ fn fuse(
     ensures fused { OnOk result (first_axes fused.new (ones mask) ≡ fused_axes axes.now roots.now) }
 {
     for (axis, &Axis { extent, stride }) in axes.iter().enumerate() {
-        let root = roots[axis];
+        let root = roots[axis] as usize;
         let class = &mut fused[place(mask, root)];
         if root == axis {
             *class = Axis { extent, stride };
