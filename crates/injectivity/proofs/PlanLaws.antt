@@ -1,11 +1,11 @@
 -- What axes are planned as, test by test; and what two lists, or axes that are lent, are judged as.
 use Rattle.std.specs.List.{list_any}
 use Rattle.std.specs.Prelude.{if◌then◌else◌}
-use Rattle.std.proofs.Common.{◌≡◌, ◌==◌, ℕ, ◌≤◌, ◌<◌, true, false, List, [], ◌∷◌, length, refl, sym, ap, ◌∙◌, inl, arith}
+use Rattle.std.proofs.Common.{◌≡◌, ◌==◌, ℕ, ◌≤◌, ◌<◌, true, false, List, [], length, refl, ◌∙◌, arith}
 use lib.IntN.{ℤ}
 use Rattle.std.proofs.lemmas.Bool.Decides.{nat_tests}
 use Rattle.std.proofs.lemmas.Int.{ints}
-use Rattle.specification.specs.Axis.{Axis, axes_of_lists, extents, positions, is_empty}
+use Rattle.specification.specs.Axis.{Axis, extents, positions, is_empty}
 use Rattle.specification.specs.Outcome.{done, refused, refuse_if, ◌>>◌, ◌>>=◌}
 use Rattle.specification.specs.Normal.{overfull}
 use Rattle.specification.specs.BlockClaims.{sorted_active}
