@@ -1,32 +1,31 @@
 -- A call that is refused 9 with the words that it needs while it is lent fewer, and answers the same with as many or more.
 -- Lent none and then the words that it lacked, it answers what it answers with the most that a verdict needs.
-use Rattle.std.proofs.Common.{◌≡◌, not, ◌||◌, eqb, ltb, ℤ, ◌⊎◌, inl, inr, ℕ, ◌/◌, ◌<◌, ◌≤◌, Bool, true, false, List, [], ◌∷◌, length, take, drop, Option, Some, None, Result, Ok, Err, unwrap_or, refl, sym, ap, ◌∙◌, arith}
-use Rattle.std.proofs.lemmas.Bool.{lt-ltb, le-ltb, lt-leb, le-leb, cases_lt}
+use Rattle.std.proofs.Common.{◌≡◌, not, ◌||◌, eqb, ltb, ℤ, ◌⊎◌, inl, inr, ℕ, ◌<◌, ◌≤◌, Bool, true, false, List, [], ◌∷◌, length, take, drop, Option, Some, None, Result, Ok, Err, unwrap_or, refl, sym, ap, ◌∙◌, arith}
+use Rattle.std.proofs.lemmas.Bool.{lt-ltb, le-ltb, cases_lt}
 use Rattle.std.proofs.lemmas.List.{take_at}
 use Rattle.specification.specs.Axis.{Axis}
 use Rattle.specification.specs.Outcome.{Outcome, done, refused, refuse_if, ◌>>◌, ◌>>=◌}
 use Rattle.specification.specs.Search.{ActiveAxis, span_sum, total, words_for}
-use Rattle.specification.specs.Verdict.{Plan, answered, enumerated, block_of, others_of, plan_of, carry_out, judge, words_of, words_needed}
+use Rattle.specification.specs.Verdict.{Plan, answered, enumerated, plan_of, carry_out, judge, words_of}
 use Rattle.specification.proofs.OutcomeLaws.{clash, refused-inj, refuse-yes, refuse-no, bind-refused}
-use Rattle.specification.proofs.PlanCases.{judged_as, PlanCase, when_empty, when_overfull, when_one, when_still, when_out, by_block, plan-case, small, large, searching, enumerating, past_both}
-use Rattle.specification.proofs.SearchLaws.{SearchEnd, collided, completed, exhausted, search-end}
+use Rattle.specification.proofs.PlanCases.{judged_as}
 use Rattle.specification.specs.Axis.{axes_of_lists}
 use Rattle.specification.specs.Layout.{LayoutModel, rank, is_too_long}
 use Rattle.specification.specs.Normal.{normal_form}
 use Rattle.specification.specs.Record.{Made, record_length, record_bytes, verdict_byte, fields_right, layout_from, is_normal_form, verdict_field, read_of, written, write_answer, output_after, Writing}
 use Rattle.specification.specs.Verdict.{verdict}
 use Rattle.injectivity.specs.declared.Judgement.{Judgement}
-use Rattle.injectivity.specs.Judgement.{told_of, verdict_told, judged_of, IsJudgedAs}
+use Rattle.injectivity.specs.Judgement.{axes_judged, told_of, verdict_told, judged_of}
+use Rattle.injectivity.proofs.WordsLaws.{enough_words}
 use Rattle.record.specs.declared.fields.BytePlace.{BytePlace}
 use Rattle.record.specs.Reading.{layout_read}
 use Rattle.record.specs.Writer.{wrote_of}
 use Rattle.view.specs.declared.layout.Layout.{Layout}
 use Rattle.view.specs.Model.{model_of, layout_outcome}
-use Rattle.view.proofs.AxesLaws.{length_first_axes}
 use Rattle.view.specs.Answers.{outcome_by}
 use Rattle.view.specs.declared.layout.Refusal.{Refusal}
 use Rattle.view.specs.declared.layout.Refusal.TheVariants.{TooManyAxes, LengthsDiffer, OutOfRange, WrongLength, BadAxis, BadExtent, BadIndex, TooManyPositions, ShortScratch, ShortOutput, NotARecord}
-use Rattle.commands.specs.Obeyed.{or_most, layout_judged}
+use Rattle.commands.specs.Obeyed.{or_most}
 use Rattle.commands.specs.Scratch.{words_lacking, bytes_made, front_written}
 
 -- refused 9 below the words needed, and the same from there on
@@ -115,35 +114,6 @@ steady_bound (refused number values) f s = steady_same (refused number values)
 
 -- ---- the verdict
 
-words_bounded : (n s : ℕ) → n ≤ 16777216 → words_for n s ≤ 16777217
-unfolding words_for
-words_bounded n s h = go (cases_lt n (s / 64))
-  where
-    go : (n < s / 64) ⊎ (s / 64 ≤ n) → words_for n s ≤ 16777217
-    go (inl l) = rw (lt-leb) (omega arith)
-    go (inr l) = rw (le-leb) (omega arith)
-
-search_bounded : {a b : ActiveAxis} {others : List ActiveAxis} {p : Plan} → SearchEnd a b others p → words_of (done p) ≤ 16777217
-unfolding words_of
-search_bounded (collided e) = omega arith
-search_bounded (completed e h w f) = omega arith
-search_bounded (exhausted e f) = omega arith
-
-need_bounded : (axes : List Axis) → words_needed axes ≤ 16777217
-unfolding words_of
-need_bounded axes = go (plan_of axes) (plan-case axes)
-  where
-    go : (o : Outcome Plan) → PlanCase axes o → words_of o ≤ 16777217
-    go _ (when_empty e) = omega arith
-    go _ (when_overfull f o) = omega arith
-    go _ (when_one f o e) = omega arith
-    go _ (when_still f o e) = omega arith
-    go _ (when_out f o s e) = omega arith
-    go _ (by_block t (small c)) = omega arith
-    go _ (by_block t (large m h (searching {a} {b} k e))) = search_bounded (search-end a b (others_of (block_of axes)))
-    go _ (by_block t (large m h (enumerating k l))) = words_bounded (total (block_of axes)) (span_sum (block_of axes)) l
-    go _ (by_block t (large m h (past_both k l))) = omega arith
-
 with_enough : (words : ℕ) (block : List ActiveAxis) → words_for (total block) (span_sum block) ≤ words → carry_out words (enumerated block) ≡ done (judged_as (enumerated block))
 unfolding carry_out
 with_enough words block h = refuse-no 9 (words_for (total block) (span_sum block) ∷ []) (done (judged_as (enumerated block))) (le-ltb words (words_for (total block) (span_sum block)) h)
@@ -160,7 +130,7 @@ steady_plan (enumerated block) b = record {
 
 pub steady_judge : (axes : List Axis) → Steady (judge axes)
 unfolding judge ◌>>=◌
-steady_judge axes = go (plan_of axes) (need_bounded axes)
+steady_judge axes = go (plan_of axes) (enough_words axes)
   where
     go : (o : Outcome Plan) → words_of o ≤ 16777217 → Steady (λ words. o >>= carry_out words)
     go (done p) b = steady_plan p b
@@ -168,28 +138,19 @@ steady_judge axes = go (plan_of axes) (need_bounded axes)
 
 -- ---- the four calls
 
--- the verdict of a layout
-module _ (l : LayoutModel) where
-  steady_layout : Steady (layout_judged l)
-  unfolding layout_judged
-  steady_layout = steady_checked (is_too_long l.axes) 1 [] (judge l.axes) (steady_judge l.axes)
+-- the verdict of axes
+module _ (axes : List Axis) where
+  steady_axes : Steady (axes_judged axes)
+  unfolding axes_judged
+  steady_axes = steady_checked (is_too_long axes) 1 [] (judge axes) (steady_judge axes)
 
-  pub verdict_first : (words : Option ℕ) (first : Result Judgement Refusal) → judged_of first ≡ told_of (layout_judged l (unwrap_or words 0)) → words_lacking words first ≡ None
-      → judged_of first ≡ told_of (layout_judged l (or_most words))
-  verdict_first = first_answer (layout_judged l) steady_layout told_of (λ number values. refl) verdict_told
+  pub axes_first : (words : Option ℕ) (first : Result Judgement Refusal) → judged_of first ≡ told_of (axes_judged axes (unwrap_or words 0)) → words_lacking words first ≡ None
+      → judged_of first ≡ told_of (axes_judged axes (or_most words))
+  axes_first = first_answer (axes_judged axes) steady_axes told_of (λ number values. refl) verdict_told
 
-  pub verdict_second : (words : Option ℕ) (first second : Result Judgement Refusal) (k m n : ℕ) → judged_of first ≡ told_of (layout_judged l k) → k ≡ unwrap_or words 0 → words_lacking words first ≡ Some n
-      → judged_of second ≡ told_of (layout_judged l m) → m ≡ n → judged_of second ≡ told_of (layout_judged l (or_most words))
-  verdict_second = second_answer (layout_judged l) steady_layout told_of (λ number values. refl) verdict_told
-
-pub verdict_of_layout : (l : Layout) (before after : List ℕ) (answer : Result Judgement Refusal) → (16 < l.rank → IsJudgedAs (refused 1 []) before after answer)
-    → (l.rank ≤ 16 → IsJudgedAs (judge (model_of l).axes (length before)) before after answer) → judged_of answer ≡ told_of (layout_judged (model_of l) (length before))
-unfolding layout_judged
-verdict_of_layout l before after answer many few = go (cases_lt 16 l.rank)
-  where
-    go : (16 < l.rank) ⊎ (l.rank ≤ 16) → judged_of answer ≡ told_of (refuse_if (is_too_long (model_of l).axes) 1 [] >> judge (model_of l).axes (length before))
-    go (inl h) = (many h).told ∙ ap told_of (sym (refuse-yes 1 [] (judge (model_of l).axes (length before)) (lt-ltb 16 (length (model_of l).axes) (omega (arith, length_first_axes l.axes l.rank)))))
-    go (inr h) = (few h).told ∙ ap told_of (sym (refuse-no 1 [] (judge (model_of l).axes (length before)) (le-ltb 16 (length (model_of l).axes) (omega (arith, length_first_axes l.axes l.rank)))))
+  pub axes_second : (words : Option ℕ) (first second : Result Judgement Refusal) (k m n : ℕ) → judged_of first ≡ told_of (axes_judged axes k) → k ≡ unwrap_or words 0 → words_lacking words first ≡ Some n
+      → judged_of second ≡ told_of (axes_judged axes m) → m ≡ n → judged_of second ≡ told_of (axes_judged axes (or_most words))
+  axes_second = second_answer (axes_judged axes) steady_axes told_of (λ number values. refl) verdict_told
 
 -- the verdict of two lists
 module _ (extents : List ℕ) (strides : List ℤ) where

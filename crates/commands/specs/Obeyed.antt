@@ -2,18 +2,19 @@
 use Rattle.std.specs.Prelude.{ℕ, ℤ, List, [], ◌∷◌, ◌==◌, length, take, codes, Option, Some, None, Ok, Err, if◌then◌else◌}
 use Rattle.std.specs.Fmt.{decimal, signed_decimal}
 use Rattle.specification.specs.Axis.{axes_of_lists}
-use Rattle.specification.specs.Outcome.{Outcome, done, refused, refuse_if, ◌>>◌}
-use Rattle.specification.specs.Layout.{LayoutModel, is_too_long}
+use Rattle.specification.specs.Outcome.{Outcome, done, refused}
+use Rattle.specification.specs.Layout.{LayoutModel}
 use Rattle.specification.specs.CheckIn.{check_in}
 use Rattle.specification.specs.Views.{After, permute, broadcast, diagonal_view}
 use Rattle.specification.specs.Normal.{normal_form}
-use Rattle.specification.specs.Verdict.{Judged, judge, verdict}
+use Rattle.specification.specs.Verdict.{Judged, verdict}
 use Rattle.specification.specs.Record.{written, read_of, rest_of}
 use Rattle.specification.specs.Beside.{col_major, row_major, index_order, indexed_offset}
 use Rattle.view.specs.Model.{model_from, first_axes}
 use Rattle.view.specs.Ties.{pairs_in}
 use Rattle.record.specs.Reading.{layout_read}
-use Rattle.injectivity.specs.Judgement.{told_of}
+use Rattle.injectivity.specs.Judgement.{axes_judged, told_of}
+use Rattle.injectivity.specs.Text.{verdict_text}
 use Rattle.commands.specs.declared.command.Command.{Command}
 use Rattle.commands.specs.declared.command.Command.TheVariants as command
 use Rattle.commands.specs.declared.command.Change.{Change}
@@ -22,7 +23,7 @@ use Rattle.commands.specs.declared.command.Query.{Query}
 use Rattle.commands.specs.declared.command.Query.TheVariants.{Bounds, Show, Offset, Normal, Verdict, Injective, Record, Rest, Order, Column, Row, Help}
 use Rattle.words.specs.declared.fault.Form.TheVariants.{Unsigned, Signed, Pair, Lent}
 use Rattle.commands.specs.Commands.{commands, named, usage_of, help_line}
-use Rattle.commands.specs.Replies.{layout_text, bytes_text, verdict_text}
+use Rattle.commands.specs.Replies.{layout_text, bytes_text}
 use Rattle.words.specs.Spelled.{unsigned, signed, lent, pair}
 use Rattle.words.specs.Texts.{refusal_text, unknown_command, unequal_lists, joined, list_text}
 use Rattle.words.specs.Words.{Told, ◌>>=◌, Numbered, no_word, one_word, two_words, four_words, up_to_one_word, one_or_two_words, two_or_three_words, one_of, list_of, bytes_of}
@@ -142,14 +143,10 @@ judged_text outcome = do
   j ← told (told_of outcome)
   Ok (verdict_text j.answer j.count)
 
--- a layout of more than 16 axes is refused as a list of so many is
-unfoldable pub layout_judged : LayoutModel → ℕ → Outcome Judged
-layout_judged l words = refuse_if (is_too_long l.axes) 1 [] >> judge l.axes words
-
 unfoldable pub verdict_of : LayoutModel → Option Numbered → Told (List ℕ)
 verdict_of l words = do
   words ← words_given words
-  judged_text (layout_judged l (or_most words))
+  judged_text (axes_judged l.axes (or_most words))
 
 unfoldable pub injective_text : Numbered × Numbered × Option Numbered → Told (List ℕ)
 injective_text (extents, strides, words) = do

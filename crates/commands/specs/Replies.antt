@@ -3,9 +3,8 @@ use Rattle.std.specs.Prelude.{ℕ, List, [], ◌∷◌, ◌++◌, codes, take, s
 use Rattle.std.specs.Fmt.{decimal, signed_decimal}
 use Rattle.hex.specs.Hex.{encode_lower}
 use Rattle.specification.specs.Layout.{LayoutModel}
-use Rattle.specification.specs.Verdict.{Verdict, Distinct, Repeated, Undecided}
 use Rattle.view.specs.Model.{model_of}
-use Rattle.injectivity.specs.Judgement.{verdict_told}
+use Rattle.injectivity.specs.Text.{judgement_text}
 use Rattle.words.specs.Texts.{joined, list_text}
 use Rattle.commands.specs.declared.reply.Reply.{Reply}
 use Rattle.commands.specs.declared.reply.Reply.TheVariants as reply
@@ -23,18 +22,12 @@ abbrev pub bytes_text : List ℕ → List ℕ
 bytes_text [] = codes "-"
 bytes_text (byte ∷ bytes) = encode_lower (byte ∷ bytes)
 
--- a verdict with its count
-abbrev pub verdict_text : Verdict → ℕ → List ℕ
-verdict_text Distinct count = codes "distinct " ++ decimal count
-verdict_text Repeated count = codes "repeated " ++ decimal count
-verdict_text Undecided count = codes "undecided 0"
-
 -- what a reply prints
 abbrev pub reply_text : Reply → List ℕ
 reply_text reply.Done = codes "ok"
 reply_text (reply.Current l) = layout_text (model_of l)
 reply_text (reply.Offset z) = signed_decimal z
-reply_text (reply.Judged judgement) = verdict_text (verdict_told judgement).answer (verdict_told judgement).count
+reply_text (reply.Judged judgement) = judgement_text judgement
 reply_text (reply.Bytes digits) = string_bytes digits
 reply_text (reply.Order axes) = list_text decimal axes.items
 reply_text (reply.Strides dense) = list_text signed_decimal dense

@@ -5,11 +5,11 @@ ghost use Rattle.specification.specs.Verdict.{verdict};
 ghost use Rattle.specification.specs.Beside.{col_major, row_major};
 ghost use Rattle.view.specs.Model.{model_of};
 ghost use Rattle.words.specs.Words.{Gives, numbered, numbered_if};
-ghost use Rattle.injectivity.specs.Judgement.{judged_of, told_of};
+ghost use Rattle.injectivity.specs.Judgement.{axes_judged, judged_of, told_of};
 ghost use Rattle.words.specs.declared.fault.Problem.TheVariants.{Memory as out_of_memory};
 ghost use Rattle.commands.specs.Scratch.{bytes_made, front_written};
 ghost use Rattle.commands.specs.Replies.{reply_text};
-ghost use Rattle.commands.specs.Obeyed.{or_most, layout_judged, bounds_text, offset_text, normal_text, verdict_of, injective_text, record_text, rest_text, order_text, dense_text, help_text};
+ghost use Rattle.commands.specs.Obeyed.{or_most, bounds_text, offset_text, normal_text, verdict_of, injective_text, record_text, rest_text, order_text, dense_text, help_text};
 
 use crate::change::{Four, Given};
 use crate::command::Command;
@@ -18,11 +18,11 @@ use crate::reply::Reply;
 use crate::scratch::{lacking, words_given};
 use auxiliary::index_order_into;
 use dense::{checked_col_major_strides, checked_row_major_strides};
-use injectivity::{Judgement, is_injective_layout};
+use injectivity::{Judgement, is_injective_layout, judge_layout};
 use record::fields::BytePlace;
 use record::normal::normal_form;
 use record::step::step_over;
-use record::writer::{judge_layout, write_record};
+use record::writer::write_record;
 use std::alloc::{AllocError, Global};
 use view::bounds::validate_bounds;
 use view::layout::{Layout, ReadingOffset, Refusal};
@@ -65,14 +65,14 @@ pub fn normal<'a>(current: &Layout) -> Result<Reply, Problem<'a>>
 }
 
 // The verdict on a layout's axes with so many words, or with as many as it needs.
-#[tactic(auto, using(crate::proofs::ScratchLaws::verdict_of_layout, crate::proofs::ScratchLaws::verdict_first, crate::proofs::ScratchLaws::verdict_second))]
+#[tactic(auto, using(crate::proofs::ScratchLaws::axes_first))]
 fn judge(
     current: &Layout,
     scratch: &mut Vec<u64>,
     words: Option<usize>,
 ) -> Result<Result<Judgement, Refusal>, AllocError>
     ensures { IfOk result
-        (λ answer. judged_of answer ≡ told_of (layout_judged (model_of current.now) (or_most words))) }
+        (λ answer. judged_of answer ≡ told_of (axes_judged (model_of current.now).axes (or_most words))) }
 {
     let first = judge_layout(current, lend(scratch, words.unwrap_or(0), 0)?);
     match lacking(words, &first) {

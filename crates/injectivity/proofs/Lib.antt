@@ -8,4 +8,5 @@ pub mod CoverLaws
 pub mod JudgeLaws
 pub mod ReadyLaws
 pub mod OrderedLaws
+pub mod WordsLaws
 pub mod MeaningProved

@@ -1,11 +1,11 @@
 -- What axes are planned as, test by test; and what two lists, or axes that are lent, are judged as.
 use Rattle.std.specs.List.{list_any}
 use Rattle.std.specs.Prelude.{if◌then◌else◌}
-use Rattle.std.proofs.Common.{◌≡◌, ◌==◌, ℕ, ◌≤◌, ◌<◌, true, false, List, [], ◌∷◌, length, refl, sym, ap, ◌∙◌, inl, arith}
+use Rattle.std.proofs.Common.{◌≡◌, ◌==◌, ℕ, ◌≤◌, ◌<◌, true, false, List, [], length, refl, ◌∙◌, arith}
 use lib.IntN.{ℤ}
 use Rattle.std.proofs.lemmas.Bool.Decides.{nat_tests}
 use Rattle.std.proofs.lemmas.Int.{ints}
-use Rattle.specification.specs.Axis.{Axis, axes_of_lists, extents, strides, positions, is_empty}
+use Rattle.specification.specs.Axis.{Axis, extents, positions, is_empty}
 use Rattle.specification.specs.Outcome.{done, refused, refuse_if, ◌>>◌, ◌>>=◌}
 use Rattle.specification.specs.Normal.{overfull}
 use Rattle.specification.specs.BlockClaims.{sorted_active}
@@ -13,11 +13,11 @@ use Rattle.specification.specs.Verdict.{up_to_last, Verdict, Distinct, Repeated,
 use Rattle.specification.specs.Verdict.{plan_of, carry_out, judge, verdict}
 use Rattle.specification.proofs.NormalAxes.{positions-pos}
 use Rattle.specification.proofs.NormalLaws.{empty-none, full-pos}
-use Rattle.specification.proofs.VerdictLaws.{verdict_call_claims}
 use Rattle.view.specs.Lists.{paired}
 use Rattle.view.specs.Count.{element_count, count_of}
-use Rattle.view.proofs.CountLaws.{length-extents, element-count-of-axes}
+use Rattle.view.proofs.CountLaws.{element-count-of-axes}
 use Rattle.injectivity.specs.Inputs.{IsLeftToBlock}
+use Rattle.injectivity.specs.Judgement.{axes_judged}
 
 -- ---- plans
 
@@ -106,24 +106,13 @@ pub ruleset lists = (unpaired, judged_pairs)
 
 -- ---- axes that are lent
 
-length-strides : (axes : List Axis) → length (strides axes) ≡ length axes
-length-strides [] = refl
-length-strides (a ∷ axes) = rw (length-strides axes)
+pub crowd : (axes : List Axis) (words : ℕ) → 16 < length axes → axes_judged axes words ≡ refused 1 []
+unfolding axes_judged refuse_if ◌>>◌
+crowd axes words h = grind (arith, nat_tests)
 
--- axes are those of their extents and strides
-parts_of_axes : (axes : List Axis) → axes_of_lists (extents axes) (strides axes) ≡ axes
-unfolding axes_of_lists
-parts_of_axes [] = refl
-parts_of_axes (a ∷ axes) = ap (λ (rest : List Axis). a ∷ rest) (parts_of_axes axes)
-
-pub crowd : (axes : List Axis) (words : ℕ) → 16 < length axes → verdict (extents axes) (strides axes) words ≡ refused 1 []
-crowd axes words h = verdict_call_claims.one (extents axes) (strides axes) words (inl (omega (arith, length-extents axes)))
-
-pub few_axes : (axes : List Axis) (words : ℕ) → length axes ≤ 16 → verdict (extents axes) (strides axes) words ≡ judge axes words
-few_axes axes words h =
-    verdict_call_claims.then_judged (extents axes) (strides axes) words (omega (arith, length-extents axes))
-    (length-extents axes ∙ sym (length-strides axes))
-    ∙ ap (λ (l : List Axis). judge l words) (parts_of_axes axes)
+pub few_axes : (axes : List Axis) (words : ℕ) → length axes ≤ 16 → axes_judged axes words ≡ judge axes words
+unfolding axes_judged refuse_if ◌>>◌
+few_axes axes words h = grind (arith, nat_tests)
 
 -- the verdict of axes that are lent
 pub ruleset lent = (crowd, few_axes)

@@ -1,12 +1,18 @@
--- What the call answers and leaves in the scratch, as an outcome of the verdict.
-use Rattle.std.specs.Prelude.{List, ◌≡◌, ℕ, Result}
-use Rattle.specification.specs.Outcome.{Outcome, done, refused}
-use Rattle.specification.specs.Verdict.{Verdict, Judged, freed_by, ScratchAfter}
+-- What a call answers and leaves in the scratch, as an outcome of the verdict.
+use Rattle.std.specs.Prelude.{List, [], ◌≡◌, ℕ, Result}
+use Rattle.specification.specs.Axis.{Axis}
+use Rattle.specification.specs.Layout.{is_too_long}
+use Rattle.specification.specs.Outcome.{Outcome, done, refused, refuse_if, ◌>>◌}
+use Rattle.specification.specs.Verdict.{Verdict, Judged, judge, freed_by, ScratchAfter}
 use Rattle.specification.specs.Verdict as verdict
 use Rattle.view.specs.Answers.{outcome_by}
 use Rattle.injectivity.specs.declared.Judgement.{Judgement}
 use Rattle.injectivity.specs.declared.Judgement.TheVariants.{Distinct, Repeated, Undecided}
 use Rattle.view.specs.declared.layout.Refusal.{Refusal}
+
+-- the call on axes, however many there are: refusal 1 for more than 16, then the verdict of the axes
+unfoldable pub axes_judged : List Axis → ℕ → Outcome Judged
+axes_judged axes words = refuse_if (is_too_long axes) 1 [] >> judge axes words
 
 -- an answer with its count
 pub record Told : Type 0 where

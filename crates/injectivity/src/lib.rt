@@ -10,9 +10,10 @@
 //! Nothing is allocated. A search looks at no more than 2^22 differences; an enumeration is of no
 //! more than 2^24 positions and asks for no more than 2^24 + 1 words.
 //!
-//! Both calls promise the theorem: `means` says exactly when each answer is given (`Means`, in
-//! specs/Meaning.antt), and `judged` that answer, count and scratch are those of the definitions'
-//! `verdict`. Why it is right: docs/WHY.md, sections 1 to 9 and 11.
+//! The calls judge a layout, axes that are lent, or two lists. Each promises the theorem: `means`
+//! says exactly when each answer is given (`Means`, in specs/Meaning.antt), and `judged` that
+//! answer, count and scratch are those of a definition: `axes_judged`, of two lists `verdict`.
+//! Why it is right: docs/WHY.md, sections 1 to 9 and 11.
 #![tactic(auto)]
 
 mod active;
@@ -21,11 +22,11 @@ mod inputs;
 mod ordered;
 
 ghost use Rattle.std.specs.Prelude.{◌≤◌, length};
-ghost use Rattle.specification.specs.Axis.{extents, strides};
 ghost use Rattle.specification.specs.Verdict.{judge as judged, verdict};
+ghost use Rattle.view.specs.Model.{model_of};
 ghost use Rattle.injectivity.specs.Inputs.{IsLeftToBlock};
-ghost use Rattle.injectivity.specs.Judgement.{IsJudgedAs};
-ghost use Rattle.injectivity.specs.Meaning.{Means, JudgementClaims};
+ghost use Rattle.injectivity.specs.Judgement.{axes_judged, IsJudgedAs};
+ghost use Rattle.injectivity.specs.Meaning.{Means, MeansOfLists, JudgementClaims};
 
 use active::{NO_ACTIVE_AXIS, gather_active};
 use axis::Axis;
@@ -34,8 +35,9 @@ use inputs::validate_injective_layout_inputs;
 use ordered::{is_separated_by_column, is_separated_by_row};
 use search::Searched;
 use sorting::sort_by_stride;
+use std::fmt;
 use view::axes::Lists;
-use view::layout::{MOST_AXES, NO_AXIS, Refusal};
+use view::layout::{Layout, MOST_AXES, NO_AXIS, Refusal};
 
 /// The verdict, with the number of difference vectors looked at.
 #[derive(Clone, Copy, Debug, PartialEq, Eq)]
@@ -88,9 +90,55 @@ impl From<Searched> for Judgement {
     }
 }
 
+impl fmt::Display for Judgement {
+    ghost use Rattle.std.specs.Prelude.{Some};
+    ghost use Rattle.injectivity.specs.Text.{judgement_text};
+
+    ghost output = { λ judgement. Some (judgement_text judgement) };
+
+    fn fmt<W: fmt::Write>(&self, f: &mut fmt::Formatter<W>) -> fmt::Result {
+        match self {
+            Judgement::Distinct(count) => write!(f, "distinct {count}"),
+            Judgement::Repeated(count) => write!(f, "repeated {count}"),
+            Judgement::Undecided => f.write_str("undecided 0"),
+        }
+    }
+}
+
+/// The verdict of a layout: that of its axes. Offset and buffer length are not looked at, so an
+/// offset outside the buffer is not refused. Refusals, and what stays of the scratch, are those of
+/// `is_injective_axes`.
+#[tactic(auto, using(crate::proofs::PlanLaws::lent, crate::proofs::MeaningProved::told_means, view::proofs::AxesLaws::length_first_axes))]
+pub fn judge_layout(layout: &Layout, scratch: &mut [u64]) -> Result<Judgement, Refusal>
+    ensures judged { IsJudgedAs (axes_judged (model_of layout.now).axes (length scratch.old))
+        scratch.old scratch.new result }
+    ensures means { Means (model_of layout.now).axes scratch.old scratch.new result }
+{
+    if MOST_AXES < layout.rank {
+        return Err(Refusal::TooManyAxes);
+    }
+    judge_axes(layout.axes(), scratch)
+}
+
+/// The verdict of axes that are lent. Refusal 1 is more than 16 axes, 8 more than 2^64 - 1
+/// positions, 3 an extent, a stride, a span or a sum of spans out of range, 9 a scratch of fewer
+/// words than the enumeration needs. Only the enumeration works in the scratch; the words past
+/// those that it needs stay, and a refusal leaves them all.
+#[tactic(auto, using(crate::proofs::PlanLaws::lent, crate::proofs::MeaningProved::told_means))]
+pub fn is_injective_axes(axes: &[Axis], scratch: &mut [u64]) -> Result<Judgement, Refusal>
+    ensures judged { IsJudgedAs (axes_judged axes.now (length scratch.old))
+        scratch.old scratch.new result }
+    ensures means { Means axes.now scratch.old scratch.new result }
+{
+    if MOST_AXES < axes.len() {
+        return Err(Refusal::TooManyAxes);
+    }
+    judge_axes(axes, scratch)
+}
+
 /// The verdict of two lists: refusal 1 for more than 16 entries, 2 for lengths that differ, then
 /// the verdict of the axes that they are.
-#[tactic(auto, using(crate::proofs::PlanLaws::lists, view::proofs::ListsLaws::stored_taken, crate::proofs::MeaningProved::told_means))]
+#[tactic(auto, using(crate::proofs::PlanLaws::lists, view::proofs::ListsLaws::stored_taken, crate::proofs::MeaningProved::lists_told_mean))]
 pub fn is_injective_layout(
     extents: &[u64],
     strides: &[i64],
@@ -98,29 +146,12 @@ pub fn is_injective_layout(
 ) -> Result<Judgement, Refusal>
     ensures judged { IsJudgedAs (verdict extents.now strides.now (length scratch.old))
         scratch.old scratch.new result }
-    ensures means { Means extents.now strides.now scratch.old scratch.new result }
+    ensures means { MeansOfLists extents.now strides.now scratch.old scratch.new result }
 {
     let lists = Lists::new(extents, strides)?;
     let mut room = [NO_AXIS; 16];
     lists.store(&mut room);
     judge_axes(&room[..extents.len()], scratch)
-}
-
-/// The verdict of axes that are lent: what `is_injective_layout` answers of their extents and
-/// strides. Refusal 1 is more than 16 axes, 8 more than 2^64 - 1 positions, 3 an extent, a stride,
-/// a span or a sum of spans out of range, 9 a scratch of fewer words than the enumeration needs.
-/// Only the enumeration works in the scratch; the words past those that it needs stay, and a
-/// refusal leaves them all.
-#[tactic(auto, using(crate::proofs::PlanLaws::lent, crate::proofs::MeaningProved::told_means))]
-pub fn is_injective_axes(axes: &[Axis], scratch: &mut [u64]) -> Result<Judgement, Refusal>
-    ensures judged { IsJudgedAs (verdict (extents axes.now) (strides axes.now) (length scratch.old))
-        scratch.old scratch.new result }
-    ensures means { Means (extents axes.now) (strides axes.now) scratch.old scratch.new result }
-{
-    if MOST_AXES < axes.len() {
-        return Err(Refusal::TooManyAxes);
-    }
-    judge_axes(axes, scratch)
 }
 
 /// The verdict of at most 16 axes. Of axes that stand separated as they are, or from the last on, it
@@ -156,8 +187,8 @@ fn judge_active_axes(axes: &[Axis], scratch: &mut [u64]) -> Result<Judgement, Re
     block.judge(scratch)
 }
 
-/// Does nothing, and promises what the answers of a verdict say of the layout: the check wants the
-/// proof.
+/// Does nothing, and promises what the answers of a verdict say of the axes, and how many words of
+/// scratch are enough for any: the check wants the proof.
 #[tactic(auto, using(crate::proofs::MeaningProved::judgement_claims))]
 pub fn judgements_hold()
     ensures judgement { JudgementClaims }

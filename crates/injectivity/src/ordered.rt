@@ -1,5 +1,5 @@
 //! Layouts whose axes stand separated as they are, or from the last on: dense by column or by row,
-//! with gaps or without. They are told at once, with no other test, and nothing gathered or sorted.
+//! with gaps or without. They are answered at once, with no other test, and nothing gathered or sorted.
 //!
 //! Only extents below 2^31 and absolute strides below 2^32 are told here: then no sum of spans leaves
 //! a signed word, since an axis that is separated has more stride than all spans before it.

@@ -1,8 +1,7 @@
 //! The verdict.
 ghost use Rattle.std.specs.Prelude.{◌≡◌, length};
-ghost use Rattle.specification.specs.Axis.{extents, strides};
-ghost use Rattle.specification.specs.Verdict.{verdict, freed_by, ScratchAfter};
-ghost use Rattle.injectivity.specs.Judgement.{judged_of, told_of};
+ghost use Rattle.specification.specs.Verdict.{freed_by, ScratchAfter};
+ghost use Rattle.injectivity.specs.Judgement.{axes_judged, judged_of, told_of};
 ghost use Rattle.strided.specs.Crossing.{number_after, places, values_after, found_after};
 
 use crate::crossing::{Found, Values, refuse};
@@ -46,15 +45,14 @@ pub extern "C" fn strided_is_injective(
     found: &mut Found,
     values: &mut Values,
 ) -> u8
-    ensures answer { result ≡ number_after
-        (told_of (verdict (extents axes.now) (strides axes.now) (length scratch.old))) }
-    ensures found { found.new ≡ found_after
-        (told_of (verdict (extents axes.now) (strides axes.now) (length scratch.old))) found.old }
-    ensures scratch { ScratchAfter
-        (freed_by (verdict (extents axes.now) (strides axes.now) (length scratch.old)))
+    ensures answer { result
+        ≡ number_after (told_of (axes_judged axes.now (length scratch.old))) }
+    ensures found { found.new
+        ≡ found_after (told_of (axes_judged axes.now (length scratch.old))) found.old }
+    ensures scratch { ScratchAfter (freed_by (axes_judged axes.now (length scratch.old)))
         scratch.old scratch.new }
-    ensures values { places values.new ≡ values_after
-        (told_of (verdict (extents axes.now) (strides axes.now) (length scratch.old))) values.old }
+    ensures values { places values.new
+        ≡ values_after (told_of (axes_judged axes.now (length scratch.old))) values.old }
 {
     answer_judgement(is_injective_axes(axes, scratch), found, values)
 }
