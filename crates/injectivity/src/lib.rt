@@ -35,7 +35,7 @@ use ordered::{is_separated_by_column, is_separated_by_row};
 use search::Searched;
 use sorting::sort_by_stride;
 use view::axes::Lists;
-use view::layout::{MOST_AXES, NO_AXIS, Refusal};
+use view::layout::{MOST_AXES, Refusal};
 
 /// The verdict, with the number of difference vectors looked at.
 #[derive(Clone, Copy, Debug, PartialEq, Eq)]
@@ -101,7 +101,7 @@ pub fn is_injective_layout(
     ensures means { Means extents.now strides.now scratch.old scratch.new result }
 {
     let lists = Lists::new(extents, strides)?;
-    let mut room = [NO_AXIS; 16];
+    let mut room = [Axis::NONE; 16];
     lists.store(&mut room);
     judge_axes(&room[..extents.len()], scratch)
 }
