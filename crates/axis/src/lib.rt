@@ -11,6 +11,14 @@ pub struct Axis {
     pub stride: i64,
 }
 
+impl Axis {
+    /// What stands in places that hold no axis: extent and stride 0.
+    pub const NONE: Axis = Axis {
+        extent: 0,
+        stride: 0,
+    };
+}
+
 /// An axis whose extent is above 1, as the verdict looks at it.
 #[derive(Clone, Copy, Debug, PartialEq, Eq)]
 pub struct ActiveAxis {

@@ -14,7 +14,7 @@ use record::read::read_record;
 use std::alloc::{AllocError, Global};
 use view::axes::Lists;
 use view::diagonal::AxisPair;
-use view::layout::{Layout, MOST_AXES, NO_AXIS, ReadingOffset, Refusal, Viewed};
+use view::layout::{Layout, MOST_AXES, ReadingOffset, Refusal, Viewed};
 use words::fault::{Fault, Problem};
 use words::place::Word;
 
@@ -73,7 +73,7 @@ fn sixteen(given: &Given) -> [Axis; 16]
         extents: &extents[..held],
         strides: &strides[..held],
     };
-    let mut places = [NO_AXIS; MOST_AXES];
+    let mut places = [Axis::NONE; MOST_AXES];
     lists.store(&mut places);
     places
 }

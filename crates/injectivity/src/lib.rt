@@ -37,7 +37,7 @@ use search::Searched;
 use sorting::sort_by_stride;
 use std::fmt;
 use view::axes::Lists;
-use view::layout::{Layout, MOST_AXES, NO_AXIS, Refusal};
+use view::layout::{Layout, MOST_AXES, Refusal};
 
 /// The verdict, with the number of difference vectors looked at.
 #[derive(Clone, Copy, Debug, PartialEq, Eq)]
@@ -149,7 +149,7 @@ pub fn is_injective_layout(
     ensures means { MeansOfLists extents.now strides.now scratch.old scratch.new result }
 {
     let lists = Lists::new(extents, strides)?;
-    let mut room = [NO_AXIS; 16];
+    let mut room = [Axis::NONE; 16];
     lists.store(&mut room);
     judge_axes(&room[..extents.len()], scratch)
 }

@@ -8,7 +8,7 @@ use crate::normal::continues;
 use axis::Axis;
 use view::bounds::sum_spans;
 use view::count::element_count;
-use view::layout::{NO_AXIS, ReadingOffset};
+use view::layout::ReadingOffset;
 
 /// Whether each extent is above 1 and no axis continues the one before it.
 #[tactic(auto, unfolding(specification::specs::Record::is_merged))]
@@ -28,7 +28,7 @@ fn is_merged(axes: &[Axis]) -> bool
 fn is_empty_form(offset: ReadingOffset, axes: &[Axis]) -> bool
     ensures { result ≡ is_empty_form (fields_told offset.0 axes.now) }
 {
-    offset == ReadingOffset(0) && axes == [NO_AXIS].as_slice()
+    offset == ReadingOffset(0) && axes == [Axis::NONE].as_slice()
 }
 
 /// Whether there are more than 2^64 - 1 positions.

@@ -9,7 +9,7 @@ ghost use Rattle.record.specs.Normal.{with_axis};
 use axis::Axis;
 use integer::signed::checked_mul;
 use view::count::element_count;
-use view::layout::{Layout, MOST_AXES, NO_AXIS, ReadingOffset, Refusal};
+use view::layout::{Layout, MOST_AXES, ReadingOffset, Refusal};
 
 /// Whether an axis goes on where the one before it ends: its stride is that one's extent × stride.
 /// A product that 64 bits do not hold equals no stride.
@@ -69,7 +69,7 @@ fn empty_form(layout: &Layout) -> Layout
         len: layout.len,
         offset: ReadingOffset(0),
         rank: 1,
-        axes: [NO_AXIS; MOST_AXES],
+        axes: [Axis::NONE; MOST_AXES],
     }
 }
 

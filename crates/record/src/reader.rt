@@ -8,7 +8,7 @@ use crate::fields::{AXIS_BYTES, BytePlace, HEAD_BYTES, OFFSET_PLACE, VERSION, re
 use crate::form::buffer_length;
 use crate::step::length_field;
 use axis::Axis;
-use view::layout::{Layout, MOST_AXES, NO_AXIS, ReadingOffset};
+use view::layout::{Layout, MOST_AXES, ReadingOffset};
 
 /// What the first bytes of a record tell: the byte of its verdict, and how many axes follow.
 #[derive(Clone, Copy, Debug, PartialEq, Eq)]
@@ -88,7 +88,7 @@ fn axes_at_front(bytes: &[u8], rank: usize) -> [Axis; MOST_AXES]
     requires whole { record_length rank ≤ length bytes.now }
     ensures { take rank result ≡ axes_from bytes.now head_length rank }
 {
-    let mut axes = [NO_AXIS; MOST_AXES];
+    let mut axes = [Axis::NONE; MOST_AXES];
     read_axes(&mut axes[..rank], bytes, BytePlace(HEAD_BYTES));
     axes
 }

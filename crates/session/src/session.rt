@@ -5,6 +5,7 @@ ghost use Rattle.lines.specs.Lines.{AppendsFront};
 ghost use Rattle.view.specs.Model.{model_of};
 ghost use Rattle.session.specs.Session.{begins_with, empty_layout, by_words, by_length, output_of, Answers};
 
+use axis::Axis;
 use commands::memory::Memory;
 use commands::obey::obey;
 use lines::failure::Failure;
@@ -13,7 +14,7 @@ use lines::write::write_front;
 use std::alloc::Global;
 use std::fmt;
 use std::io::{BufRead, Write};
-use view::layout::{Layout, MOST_AXES, NO_AXIS, ReadingOffset};
+use view::layout::{Layout, MOST_AXES, ReadingOffset};
 use words::fault::{Fault, Problem};
 use words::word::words_of;
 
@@ -26,7 +27,7 @@ fn empty() -> Layout
         len: 0,
         offset: ReadingOffset(0),
         rank: 1,
-        axes: [NO_AXIS; MOST_AXES],
+        axes: [Axis::NONE; MOST_AXES],
     }
 }
 

@@ -37,7 +37,7 @@ fn views(rt: HostRuntime) -> Result<(), Fail> {
     let mut place = row;
     place.check_in(6, at, &[2, 3], &[1, 2])?;
     place.diagonal_in_place(&[AxisPair(0, 1)])?;
-    place.broadcast_in_place(&[2u64])?;
+    place.broadcast_in_place(&[2])?;
     assert_eq!(rt; place.indexed_offset(&[1])?, ReadingOffset(3));
     Ok(())
 }

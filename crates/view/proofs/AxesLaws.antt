@@ -2,11 +2,11 @@
 use mathlib.Core.Path.{◌≡◌, refl, sym, ap, ◌∙◌}
 use mathlib.Core.Bool.{Bool, not}
 use mathlib.Core.List.{List, [], ◌∷◌, ◌++◌, append_assoc}
-use Prim.Native.Nat.{ℕ, zero, suc, ◌+◌, ◌≤◌, ◌<◌}
+use Prim.Native.Nat.{ℕ, zero, suc, ◌+◌, ◌≤◌, ◌<◌, min}
 use native.Mathlib.Numerals.{add-one}
 use native.Mathlib.Omega.{arith}
 use lib.IntN.{ℤ, pos}
-use lib.ListN.{length, take, drop, set, get_or, length-append}
+use lib.ListN.{length, take, drop, set, get_or, length-append, length-take}
 use lib.Seq.{drop-cons, ext_get_or, get_or-take, length-take-le, set-append_seam, get_or_at, take-append_seam}
 use Rattle.std.specs.List.{list_any}
 use Rattle.view.proofs.TableLaws.{get_or-table, length-table}
@@ -23,6 +23,16 @@ first_axes_take axes n h =
     let d : Axis = record { extent = 0; stride = pos 0 } in
     ext_get_or d (first_axes axes n) (take n axes) (length-table (axis_at axes) n ∙ sym (length-take-le n axes h))
     (λ i l. let b : i < n = omega (arith, length-table (axis_at axes) n) in get_or-table (axis_at axes) n i d b ∙ sym (get_or-take n axes i d b))
+
+-- of an array of 16, whatever n is: the sixteen at most
+pub first_sixteen : (axes : List Axis) (n : ℕ) → length axes ≡ 16 → take (min 16 n) axes ≡ take 16 (first_axes axes n)
+first_sixteen axes n h =
+    let d : Axis = record { extent = 0; stride = pos 0 } in
+    let long = length-table (axis_at axes) n in
+    ext_get_or d (take (min 16 n) axes) (take 16 (first_axes axes n)) (length-take-le (min 16 n) axes (omega arith) ∙ sym (length-take 16 (first_axes axes n) ∙ ap (min 16) long))
+    (λ i l.
+    let b : (i < min 16 n) × (i < 16) × (i < n) = omega (arith, length-take-le (min 16 n) axes (omega arith)) in
+    get_or-take (min 16 n) axes i d b.0 ∙ sym (get_or-take 16 (first_axes axes n) i d b.1 ∙ get_or-table (axis_at axes) n i d b.2))
 
 pub length_first_axes : (axes : List Axis) (n : ℕ) → length (first_axes axes n) ≡ n
 length_first_axes axes n = length-table (axis_at axes) n

@@ -5,19 +5,18 @@ use mathlib.Core.Path.{◌≡◌, refl, sym, ◌∙◌, subst}
 use mathlib.Core.Bool.{Bool, true, false, not}
 use mathlib.Core.List.{List, [], ◌∷◌}
 use mathlib.Core.Logic.{◌⊎◌, inl, inr}
-use Prim.Native.Nat.{◌≤◌}
+use Prim.Native.Nat.{◌≤◌, ◌<◌}
 use native.Mathlib.Omega.{arith}
 use lib.Dec.{T}
 use lib.IntN.{ℤ}
 use Rattle.integer.specs.Range.{fits, most_signed}
 use Rattle.specification.specs.Outcome.{done, refused, pass, refuse_if, ◌>>◌}
 use Rattle.specification.specs.Axis.{Axis, extents, is_empty, span, upward, downward}
-use Rattle.specification.specs.Layout.{LayoutModel, lowest, highest, is_in_reach}
+use Rattle.specification.specs.Layout.{LayoutModel, rank, lowest, highest, is_in_reach, handed}
 use Rattle.specification.specs.CheckIn.{bounds}
 use Rattle.specification.proofs.ReachLaws.{Within, tests, untests, bounds-within}
 use Rattle.specification.specs.Beside.{zero_among}
-use Rattle.specification.proofs.OutcomeLaws.{passed, done_inj}
-use Rattle.specification.proofs.AcceptedLaws.{not-false}
+use Rattle.specification.proofs.OutcomeLaws.{passed-check, done_inj}
 use Rattle.view.specs.Reach.{Ends, none, ends, reach_of, accepted_ends, within, none_wide, in_bounds}
 use Rattle.view.proofs.AxesLaws.{none-wide}
 use Rattle.view.proofs.CountLaws.{empty_extents}
@@ -84,20 +83,25 @@ reach_beyond l t z e h k = grind (arith, ints, empty_extents l.axes)
 
 -- what the code's answers say of the reach
 module _ (l : LayoutModel) where
-  pub reach_empty : zero_among (extents l.axes) ≡ true → reach_of l ≡ done none
-  unfolding reach_of is_in_reach refuse_if ◌>>◌
-  reach_empty z = grind (arith, ints, empty_extents l.axes)
+  pub reach_many : 16 < rank l → reach_of l ≡ refused 1 []
+  unfolding reach_of handed refuse_if ◌>>◌
+  reach_many h = grind (arith, ints)
 
-  module _ {o : Option Ends} (told : o ≡ accepted_ends l) (z : zero_among (extents l.axes) ≡ false) where
-    pub reach_outside : o ≡ None → reach_of l ≡ refused 3 []
-    unfolding reach_of is_in_reach refuse_if ◌>>◌
-    reach_outside n = grind (arith, ints, empty_extents l.axes)
+  module _ (few : rank l ≤ 16) where
+    pub reach_empty : zero_among (extents l.axes) ≡ true → reach_of l ≡ done none
+    unfolding reach_of handed is_in_reach refuse_if ◌>>◌
+    reach_empty z = grind (arith, ints, empty_extents l.axes)
 
-    pub reach_between : {low high : ℤ} → o ≡ Some (ends low high) → reach_of l ≡ done (ends low high)
-    unfolding reach_of is_in_reach refuse_if ◌>>◌
-    reach_between n = grind (arith, ints, empty_extents l.axes)
+    module _ {o : Option Ends} (told : o ≡ accepted_ends l) (z : zero_among (extents l.axes) ≡ false) where
+      pub reach_outside : o ≡ None → reach_of l ≡ refused 3 []
+      unfolding reach_of handed is_in_reach refuse_if ◌>>◌
+      reach_outside n = grind (arith, ints, empty_extents l.axes)
 
--- the ends, where the layout is in reach
-pub within-ends : (l : LayoutModel) {e : Ends} → reach_of l ≡ done e → (is_in_reach l ≡ true) × (e ≡ (if is_empty l.axes then none else ends (lowest l) (highest l)))
+      pub reach_between : {low high : ℤ} → o ≡ Some (ends low high) → reach_of l ≡ done (ends low high)
+      unfolding reach_of handed is_in_reach refuse_if ◌>>◌
+      reach_between n = grind (arith, ints, empty_extents l.axes)
+
+-- the ends, where the layout is accepted
+pub within-ends : (l : LayoutModel) {e : Ends} → reach_of l ≡ done e → (handed l 0 ≡ pass) × (e ≡ (if is_empty l.axes then none else ends (lowest l) (highest l)))
 unfolding reach_of
-within-ends l q = let p = passed (not (is_in_reach l)) 3 [] q in (not-false (is_in_reach l) p.0, sym (done_inj p.1))
+within-ends l q = let p = passed-check (handed l 0) q in (p.0, sym (done_inj p.1))

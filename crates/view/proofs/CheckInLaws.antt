@@ -3,7 +3,7 @@ use mathlib.Core.Path.{◌≡◌}
 use mathlib.Core.List.{List}
 use Prim.Native.Nat.{ℕ}
 use lib.IntN.{ℤ}
-use Rattle.specification.specs.Axis.{Axis, axes_of_lists}
+use Rattle.specification.specs.Axis.{Axis}
 use Rattle.specification.specs.CheckIn.{bounds, check_in}
 use Rattle.specification.specs.Outcome.{done, refused, pass, refuse_if, ◌>>◌}
 use Rattle.specification.specs.Layout.{LayoutModel}
@@ -21,10 +21,6 @@ module _ (buffer : ℕ) (offset : ℤ) (es : List ℕ) (ss : List ℤ) where
   pub bounds_answered : {axes : List Axis} → done axes ≡ paired es ss → answer_of (check_in buffer offset es ss) ≡ bounds (model_from buffer offset axes)
   unfolding check_in paired refuse_if ◌>>◌
   bounds_answered e = grind (arith, ints)
-
-  pub checked_done : (old : LayoutModel) → answer_of (check_in buffer offset es ss) ≡ pass → checked_into old (check_in buffer offset es ss) ≡ record { answer = pass; layout = model_from buffer offset (axes_of_lists es ss) }
-  unfolding check_in refuse_if ◌>>◌
-  checked_done old e = grind (arith, ints)
 
   -- check-in into a layout that is there
   module _ (old : LayoutModel) where

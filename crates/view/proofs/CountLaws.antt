@@ -1,6 +1,5 @@
 -- A product of extents, factor by factor, and what it says of the number of positions.
 use Rattle.std.specs.List.{list_any}
-use Rattle.std.specs.Prelude.{Err, Ok, Result}
 use mathlib.Core.Path.{◌≡◌, refl, sym, ap, subst, ◌∙◌}
 use mathlib.Core.Bool.{Bool, true, false, not, and-false}
 use mathlib.Core.List.{List, [], ◌∷◌, map}
@@ -14,14 +13,12 @@ use lib.Seq.{drop-cons}
 use Rattle.std.proofs.lemmas.List.{length-map, get_or-map}
 use borrow.Author.Tests.{lt-ltb, le-ltb}
 use Rattle.integer.specs.Range.{most_unsigned}
-use Rattle.specification.specs.Outcome.{Check, done, refused, refuse_if, ◌>>◌}
-use Rattle.specification.specs.Axis.{Axis, extents, product, positions, is_empty}
+use Rattle.specification.specs.Outcome.{done, refused, refuse_if, ◌>>◌}
+use Rattle.specification.specs.Axis.{Axis, extents, product, is_empty}
 use Rattle.specification.specs.Beside.{zero_among}
 use Rattle.specification.specs.Normal.{overfull}
 use Rattle.specification.specs.Views.{axis_at}
-use Rattle.view.specs.Answers.{number_of, values_of, outcome_of}
 use Rattle.view.specs.Count.{element_count, count_of}
-use Rattle.view.specs.declared.layout.Refusal.{Refusal}
 use Rattle.std.proofs.lemmas.Int.{ints}
 
 -- ---- a product
@@ -90,16 +87,6 @@ length-extents (a ∷ rest) = rw (length-extents rest)
 pub element-count-of-axes : (axes : List Axis) → length axes ≤ 16 → element_count (extents axes) ≡ count_of axes
 unfolding element_count count_of overfull refuse_if ◌>>◌
 element-count-of-axes axes few = grind (arith, ints, length-extents axes, empty_extents axes)
-
--- what an answer says of the axes
-module _ (axes : List Axis) {r : Result ℕ Refusal} (told : outcome_of r ≡ count_of axes) where
-  pub counted-refused : {why : Refusal} → r ≡ Err why → (overfull axes ≡ true) × (◌≡◌ {A = Check} (refused (number_of why) (values_of why)) (refused 8 []))
-  unfolding count_of refuse_if ◌>>◌
-  counted-refused q = grind (arith, ints)
-
-  pub counted_is : {n : ℕ} → r ≡ Ok n → (overfull axes ≡ false) × (positions axes ≡ n)
-  unfolding count_of refuse_if ◌>>◌
-  counted_is q = grind (arith, ints)
 
 -- a test of what a list is mapped to
 pub list_any-map : {A B : Type 0} (test : B → Bool) (f : A → B) (list : List A) → list_any (λ a. test (f a)) list ≡ list_any test (map f list)

@@ -8,6 +8,8 @@ use Prim.Native.Nat.{ℕ, zero, suc, ◌+◌, ◌-◌, ◌≤◌, ◌<◌}
 use native.Mathlib.Omega.{arith}
 use lib.ListN.{length, length-append}
 use Rattle.std.proofs.lemmas.Int.{ints}
+use Rattle.std.proofs.lemmas.List.FromFn.{filter_of_map_range_with_len_more}
+use Rattle.view.specs.Count.{map_same}
 use Rattle.view.specs.Table.{table}
 use Rattle.view.proofs.TableLaws.{table-zero, table-suc}
 use Rattle.view.proofs.OrderLaws.{list_any-snoc}
@@ -16,28 +18,15 @@ use Rattle.view.proofs.OrderLaws.{list_any-snoc}
 unfoldable pub passing : (ℕ → Bool) → ℕ → List ℕ
 passing test n = filter test (range_with_len 0 n)
 
-range_with_len-last : (k n : ℕ) → range_with_len k (suc n) ≡ range_with_len k n ++ ((k + n) ∷ [])
-range_with_len-last k zero = ap (λ (m : ℕ). m ∷ []) (omega arith)
-range_with_len-last k (suc n) =
-    let e : k + 1 + n ≡ k + suc n = omega arith in
-    ap (λ (l : List ℕ). k ∷ l) (range_with_len-last (k + 1) n ∙ rw e)
-
-filter-append : {A : Type 0} (test : A → Bool) (l m : List A) → filter test (l ++ m) ≡ filter test l ++ filter test m
-filter-append test [] m = refl
-filter-append test (a ∷ l) m = let rest = filter-append test l m in grind (arith, ints)
-
 -- ---- one number more
 
 module _ (test : ℕ → Bool) (n : ℕ) where
   passing-last : passing test (n + 1) ≡ passing test n ++ (if test n then n ∷ [] else [])
   unfolding passing
   passing-last =
-      let one_more : n + 1 ≡ suc n = omega arith in
-      let zero_plus : 0 + n ≡ n = omega arith in
-      ap (λ (m : ℕ). filter test (range_with_len 0 m)) one_more
-      ∙ ap (filter test) (range_with_len-last 0 n)
-      ∙ filter-append test (range_with_len 0 n) ((0 + n) ∷ [])
-      ∙ ap (λ (m : ℕ). filter test (range_with_len 0 n) ++ (if test m then m ∷ [] else [])) zero_plus
+      ap (filter test) (map_same (range_with_len 0 (n + 1)))
+      ∙ filter_of_map_range_with_len_more test (λ k. k) 0 n n (omega arith)
+      ∙ ap (λ (l : List ℕ). filter test l ++ (if test n then n ∷ [] else [])) (sym (map_same (range_with_len 0 n)))
 
   pub passing-yes : test n ≡ true → passing test (n + 1) ≡ passing test n ++ (n ∷ [])
   passing-yes e = passing-last ∙ rw e

@@ -17,10 +17,12 @@ pub record EndsReached (l : LayoutModel) (low high : ℤ) : Type 0 where
   pub between : (k : ℕ) → k < positions l.axes → (low ≤ℤ offset_at l k) × (offset_at l k ≤ℤ high)
 
 pub record ReachAnswerClaims : Type 0 where
-  -- 3 exactly for a layout that is not accepted
+  -- 1 exactly for more than 16 axes
+  pub one : (l : LayoutModel) → (reach_of l ≡ refused 1 []) ↔ (16 < rank l)
+  -- up to 16 axes 3 exactly for a layout that is not accepted
   pub three : (l : LayoutModel) → rank l ≤ 16 → (reach_of l ≡ refused 3 []) ↔ ¬ (IsAccepted l)
-  -- no ends exactly where there is no position
-  pub no_ends : (l : LayoutModel) → (reach_of l ≡ done none) ↔ (positions l.axes ≡ 0)
+  -- and no ends exactly where there is no position
+  pub no_ends : (l : LayoutModel) → rank l ≤ 16 → (reach_of l ≡ done none) ↔ (positions l.axes ≡ 0)
   pub two_ends : (l : LayoutModel) (low high : ℤ) → reach_of l ≡ done (ends low high) → EndsReached l low high
 
 pub record ElementCountClaims : Type 0 where

@@ -16,7 +16,7 @@ number_of (BadExtent axis) = 6
 number_of (BadIndex axis) = 7
 number_of TooManyPositions = 8
 number_of (ShortScratch words) = 9
-number_of (ShortOutput bytes) = 10
+number_of (ShortOutput needed) = 10
 number_of NotARecord = 11
 
 -- the values returned with it
@@ -30,7 +30,7 @@ values_of (BadExtent axis) = axis ∷ []
 values_of (BadIndex axis) = axis ∷ []
 values_of TooManyPositions = []
 values_of (ShortScratch words) = words ∷ []
-values_of (ShortOutput bytes) = bytes ∷ []
+values_of (ShortOutput needed) = needed ∷ []
 values_of NotARecord = []
 
 -- the values that stand in a struct

@@ -1,16 +1,16 @@
 -- How far the offsets of a layout reach, as the code answers it.
-use Rattle.std.specs.Prelude.{Bool, not, ◌&&◌, ◌||◌, List, [], ℕ, ◌^◌, nat_le, ℤ, pos, if◌then◌else◌, None, Option, Some}
+use Rattle.std.specs.Prelude.{Bool, ◌&&◌, ◌||◌, List, ℕ, ◌^◌, nat_le, ℤ, pos, if◌then◌else◌, None, Option, Some}
 use Rattle.std.specs.List.{list_all}
 use Rattle.std.specs.Int.Signed.{le_z, lt_z}
 use Rattle.integer.specs.Range.{most_signed}
 use Rattle.specification.specs.Axis.{Axis, extents, upward, downward, is_empty}
 use Rattle.specification.specs.Beside.{zero_among}
-use Rattle.specification.specs.Layout.{LayoutModel, lowest, highest, is_in_reach}
-use Rattle.specification.specs.Outcome.{Outcome, done, refused, refuse_if, ◌>>◌}
+use Rattle.specification.specs.Layout.{LayoutModel, lowest, highest, handed}
+use Rattle.specification.specs.Outcome.{Outcome, done, ◌>>◌}
 use Rattle.view.specs.Model.{model_from}
 use Rattle.view.specs.declared.bounds.Candidate.{Candidate}
 use Rattle.view.specs.declared.bounds.Reach.{Reach}
-use Rattle.view.specs.declared.bounds.Reach.TheVariants.{Empty, Between, Outside}
+use Rattle.view.specs.declared.bounds.Reach.TheVariants.{Empty, Between}
 use Rattle.view.specs.declared.layout.ReadingOffset.{ReadingOffset}
 use Rattle.view.specs.declared.bounds.Spans.{Spans}
 
@@ -23,16 +23,15 @@ pub data Ends : Type 0 where
   none : Ends
   ends : ℤ → ℤ → Ends
 
--- what each answer says: the two ends, or refusal 3
-abbrev pub reach_told : Reach → Outcome Ends
-reach_told Empty = done none
-reach_told (Between lowest highest) = done (ends lowest.0 highest.0)
-reach_told Outside = refused 3 []
+-- what each answer says
+abbrev pub ends_of : Reach → Ends
+ends_of Empty = none
+ends_of (Between lowest highest) = ends lowest.0 highest.0
 
--- 3 where an offset is not inside; else the two ends
+-- 1 or 3 if the layout is not accepted, as every call on a layout refuses it; else the two ends
 unfoldable pub reach_of : LayoutModel → Outcome Ends
 reach_of l =
-    refuse_if (not (is_in_reach l)) 3 []
+    handed l 0
     >> done (if is_empty l.axes then none else ends (lowest l) (highest l))
 
 -- two sums, as the code hands them on

@@ -2,9 +2,9 @@
 ghost use Rattle.std.specs.Prelude.{◌≡◌, ◌≤◌, length, OnOk};
 ghost use Rattle.specification.specs.CheckIn.{bounds, check_in};
 ghost use Rattle.specification.specs.Layout.{is_in_reach, handed};
-ghost use Rattle.view.specs.Answers.{outcome_of, answer_of};
+ghost use Rattle.view.specs.Answers.{outcome_of, outcome_by, answer_of};
 ghost use Rattle.view.specs.Model.{model_of};
-ghost use Rattle.view.specs.Reach.{candidate_model, spans_up_to, spans_within, ends_told, ends_within, within, in_bounds, reach_told, reach_of};
+ghost use Rattle.view.specs.Reach.{candidate_model, spans_up_to, spans_within, ends_told, ends_within, within, in_bounds, ends_of, reach_of};
 
 use crate::axes::{Axes, Lists};
 use crate::bounded::bounded_product;
@@ -19,8 +19,6 @@ pub enum Reach {
     Empty,
     /// The lowest and the highest.
     Between(ReadingOffset, ReadingOffset),
-    /// One is below 0, above 2^63 - 1 or not below the length.
-    Outside,
 }
 
 /// Two sums, in readings: of the positive spans, and of the negative ones without their sign.
@@ -161,23 +159,25 @@ impl Layout {
         Candidate {
             len: self.len,
             offset: self.offset,
-            axes: self.axes(),
+            axes: self.few_axes(),
         }
     }
 
-    /// The reach of a layout.
-    #[tactic(auto, using(crate::proofs::BoundsLaws::reach_empty, crate::proofs::BoundsLaws::reach_outside, crate::proofs::BoundsLaws::reach_between))]
-    pub fn reach(&self) -> Reach
-        requires { self.now.rank ≤ 16 }
-        ensures { reach_told result ≡ reach_of (model_of self.now) }
+    /// The reach of a layout; or refusal 1 for more than 16 axes, 3 for an offset that is not accepted.
+    #[tactic(auto, using(crate::proofs::HandedLaws::reach_many, crate::proofs::HandedLaws::reach_empty, crate::proofs::HandedLaws::reach_outside, crate::proofs::HandedLaws::reach_between))]
+    pub fn reach(&self) -> Result<Reach, Refusal>
+        ensures { outcome_by ends_of result ≡ reach_of (model_of self.now) }
     {
+        if MOST_AXES < self.rank {
+            return Err(Refusal::TooManyAxes);
+        }
         let candidate = self.candidate();
         if has_no_position(candidate.axes) {
-            return Reach::Empty;
+            return Ok(Reach::Empty);
         }
         match candidate.accepted_ends(true) {
-            None => Reach::Outside,
-            Some((low, high)) => Reach::Between(low, high),
+            None => Err(Refusal::OutOfRange),
+            Some((low, high)) => Ok(Reach::Between(low, high)),
         }
     }
 

@@ -5,16 +5,15 @@ ghost use Rattle.view.specs.Answers.{outcome_of};
 ghost use Rattle.view.specs.Model.{model_of, viewed_of, told};
 ghost use Rattle.view.specs.Refusals.{broadcast_refusal};
 
-use crate::count::Extent;
 use crate::layout::{Layout, Refusal, Viewed};
 use axis::Axis;
 
 /// The first axis whose extent is neither its target nor 1.
-fn target_fault<E: Extent>(axes: &[Axis], targets: &[E]) -> Result<(), Refusal>
+fn target_fault(axes: &[Axis], targets: &[u64]) -> Result<(), Refusal>
     requires { length targets.now ≡ length axes.now }
-    ensures { outcome_of result ≡ target_fault 0 axes.now (E.extents_of targets.now) }
+    ensures { outcome_of result ≡ target_fault 0 axes.now targets.now }
 {
-    let unfit = axes.iter().zip(targets).position(|(axis, target)| axis.extent != target.extent()
+    let unfit = axes.iter().zip(targets).position(|(axis, &target)| axis.extent != target
         && axis.extent != 1);
     match unfit {
         Some(axis) => Err(Refusal::BadExtent(axis)),
@@ -23,12 +22,11 @@ fn target_fault<E: Extent>(axes: &[Axis], targets: &[E]) -> Result<(), Refusal>
 }
 
 /// The targets for extents: an equal extent keeps its stride, a stretched axis stands still.
-fn stretch<E: Extent>(axes: &mut [Axis], targets: &[E])
+fn stretch(axes: &mut [Axis], targets: &[u64])
     requires { length targets.now ≡ length axes.old }
-    ensures { axes.new ≡ spread axes.old (E.extents_of targets.now) }
+    ensures { axes.new ≡ spread axes.old targets.now }
 {
-    for (i, target) in targets.iter().enumerate() {
-        let extent = target.extent();
+    for (i, &extent) in targets.iter().enumerate() {
         if axes[i].extent != extent {
             axes[i] = Axis { extent, stride: 0 };
         }
@@ -37,9 +35,10 @@ fn stretch<E: Extent>(axes: &mut [Axis], targets: &[E])
 
 impl Layout {
     /// Every refusal of broadcast, in order.
-    fn broadcast_refusal<E: Extent>(&self, targets: &[E]) -> Result<(), Refusal>
+    #[tactic(auto, using(crate::proofs::ListedLaws::rank_model_of, crate::proofs::ListedLaws::listed_refused, crate::proofs::ListedLaws::listed_wrong, crate::proofs::ListedLaws::listed_next))]
+    fn broadcast_refusal(&self, targets: &[u64]) -> Result<(), Refusal>
         ensures answer { outcome_of result
-            ≡ broadcast_refusal (model_of self.now) (E.extents_of targets.now) }
+            ≡ broadcast_refusal (model_of self.now) targets.now }
         ensures few { OnOk result (self.now.rank ≤ 16) }
         ensures listed { OnOk result (length targets.now ≡ self.now.rank) }
     {
@@ -47,14 +46,14 @@ impl Layout {
         if targets.len() != self.rank {
             return Err(Refusal::WrongLength(self.rank, targets.len()));
         }
-        target_fault(self.axes(), targets)
+        target_fault(self.few_axes(), targets)
     }
 
     /// Stretched to the target extents; or refusal 1, 3, 4 for another number of targets than axes, 6 with the first axis whose
     /// extent is neither its target nor 1, and the layout as it was.
-    pub fn broadcast_in_place<E: Extent>(&mut self, targets: &[E]) -> Result<(), Refusal>
+    pub fn broadcast_in_place(&mut self, targets: &[u64]) -> Result<(), Refusal>
         ensures told { told result self.new
-            ≡ broadcast (model_of self.old) (E.extents_of targets.now) }
+            ≡ broadcast (model_of self.old) targets.now }
         ensures kept { OnErr result (self.new ≡ self.old) }
         ensures past { drop self.new.rank self.new.axes ≡ drop self.new.rank self.old.axes }
     {

@@ -36,20 +36,6 @@ impl Extent for u64 {
     }
 }
 
-impl Extent for usize {
-    ghost use Rattle.view.specs.Count.{map_same};
-
-    ghost extents_of = { λ list. list };
-
-    ghost extent_of = { λ n. n };
-
-    ghost each = { map_same };
-
-    fn extent(self) -> u64 {
-        self as u64
-    }
-}
-
 impl Extent for Axis {
     ghost use Rattle.specification.specs.Axis.{extents};
     ghost use Rattle.view.specs.Count.{extents_map};

@@ -7,7 +7,7 @@ ghost use Rattle.view.specs.Model.{model_of, viewed_of, told, first_axes};
 ghost use Rattle.view.specs.Ties.{pairs_in, own_roots, joined, joined_all, renamed, mask_of, IsRooted, roots_below, fused_axes, fused_fault, fused_view};
 
 use crate::bounds::Candidate;
-use crate::layout::{Layout, NO_AXIS, Refusal, Viewed};
+use crate::layout::{Layout, Refusal, Viewed};
 use crate::numbers::Pair;
 use axis::Axis;
 
@@ -138,7 +138,7 @@ impl Layout {
         ensures past { drop self.new.rank self.new.axes ≡ drop self.new.rank self.old.axes }
     {
         let mask = root_mask(&ties.roots, self.rank);
-        let mut fused = [NO_AXIS; 16];
+        let mut fused = [Axis::NONE; 16];
         fuse(&self.axes[..self.rank], &ties.roots, mask, &mut fused)?;
         let rank = mask.count_ones() as usize;
         Candidate {

@@ -1,5 +1,5 @@
 //! A layout, what a view of it answers, and why a call is refused.
-ghost use Rattle.std.specs.Prelude.{◌≡◌, ◌≤◌, length, drop, OnErr};
+ghost use Rattle.std.specs.Prelude.{◌≡◌, ◌≤◌, length, min, take, drop, OnErr};
 ghost use Rattle.specification.specs.CheckIn.{check_in};
 ghost use Rattle.view.specs.Answers.{number_of, values_of, listed};
 ghost use Rattle.view.specs.Model.{model_of, told, accepted_of, layout_outcome, checked_into};
@@ -72,7 +72,7 @@ pub enum Refusal {
     /// 9: how many words of 64 bits are needed.
     #[error("{0} words of scratch are needed")]
     ShortScratch(usize),
-    /// 10: how many bytes are needed.
+    /// 10: how much output is needed, in what the call counts: bytes of a record.
     #[error("{0} bytes of output are needed")]
     ShortOutput(usize),
     /// 11: no whole record stands at the front, or its verdict is false.
@@ -105,7 +105,7 @@ impl Refusal {
             Refusal::BadIndex(axis) => (7, Values::one(axis)),
             Refusal::TooManyPositions => (8, Values::none()),
             Refusal::ShortScratch(words) => (9, Values::one(words)),
-            Refusal::ShortOutput(bytes) => (10, Values::one(bytes)),
+            Refusal::ShortOutput(needed) => (10, Values::one(needed)),
             Refusal::NotARecord => (11, Values::none()),
         }
     }
@@ -117,7 +117,7 @@ impl Refusal {
         self.row().0
     }
 
-    /// The values returned with it: lengths, axes, words or bytes, as its variant says.
+    /// The values returned with it: lengths, axes, words or how much output, as its variant says.
     pub fn values(self) -> Values
         ensures { listed result ≡ values_of self }
     {
@@ -125,16 +125,20 @@ impl Refusal {
     }
 }
 
-/// What stands past the rank of a layout made here.
-pub const NO_AXIS: Axis = Axis {
-    extent: 0,
-    stride: 0,
-};
-
 impl Layout {
-    /// As many axes as the rank says.
-    #[tactic(auto, using(crate::proofs::AxesLaws::first_axes_take))]
+    /// As many axes as the rank says; of a rank above 16 the sixteen that there are.
+    #[tactic(auto, using(crate::proofs::AxesLaws::first_axes_take, crate::proofs::AxesLaws::first_sixteen))]
     pub fn axes(&self) -> &[Axis]
+        ensures meaning { result.now ≡ take 16 (model_of self.now).axes }
+        ensures all { self.now.rank ≤ 16 → result.now ≡ (model_of self.now).axes }
+        ensures count { length result.now ≡ min 16 self.now.rank }
+    {
+        &self.axes[..MOST_AXES.min(self.rank)]
+    }
+
+    /// As many axes as the rank says. Who calls it knows that they are at most 16, so it makes no test.
+    #[tactic(auto, using(crate::proofs::AxesLaws::first_axes_take))]
+    pub(crate) fn few_axes(&self) -> &[Axis]
         requires { self.now.rank ≤ 16 }
         ensures meaning { result.now ≡ (model_of self.now).axes }
         ensures count { length result.now ≡ self.now.rank }
@@ -155,7 +159,7 @@ impl Layout {
             len: 0,
             offset: ReadingOffset(0),
             rank: 0,
-            axes: [NO_AXIS; 16],
+            axes: [Axis::NONE; 16],
         };
         layout.check_in(len, offset, extents, strides)?;
         Ok(layout)

@@ -28,7 +28,7 @@ impl Layout {
         ensures { indexed_of result
             ≡ sum_indexed 0 self.now.offset.0 (model_of self.now).axes index.now }
     {
-        let axes = self.axes();
+        let axes = self.few_axes();
         let mut sum = self.offset;
         for (i, &x) in index.iter().enumerate() {
             let axis = axes[i];

@@ -3,19 +3,17 @@ use Rattle.std.proofs.lemmas.Result.{err_from_is_err_and}
 use Rattle.std.proofs.Common.{◌∙◌, refl, sym, ap, length, rules}
 use Rattle.view.specs.Answers.{outcome_of}
 use Rattle.view.specs.Model.{model_of}
-use Rattle.view.proofs.CountLaws.{length-each}
 use Rattle.view.proofs.ViewLaws.{broadcast_refused, stretched_told}
 use Rattle.view.proofs.layout.Layout.broadcast_in_place.Goals as goal
 
 pub returns-in_err-broadcast_refusal-clause-told : goal.returns-in_err-broadcast_refusal-clause-told
-returns-in_err-broadcast_refusal-clause-told g c =
+returns-in_err-broadcast_refusal-clause-told c =
     let p = err_from_is_err_and c.from_residual.result c.from_residual.ensures.1 in
-    rw (p.1, p.2) (sym (broadcast_refused (model_of c.args.self.now) (g.E.Extent.extents_of c.args.targets.now) _ _ (sym c.broadcast_refusal.ensures.answer ∙ ap outcome_of c.in_err-broadcast_refusal.was)))
+    rw (p.1, p.2) (sym (broadcast_refused (model_of c.args.self.now) c.args.targets.now _ _ (sym c.broadcast_refusal.ensures.answer ∙ ap outcome_of c.in_err-broadcast_refusal.was)))
 
 pub returns-clause-told : goal.returns-clause-told
-returns-clause-told g c =
+returns-clause-told c =
     let s = c.args.self.now in
-    let es = g.E.Extent.extents_of c.args.targets.now in
-    let n = length-each g.E.Extent.extent_of c.args.targets.now es (g.met.E.Extent.each c.args.targets.now) in
+    let targets = c.args.targets.now in
     let is = c.in_ok-broadcast_refusal.ensures in
-    stretched_told (model_of s) s.axes s.rank (length c.args.targets.now) es c.stretch.new.axes _ refl n is.listed (search rules) c.stretch.ensures (sym is.answer)
+    stretched_told (model_of s) s.axes s.rank (length targets) targets c.stretch.new.axes _ refl refl is.listed (search rules) c.stretch.ensures (sym is.answer)
