@@ -1,20 +1,19 @@
 -- A call that answered was lent what the verdict needs; so as many words, or the most that any verdict needs, are enough for the next one.
-use Rattle.std.proofs.Common.{◌≡◌, ◌⊎◌, inl, inr, ℕ, ◌/◌, ◌<◌, ◌≤◌, List, [], ◌∷◌, length, take, Result, refl, sym, ap, ◌∙◌, arith}
+use Rattle.std.proofs.Common.{◌≡◌, ◌⊎◌, inl, inr, ℕ, ◌/◌, ◌<◌, ◌≤◌, List, [], ◌∷◌, length, take, refl, sym, ap, ◌∙◌, arith}
 use Rattle.std.proofs.lemmas.Bool.{lt-leb, le-leb, cases_lt}
 use Rattle.specification.specs.Axis.{Axis}
-use Rattle.specification.specs.Outcome.{Outcome, done, refused}
+use Rattle.specification.specs.Outcome.{Outcome, done}
 use Rattle.specification.specs.Layout.{LayoutModel, rank}
 use Rattle.specification.specs.Normal.{normal_of}
 use Rattle.specification.specs.Search.{ActiveAxis, span_sum, total, words_for}
 use Rattle.specification.specs.Verdict.{Judged, Plan, block_of, others_of, plan_of, judge, words_of, words_needed}
 use Rattle.specification.specs.Record.{Made, record_length, written, write_answer, read_of, layout_from, Writing}
-use Rattle.specification.specs.RecordClaims.{Bytes}
 use Rattle.specification.proofs.OutcomeLaws.{clash, done_inj}
 use Rattle.specification.proofs.PlanCases.{PlanCase, when_empty, when_overfull, when_one, when_still, when_out, by_block, plan-case, small, large, searching, enumerating, past_both, judged-with}
 use Rattle.specification.proofs.SearchLaws.{SearchEnd, collided, completed, exhausted, search-end}
 use Rattle.specification.proofs.RecordFields.{length-record_bytes}
 use Rattle.specification.proofs.VerdictLaws.{verdict_claims}
-use Rattle.specification.proofs.WriterAnswers.{record_of, Writes, writes, written-made}
+use Rattle.specification.proofs.WriterAnswers.{Writes, writes, written-made}
 use Rattle.specification.proofs.ReaderLaws.{Reads, reads}
 use Rattle.specification.proofs.ReaderAnswers as reader
 use Rattle.view.specs.Model.{model_of}
@@ -111,9 +110,8 @@ module _ (bytes scratch : List ℕ) (x : LayoutModel) (e : done x ≡ layout_rea
 
 pub lent_claims : LentClaims
 lent_claims = record {
-  at_most = at_most;
-  wrote = λ l output scratch output-then scratch-then wrote n w e. wrote_lent (rw e at (writing l output scratch wrote output-then scratch-then w));
-  was_read = λ bytes scratch scratch-then l r. read_lent bytes scratch (model_of l) r.answer_is;
+  lent_to_write = λ l output scratch output-then scratch-then wrote n w e. wrote_lent (rw e at (writing l output scratch wrote output-then scratch-then w));
+  lent_to_read = λ bytes scratch scratch-then l r. read_lent bytes scratch (model_of l) r.answer_is;
   write_write = λ l output scratch output-then scratch-then wrote n w e output' scratch' output-then' scratch-then' wrote' s h w'.
       write_again (rw e at (writing l output scratch wrote output-then scratch-then w)) output' scratch' output-then' scratch-then' (wrote_of wrote') s h (writing l output' scratch' wrote' output-then' scratch-then' w');
   write_read = λ l output scratch output-then scratch-then wrote n w e scratch' scratch-then' answer s r.

@@ -3,7 +3,6 @@
 use Rattle.view.specs.declared.layout.Refusal.{Refusal}
 use Rattle.record.specs.declared.fields.BytePlace.{BytePlace}
 use Rattle.std.specs.Prelude.{List, ◌⊎◌, ◌≡◌, ℕ, ◌≤◌, length, take, Result}
-use Rattle.specification.specs.Axis.{Axis}
 use Rattle.specification.specs.Outcome.{Outcome, done}
 use Rattle.specification.specs.Layout.{LayoutModel}
 use Rattle.specification.specs.Normal.{normal_of}
@@ -20,12 +19,10 @@ abbrev pub IsLentAgain : (scratch scratch' : List ℕ) → Type 0
 IsLentAgain scratch scratch' = (length scratch ≤ length scratch') ⊎ (16777217 ≤ length scratch')
 
 pub record LentClaims : Type 0 where
-  -- no verdict needs more
-  pub at_most : (axes : List Axis) → words_needed axes ≤ 16777217
   -- a writer that wrote, and a reader that read, were lent what the verdict needs
-  pub wrote : (l : Layout) (output scratch output-then scratch-then : List ℕ) (wrote : Result BytePlace Refusal) (n : ℕ) → Wrote l output scratch wrote output-then scratch-then → wrote_of wrote ≡ done n
+  pub lent_to_write : (l : Layout) (output scratch output-then scratch-then : List ℕ) (wrote : Result BytePlace Refusal) (n : ℕ) → Wrote l output scratch wrote output-then scratch-then → wrote_of wrote ≡ done n
       → words_needed (normal_of (model_of l)).axes ≤ length scratch
-  pub was_read : (bytes scratch scratch-then : List ℕ) (l : Layout) → Reading bytes scratch (done (model_of l)) scratch-then → words_needed (model_of l).axes ≤ length scratch
+  pub lent_to_read : (bytes scratch scratch-then : List ℕ) (l : Layout) → Reading bytes scratch (done (model_of l)) scratch-then → words_needed (model_of l).axes ≤ length scratch
   -- written twice: the same record again
   pub write_write : (l : Layout) (output scratch output-then scratch-then : List ℕ) (wrote : Result BytePlace Refusal) (n : ℕ) → Wrote l output scratch wrote output-then scratch-then → wrote_of wrote ≡ done n
       → (output' scratch' output-then' scratch-then' : List ℕ) (wrote' : Result BytePlace Refusal) → IsLentAgain scratch scratch' → n ≤ length output' → Wrote l output' scratch' wrote' output-then' scratch-then'
