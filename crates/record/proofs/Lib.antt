@@ -6,3 +6,4 @@ pub mod WriterLaws
 pub mod ChainLaws
 pub mod SameLaws
 pub mod RunningLaws
+pub mod LentLaws

@@ -1,5 +1,5 @@
 -- Records and the round trip of running code: the theorems of the definitions at what the contracts say.
-use Rattle.std.proofs.Common.{◌≡◌, ℕ, ◌≤◌, List, length, take, drop, refl, ap, ◌∙◌, arith}
+use Rattle.std.proofs.Common.{◌≡◌, ℕ, ◌≤◌, List, length, take, drop, map, refl, ap, ◌∙◌, arith}
 use Rattle.std.proofs.lemmas.List.{take_at, length-take-le}
 use Rattle.specification.specs.Layout.{LayoutModel, IsAccepted}
 use Rattle.specification.specs.Normal.{normal_of}
@@ -13,9 +13,10 @@ use Rattle.specification.proofs.ReaderLaws.{reads}
 use Rattle.view.specs.Model.{model_of}
 use Rattle.record.specs.Writer.{wrote_of}
 use Rattle.record.specs.Reading.{layout_read}
-use Rattle.record.specs.Running.{ChainsAgreeClaim, RunningRoundTrip}
+use Rattle.record.specs.Calls.{call_in}
+use Rattle.record.specs.Running.{ChainsAgreeClaim, RunsAgreeClaim, RunningRoundTrip}
 use Rattle.record.proofs.ChainLaws.{chain_claims}
-use Rattle.record.proofs.SameLaws.{writing, fronted}
+use Rattle.record.proofs.SameLaws.{writing, written_at_end, fronted}
 
 -- ---- records agree
 
@@ -33,10 +34,15 @@ chains_agree a b end end' ha hb cs ds answers answers' c c' output scratch outpu
       whole = whole;
     }
 
+pub runs_agree : RunsAgreeClaim
+runs_agree a b end end' ha hb calls other_calls r r' output scratch output-then scratch-then output' scratch' output-then' scratch-then' wrote wrote' w w' =
+    records_agree (model_of a) (model_of b) ha hb (map call_in calls) (map call_in other_calls) output scratch output-then scratch-then output' scratch' output-then' scratch-then' (wrote_of wrote) (wrote_of wrote')
+    (written_at_end a end calls wrote r w) (written_at_end b end' other_calls wrote' r' w')
+
 -- ---- the round trip
 
 -- what was written is read as the normal form
-read_back : (x : LayoutModel) (output scratch output-then scratch-then : List ℕ) (n : ℕ) → IsAccepted x → Writing x output scratch (done n) output-then scratch-then
+pub read_back : (x : LayoutModel) (output scratch output-then scratch-then : List ℕ) (n : ℕ) → IsAccepted x → Writing x output scratch (done n) output-then scratch-then
     → (words : ℕ) → words_needed (normal_of x).axes ≤ words → layout_read (read_of output-then words) ≡ done (with_buffer (normal_of x))
 read_back x output scratch output-then scratch-then n a w words h =
     let f = fronted w in
@@ -44,12 +50,12 @@ read_back x output scratch output-then scratch-then n a w words h =
     ap layout_read (ap (λ (bytes : List ℕ). read_of bytes words) f.begins ∙ t.1) ∙ ap done t.2
 
 -- a reader that answered a layout read it
-read_done : {l : LayoutModel} (o : Outcome WasRead) → done l ≡ layout_read o → (w : WasRead) × (o ≡ done w) × (l ≡ w.layout)
+pub read_done : {l : LayoutModel} (o : Outcome WasRead) → done l ≡ layout_read o → (w : WasRead) × (o ≡ done w) × (l ≡ w.layout)
 read_done (done w) e = (w, refl, cc)
 read_done (refused number values) e = absurd cc
 
 -- a layout that was read is written as the front of the bytes
-written_back : (bytes scratch : List ℕ) (x : LayoutModel) → Bytes bytes → done x ≡ layout_read (read_of bytes (length scratch))
+pub written_back : (bytes scratch : List ℕ) (x : LayoutModel) → Bytes bytes → done x ≡ layout_read (read_of bytes (length scratch))
     → (output scratch' output-then scratch-then' : List ℕ) (answer : Outcome ℕ) → words_needed x.axes ≤ length scratch' → length_field bytes ≤ length output
     → Writing x output scratch' answer output-then scratch-then'
     → (answer ≡ done (length_field bytes)) × (take (length_field bytes) output-then ≡ take (length_field bytes) bytes)

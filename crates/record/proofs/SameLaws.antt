@@ -75,7 +75,7 @@ written_at_end start end calls wrote {output} {scratch} {output-then} {scratch-t
     rw e at (writing end output scratch wrote output-then scratch-then w)
 
 -- what `records_agree` says of one writer
-side : (a : LayoutModel) → IsAccepted a → (cs : List Call) {output scratch : List ℕ} {answer : Outcome ℕ} {output-then scratch-then : List ℕ}
+pub side : (a : LayoutModel) → IsAccepted a → (cs : List Call) {output scratch : List ℕ} {answer : Outcome ℕ} {output-then scratch-then : List ℕ}
     → Writing (end_of a cs) output scratch answer output-then scratch-then → Side a cs output scratch answer output-then scratch-then
 side a ha cs w = (records_agree a a ha ha cs cs _ _ _ _ _ _ _ _ _ _ w w).first
 

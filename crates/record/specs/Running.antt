@@ -1,8 +1,8 @@
--- Equal records (RULES, "Equal records") and the round trip said of running code: what any two chains of calls, and any calls of `write_record` and `read_record`, come to.
--- A `Layout` and a `Result` are what the functions hand back; each premise is the contract of a function: `Wrote` of `write_record`, `Reading` of `read_record`, `CallMade` in a chain of `after`.
+-- Equal records (RULES, "Equal records") and the round trip said of running code: what any two chains of calls, any two runs of lists, and any calls of `write_record` and `read_record`, come to.
+-- A `Layout` and a `Result` are what the functions hand back; each premise is the contract of a function: `Wrote` of `write_record`, `Reading` of `read_record`, `RunTo` of `run`, `CallMade` in a chain of `after` or `make_in_place`.
 use Rattle.view.specs.declared.layout.Refusal.{Refusal}
 use Rattle.record.specs.declared.fields.BytePlace.{BytePlace}
-use Rattle.std.specs.Prelude.{List, ◌≡◌, ℕ, ◌≤◌, length, take, Result}
+use Rattle.std.specs.Prelude.{List, ◌≡◌, ℕ, ◌≤◌, length, take, map, Result}
 use Rattle.specification.specs.Outcome.{Outcome, Check, done}
 use Rattle.specification.specs.Layout.{LayoutModel, IsAccepted}
 use Rattle.specification.specs.Normal.{normal_of}
@@ -13,6 +13,8 @@ use Rattle.specification.specs.Calls.{Call}
 use Rattle.specification.specs.RecordsAgree.{Run, RecordsAgree}
 use Rattle.view.specs.declared.layout.Layout.{Layout}
 use Rattle.view.specs.Model.{model_of}
+use Rattle.record.specs.declared.calls.Call as code
+use Rattle.record.specs.Calls.{call_in, RunTo}
 use Rattle.record.specs.Chain.{Chain, AsDefined}
 use Rattle.record.specs.Writer.{wrote_of, Wrote}
 use Rattle.record.specs.Reading.{Reading}
@@ -34,6 +36,14 @@ ChainsAgreeClaim = (a b end end' : Layout) → IsAccepted (model_of a) → IsAcc
     → (output scratch output-then scratch-then output' scratch' output-then' scratch-then' : List ℕ) (wrote wrote' : Result BytePlace Refusal)
     → Wrote end output scratch wrote output-then scratch-then → Wrote end' output' scratch' wrote' output-then' scratch-then'
     → ChainsAgree a b cs ds answers answers' end end' output scratch output-then scratch-then output' scratch' output-then' scratch-then' (wrote_of wrote) (wrote_of wrote')
+
+-- the same of `run`: two lists of calls from two accepted layouts, and a writer on each end layout, with an output and a scratch of its own
+abbrev pub RunsAgreeClaim : Type 0
+RunsAgreeClaim = (a b end end' : Layout) → IsAccepted (model_of a) → IsAccepted (model_of b)
+    → (calls other_calls : List code.Call) → RunTo a calls end → RunTo b other_calls end'
+    → (output scratch output-then scratch-then output' scratch' output-then' scratch-then' : List ℕ) (wrote wrote' : Result BytePlace Refusal)
+    → Wrote end output scratch wrote output-then scratch-then → Wrote end' output' scratch' wrote' output-then' scratch-then'
+    → RecordsAgree (model_of a) (model_of b) (map call_in calls) (map call_in other_calls) output scratch output-then scratch-then output' scratch' output-then' scratch-then' (wrote_of wrote) (wrote_of wrote')
 
 -- the round trip, both ways, of any calls of writer and reader; the second is lent words of its own, enough for the verdict
 pub record RunningRoundTrip : Type 0 where

@@ -6,7 +6,8 @@ ghost use Rattle.specification.specs.ByteClaims.{ByteClaims};
 ghost use Rattle.specification.specs.RecordClaims.{WriterClaims, ReaderClaims, RoundTrip, SteppingClaims};
 ghost use Rattle.specification.specs.RecordsAgree.{RecordsAgreeClaim};
 ghost use Rattle.record.specs.Chain.{ChainClaims};
-ghost use Rattle.record.specs.Running.{ChainsAgreeClaim, RunningRoundTrip};
+ghost use Rattle.record.specs.Lent.{LentClaims};
+ghost use Rattle.record.specs.Running.{ChainsAgreeClaim, RunsAgreeClaim, RunningRoundTrip};
 
 pub mod calls;
 pub mod fields;
@@ -31,12 +32,15 @@ pub fn records_hold()
 {}
 
 /// Does nothing, and promises what calls made one after another come to: every chain of calls is
-/// the definition's list; the records behind two chains are equal exactly where the end layouts
-/// have the same offsets; what was written is read back, and what was read is written back.
-#[tactic(auto, using(crate::proofs::ChainLaws::chain_claims, crate::proofs::RunningLaws::running_round_trip))]
+/// the definition's list; the records behind two chains, and behind two runs of lists, are equal
+/// exactly where the end layouts have the same offsets; what was written is read back, and what was
+/// read is written back; and how many words are enough for a second call.
+#[tactic(auto, using(crate::proofs::ChainLaws::chain_claims, crate::proofs::RunningLaws::running_round_trip, crate::proofs::LentLaws::lent_claims))]
 pub fn calls_hold()
     ensures chains { ChainClaims }
     ensures agree { RecordsAgreeClaim }
     ensures running_agree { ChainsAgreeClaim }
+    ensures runs_agree { RunsAgreeClaim }
     ensures running_round_trips { RunningRoundTrip }
+    ensures lent { LentClaims }
 {}

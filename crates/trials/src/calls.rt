@@ -6,7 +6,7 @@ use dense::{checked_col_major_strides, checked_row_major_strides};
 use injectivity::{Judgement, is_injective_layout, judge_layout};
 use lines::line::Line;
 use lines::write::write_front;
-use record::calls::{Call, run};
+use record::calls::{Call, fuse_by_numbers, make_in_place, run};
 use record::normal::normal_form;
 use record::read::read_record;
 use record::step::step_over;
@@ -56,6 +56,10 @@ fn verdicts_and_records(rt: HostRuntime) -> Result<(), Fail> {
     assert_eq!(rt; step_over(&bytes), b"".as_slice());
     let turned = run(sheet, &[Call::Permute(&[1, 0])]);
     assert_eq!(rt; turned.indexed_offset(&[2, 1])?, ReadingOffset(5));
+    let mut place = sheet;
+    make_in_place(&mut place, Call::Permute(&[1, 0]))?;
+    fuse_by_numbers(&mut place, &[0, 1])?;
+    assert_eq!(rt; place.indexed_offset(&[1])?, ReadingOffset(3));
     Ok(())
 }
 
