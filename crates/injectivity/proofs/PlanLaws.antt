@@ -5,12 +5,13 @@ use Rattle.std.proofs.Common.{◌≡◌, ◌==◌, ℕ, ◌≤◌, ◌<◌, true
 use lib.IntN.{ℤ}
 use Rattle.std.proofs.lemmas.Bool.Decides.{nat_tests}
 use Rattle.std.proofs.lemmas.Int.{ints}
-use Rattle.specification.specs.Axis.{Axis, axes_of_lists, extents, strides, positions, is_empty}
+use Rattle.specification.specs.Axis.{Axis, extents, strides, positions, is_empty}
 use Rattle.specification.specs.Outcome.{done, refused, refuse_if, ◌>>◌, ◌>>=◌}
 use Rattle.specification.specs.Normal.{overfull}
 use Rattle.specification.specs.BlockClaims.{sorted_active}
 use Rattle.specification.specs.Verdict.{up_to_last, Verdict, Distinct, Repeated, answered, block_of, by_block_size, still, is_out_of_range}
 use Rattle.specification.specs.Verdict.{plan_of, carry_out, judge, verdict}
+use Rattle.specification.proofs.CheckInLaws.{check_in_claims}
 use Rattle.specification.proofs.NormalAxes.{positions-pos}
 use Rattle.specification.proofs.NormalLaws.{empty-none, full-pos}
 use Rattle.specification.proofs.VerdictLaws.{verdict_call_claims}
@@ -110,12 +111,6 @@ length-strides : (axes : List Axis) → length (strides axes) ≡ length axes
 length-strides [] = refl
 length-strides (a ∷ axes) = rw (length-strides axes)
 
--- axes are those of their extents and strides
-parts_of_axes : (axes : List Axis) → axes_of_lists (extents axes) (strides axes) ≡ axes
-unfolding axes_of_lists
-parts_of_axes [] = refl
-parts_of_axes (a ∷ axes) = ap (λ (rest : List Axis). a ∷ rest) (parts_of_axes axes)
-
 pub crowd : (axes : List Axis) (words : ℕ) → 16 < length axes → verdict (extents axes) (strides axes) words ≡ refused 1 []
 crowd axes words h = verdict_call_claims.one (extents axes) (strides axes) words (inl (omega (arith, length-extents axes)))
 
@@ -123,7 +118,7 @@ pub few_axes : (axes : List Axis) (words : ℕ) → length axes ≤ 16 → verdi
 few_axes axes words h =
     verdict_call_claims.then_judged (extents axes) (strides axes) words (omega (arith, length-extents axes))
     (length-extents axes ∙ sym (length-strides axes))
-    ∙ ap (λ (l : List Axis). judge l words) (parts_of_axes axes)
+    ∙ ap (λ (l : List Axis). judge l words) (check_in_claims.lists_of_axes axes)
 
 -- the verdict of axes that are lent
 pub ruleset lent = (crowd, few_axes)
