@@ -62,7 +62,7 @@ typedef struct {
     size_t second;
 } strided_values;
 
-/* A verdict (STRIDED_DISTINCT ..), and how many difference vectors were looked at. */
+/* A verdict (STRIDED_DISTINCT ..), and how many difference vectors the search looked at: 0 where no search is told. */
 typedef struct {
     uint8_t verdict;
     uint64_t count;
@@ -117,7 +117,8 @@ uint8_t strided_write(const strided_layout *layout, uint8_t *out, size_t out_len
 uint8_t strided_read(strided_layout *layout, const uint8_t *bytes, size_t bytes_len, uint64_t *scratch,
                      size_t scratch_len, strided_values *values);
 
-/* Where the bytes behind the record at the front begin; the end if there is none. */
+/* Where the rest begins: behind as many bytes as the length in the first two says; at the end, if that length is missing,
+ * below 13 or past the end. No other field is looked at. */
 size_t strided_step(const uint8_t *bytes, size_t bytes_len);
 
 /* ---- strides */

@@ -208,7 +208,7 @@ fn with_scratch(mut call: impl FnMut(&mut [u64]) -> Result<(), Refusal>) -> Resu
     call(&mut scratch)
 }
 
-/// The verdict of some axes, with the number of difference vectors looked at: refusals 1, 8, 3.
+/// The verdict of some axes, and how many difference vectors the search looked at, 0 where no search is told: refusals 1, 8, 3.
 pub fn verdict_of(axes: &[Axis]) -> Result<(Verdict, u64), Refusal> {
     let mut found = Found::default();
     let mut values = Values::default();
@@ -229,7 +229,8 @@ pub fn verdict_of(axes: &[Axis]) -> Result<(Verdict, u64), Refusal> {
     Ok((verdict, found.count))
 }
 
-/// The bytes behind the record at the front; none if there is no record.
+/// The rest: what stands behind as many bytes as the length in the first two says; none, if that length is missing, below 13 or
+/// past the end. No other field is looked at.
 pub fn step(bytes: &[u8]) -> &[u8] {
     // SAFETY: the pointer is that of a slice of the length beside it, and nothing is written.
     let at = unsafe { calls::strided_step(bytes.as_ptr(), bytes.len()) };

@@ -29,3 +29,12 @@ pub struct ActiveAxis {
     /// Its stride in readings, without its sign.
     pub stride: u64,
 }
+
+impl ActiveAxis {
+    /// No active axis: what stands in a room for active axes until they are there.
+    pub const NONE: ActiveAxis = ActiveAxis {
+        axis: 0,
+        extent: 0,
+        stride: 0,
+    };
+}

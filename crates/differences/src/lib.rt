@@ -23,24 +23,20 @@ ghost use Rattle.differences.specs.AxisDifferences.{axes_of, number_of, digit_of
 use axis::ActiveAxis;
 use std::marker::Model;
 
-/// A difference of two indices of an axis, in two parts of which one is 0: what is above 0, and what is below it without its sign.
+/// A difference of two indices of an axis, in two parts: it is `above` less `below`.
 #[derive(Clone, Copy, Debug, PartialEq, Eq)]
 pub struct AxisDifference {
     /// The axis, whose extent is above both parts.
     pub axis: ActiveAxis,
-    /// What the difference is above 0.
+    /// The part above 0.
     pub above: u64,
-    /// What it is below 0, without its sign.
+    /// The part below 0, without its sign.
     pub below: u64,
 }
 
 impl AxisDifference {
     const NONE: AxisDifference = AxisDifference {
-        axis: ActiveAxis {
-            axis: 0,
-            extent: 0,
-            stride: 0,
-        },
+        axis: ActiveAxis::NONE,
         above: 0,
         below: 0,
     };
@@ -91,7 +87,7 @@ fn advance(differences: &mut [AxisDifference], sums: &mut Sums) -> bool
     ensures stands { Stands differences.new sums.new }
     ensures axes { axes_of differences.new ≡ axes_of differences.old }
     ensures on { IsTrue result → number_of differences.new ≡ number_of differences.old + 1 }
-    ensures last { IsFalse result → number_of differences.old + 1 ≡ box (axes_of differences.old) }
+    ensures last { IsFalse result → (number_of differences.new ≡ 0) × (number_of differences.old + 1 ≡ box (axes_of differences.old)) }
 {
     for difference in differences.iter_mut() {
         if difference.step(sums) {
@@ -148,7 +144,7 @@ impl Differences {
         ensures within { self.new.number < box self.new.axes }
         ensures on { IfSome result (λ _. self.new.number ≡ self.old.number + 1) }
         ensures distance { IfSome result (λ distance. distance ≡ distance_at self.new.axes self.new.number) }
-        ensures last { IfNone result (self.old.number + 1 ≡ box self.old.axes) }
+        ensures last { IfNone result ((self.new.number ≡ 0) × (self.old.number + 1 ≡ box self.old.axes)) }
     {
         let (len, mut sums) = (self.len, self.sums);
         let more = advance(&mut self.axes[..len], &mut sums);

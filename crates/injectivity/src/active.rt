@@ -4,13 +4,6 @@ ghost use Rattle.specification.specs.Verdict.{active_from};
 
 use axis::{ActiveAxis, Axis};
 
-/// What stands in a room for active axes until they are gathered.
-pub const NO_ACTIVE_AXIS: ActiveAxis = ActiveAxis {
-    axis: 0,
-    extent: 0,
-    stride: 0,
-};
-
 /// An axis with its number, and its stride without the sign.
 fn active_axis(axis: usize, layout_axis: &Axis) -> ActiveAxis
     ensures { result ≡ record {

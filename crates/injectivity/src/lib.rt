@@ -28,8 +28,8 @@ ghost use Rattle.injectivity.specs.Inputs.{IsLeftToBlock};
 ghost use Rattle.injectivity.specs.Judgement.{axes_judged, IsJudgedAs};
 ghost use Rattle.injectivity.specs.Meaning.{Means, MeansOfLists, JudgementClaims};
 
-use active::{NO_ACTIVE_AXIS, gather_active};
-use axis::Axis;
+use active::gather_active;
+use axis::{ActiveAxis, Axis};
 use block::interleaved_block;
 use inputs::validate_injective_layout_inputs;
 use ordered::{is_separated_by_column, is_separated_by_row};
@@ -177,7 +177,7 @@ fn judge_active_axes(axes: &[Axis], scratch: &mut [u64]) -> Result<Judgement, Re
     requires left { IsLeftToBlock axes.now }
     ensures { IsJudgedAs (judged axes.now (length scratch.old)) scratch.old scratch.new result }
 {
-    let mut room = [NO_ACTIVE_AXIS; 16];
+    let mut room = [ActiveAxis::NONE; 16];
     let count = gather_active(axes, &mut room);
     let active = &mut room[..count];
     sort_by_stride(active);

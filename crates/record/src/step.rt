@@ -14,8 +14,8 @@ pub(crate) fn length_field(bytes: &[u8]) -> Option<usize>
     Some(usize::from(u16::from_be_bytes(*length)))
 }
 
-/// The bytes behind the record at the front; an empty part at the end where the length field is
-/// missing, below 13 or too long.
+/// The rest: what stands behind as many bytes as the length field says; the empty part at the end,
+/// if that length is missing, below 13 or past the end. No other field is looked at.
 #[tactic(auto, unfolding(specification::specs::Record::rest_of))]
 pub fn step_over(bytes: &[u8]) -> &[u8]
     ensures { result.now ≡ rest_of bytes.now }

@@ -92,13 +92,6 @@ fn search_two(a: ActiveAxis, b: ActiveAxis, others: &[ActiveAxis]) -> Option<Sea
     })
 }
 
-// What stands in the room for a block until it is copied there.
-const NO_AXIS: ActiveAxis = ActiveAxis {
-    axis: 0,
-    extent: 0,
-    stride: 0,
-};
-
 /// The search on a block of two or more axes: the two longest are set apart, ties to the lower axis, and the differences of the
 /// others are searched, the lowest axis the lowest digit. `None` past the budget.
 pub fn search_block(axes: &[ActiveAxis]) -> Option<Searched>
@@ -106,7 +99,7 @@ pub fn search_block(axes: &[ActiveAxis]) -> Option<Searched>
     requires searchable { IsSearchable axes.now }
     ensures { block_plan result (plan_past_search axes.now) ≡ by_many axes.now (sort_by longer axes.now) }
 {
-    let mut room = [NO_AXIS; 16];
+    let mut room = [ActiveAxis::NONE; 16];
     let block = &mut room[..axes.len()];
     block.copy_from_slice(axes);
     sort_by_extent(block);

@@ -4,7 +4,7 @@ use Rattle.std.specs.Prelude.{if◌then◌else◌}
 use mathlib.Core.Path.{◌≡◌, refl, sym, ap, subst, ◌∙◌}
 use mathlib.Core.Bool.{Bool, true, false, not, ◌||◌}
 use mathlib.Core.List.{List, [], ◌∷◌, map}
-use Prim.Native.Nat.{ℕ, zero, suc, ◌+◌, ◌*◌, ◌-◌, ◌<◌, ◌≤◌}
+use Prim.Native.Nat.{ℕ, suc, ◌+◌, ◌*◌, ◌-◌, ◌<◌, ◌≤◌}
 use native.Mathlib.Omega.{arith}
 use lib.Dec.{T, eqb, ltb}
 use lib.IntN.{ℤ, pos, ◌+ℤ◌, ◌-ℤ◌}
@@ -25,6 +25,7 @@ use Rattle.specification.proofs.OutcomeLaws.{passed, passed-check, done_inj}
 use Rattle.specification.proofs.Sums.{sum_of}
 use Rattle.specification.proofs.TestLaws.{true-not-false, length-those}
 use Rattle.std.proofs.lemmas.Int.{ints}
+use Rattle.std.proofs.lemmas.List.FromFn.{length-range_with_len}
 -- two laws of tests that files of other crates cite from here
 pub use borrow.Author.Tests.{not-false}
 pub use Rattle.specification.proofs.TestLaws.{or-true}
@@ -117,13 +118,9 @@ permute-keeps l order a = old-or-new IsAccepted l _ _ a (λ e.
     (down-sum (map (axis_at l.axes) order) ∙ s (λ a. negative_part (span a)) ∙ sym (down-sum l.axes))
     (empty-by-sum l.axes (map (axis_at l.axes) order) (s is_zero)))
 
-length_up : (k n : ℕ) → length (range_with_len k n) ≡ n
-length_up k zero = refl
-length_up k (suc n) = ap suc (length_up (k + 1) n)
-
 length-kept : (pairs : List (ℕ × ℕ)) (n : ℕ) → length (kept pairs n) ≤ n
 unfolding kept
-length-kept pairs n = omega (arith, length-those (λ a. not (list_any (λ b. ltb b a) (class_of pairs n a))) (range_with_len 0 n), length_up 0 n)
+length-kept pairs n = omega (arith, length-those (λ a. not (list_any (λ b. ltb b a) (class_of pairs n a))) (range_with_len 0 n), length-range_with_len 0 n)
 
 diagonal-keeps : (l : LayoutModel) (pairs : List (ℕ × ℕ)) → IsAccepted l → IsAccepted (diagonal_view l pairs).layout
 unfolding diagonal_view diagonal_axes

@@ -2,9 +2,9 @@
 use Rattle.std.specs.List.{list_any}
 use Rattle.std.specs.Prelude.{if◌then◌else◌}
 use mathlib.Core.Bool.{Bool, true, false, not, ◌||◌}
-use mathlib.Core.List.{List, []}
+use mathlib.Core.List.{List, [], ◌∷◌}
 use mathlib.Core.Logic.{◌⊎◌, inl, inr, ◌↔◌}
-use mathlib.Core.Path.{◌≡◌, refl, sym, ◌∙◌}
+use mathlib.Core.Path.{◌≡◌, refl, sym, ap, ◌∙◌}
 use Prim.Native.Nat.{ℕ, ◌-◌, ◌<◌, ◌≤◌}
 use native.Mathlib.Omega.{arith}
 use lib.Dec.{T, eqb}
@@ -14,7 +14,7 @@ use lib.Signed.{◌≤ℤ◌, ◌<ℤ◌, le_z, lt_z}
 use mir.Syntax.{w64}
 use mir.Val.{SFits}
 use Rattle.integer.specs.Range.{fits, most_signed}
-use Rattle.specification.specs.Axis.{is_empty, span}
+use Rattle.specification.specs.Axis.{Axis, extents, strides, axes_of_lists, is_empty, span}
 use Rattle.specification.specs.Outcome.{Check, done, pass, refuse_if, ◌>>◌}
 use Rattle.specification.specs.Layout.{LayoutModel, lowest, highest, IsAccepted, is_too_long, handed, HandedRefused}
 use Rattle.specification.specs.CheckIn.{is_too_wide, bounds, check_in}
@@ -157,8 +157,14 @@ module _ (buffer : ℕ) (offset : ℤ) (extents : List ℕ) (strides : List ℤ)
   unfolding check_in
   chained = sym (then-assoc first (second >> bounds l) (done l) ∙ rw (then-assoc second (bounds l) (done l)))
 
+lists_of_axes : (axes : List Axis) → axes_of_lists (extents axes) (strides axes) ≡ axes
+unfolding axes_of_lists
+lists_of_axes [] = refl
+lists_of_axes (a ∷ axes) = ap (λ (rest : List Axis). a ∷ rest) (lists_of_axes axes)
+
 pub check_in_claims : CheckInClaims
 check_in_claims = record {
+  lists_of_axes = lists_of_axes;
   passes = λ b o es ss x.
       let w = done-passes (first b o es ss >> second b o es ss >> bounds (l b o es ss)) (l b o es ss) x in
       (λ e. let v = w.0 (sym (chained b o es ss) ∙ e) in ((tell b o es ss).passes.0 v.0, v.1), λ v. chained b o es ss ∙ w.1 ((tell b o es ss).passes.1 v.0, v.1));

@@ -29,6 +29,7 @@ cases = record {
   one_not_counted = λ words. refl;
   record_backward = λ words. refl;
   record_single = λ words. refl;
+  read_repeated = λ words. refl;
   empty_dense = refl;
   row_dense = refl;
   order_ties = refl;

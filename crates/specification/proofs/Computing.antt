@@ -15,7 +15,7 @@ use Rattle.specification.specs.Normal.{merge_into, merge, normal_axes, normal_of
 use Rattle.specification.specs.Search.{reach, span_sum, two_distinct, half, from_digits, difference_sum, first_of, words_for}
 use Rattle.specification.specs.Decided.{completes?}
 use Rattle.specification.specs.Verdict.{active_from, up_to_last, block_of, by_two, others_of, hit, placed, searched, plan_past_search, by_many, by_size, by_block_size, is_out_of_range, plan_of, carry_out, judge, verdict}
-use Rattle.specification.specs.Record.{axis_bytes, record_bytes, written}
+use Rattle.specification.specs.Record.{axis_bytes, record_bytes, written, length_field, number_at, axes_from, fields_right, is_merged, is_normal_form, with_buffer, layout_from, read_of}
 use Rattle.specification.specs.Beside.{next_step, running, col_major, row_major, order_among, index_order, sum_indexed, indexed_offset}
 
 -- a name for the list
@@ -36,6 +36,6 @@ unfolding gcd gcd_within
     reach span_sum two_distinct half from_digits difference_sum first_of words_for
     completes?
     active_from up_to_last block_of by_two others_of hit placed searched plan_past_search by_many by_size by_block_size is_out_of_range plan_of carry_out judge verdict
-    axis_bytes record_bytes written
+    axis_bytes record_bytes written length_field number_at axes_from fields_right is_merged is_normal_form with_buffer layout_from read_of
     next_step running col_major row_major order_among index_order sum_indexed indexed_offset
 computing = tt

@@ -2,10 +2,10 @@
 use Rattle.std.specs.List.{list_any, range_with_len}
 use Rattle.std.specs.Prelude.{Option, Some, None, if◌then◌else◌, filter}
 use mathlib.Core.Path.{◌≡◌, refl, sym, ap, subst, ◌∙◌}
-use mathlib.Core.Bool.{Bool, true, false, not, ◌&&◌, ◌||◌}
+use mathlib.Core.Bool.{Bool, true, false, not, ◌&&◌}
 use mathlib.Core.List.{List, [], ◌∷◌, map}
 use Prim.Native.Nat.{ℕ, zero, suc, ◌+◌, ◌*◌, ◌<◌, ◌≤◌}
-use native.Mathlib.Decide.{ℕ_discrete, dec_lt}
+use native.Mathlib.Decide.{dec_lt}
 use native.Mathlib.Omega.{arith}
 use lib.Dec.{T, ltb}
 use lib.IntN.{ℤ, pos, ◌+ℤ◌}
@@ -34,39 +34,16 @@ use Rattle.std.proofs.lemmas.Int.{ints}
 
 pub list_any-no : (f g : ℕ → Bool) (i n : ℕ) → ((x : ℕ) → i ≤ x → x < i + n → g x ≡ true → f x ≡ false) → list_any f (filter g (range_with_len i n)) ≡ false
 list_any-no f g i zero h = refl
-list_any-no f g i (suc n) h = go (g i) refl (list_any-no f g (i + 1) n (λ x a b. h x (omega arith) (omega arith)))
-  where
-    both : (s t : Bool) → s ≡ false → t ≡ false → (s || t) ≡ false
-    both true t p q = absurd (subst T p tt)
-    both false t p q = q
-
-    go : (t : Bool) → g i ≡ t → list_any f (filter g (range_with_len (i + 1) n)) ≡ false → list_any f (if t then i ∷ filter g (range_with_len (i + 1) n) else filter g (range_with_len (i + 1) n)) ≡ false
-    go true e ih = both (f i) (list_any f (filter g (range_with_len (i + 1) n))) (h i (omega arith) (omega arith) e) ih
-    go false e ih = ih
+list_any-no f g i (suc n) h =
+    let rest = list_any-no f g (i + 1) n (λ x a b. h x (omega arith) (omega arith)) in
+    let here : g i ≡ true → f i ≡ false = h i (omega arith) (omega arith) in
+    grind (arith, ints)
 
 pub list_any-yes : (f g : ℕ → Bool) (i n x : ℕ) → i ≤ x → x < i + n → g x ≡ true → f x ≡ true → list_any f (filter g (range_with_len i n)) ≡ true
 list_any-yes f g i zero x a b p q = absurd (omega arith)
-list_any-yes f g i (suc n) x a b p q = go (ℕ_discrete i x) (λ l. list_any-yes f g (i + 1) n x l (omega arith) p q)
-  where
-    right : (s t : Bool) → t ≡ true → (s || t) ≡ true
-    right true t e = refl
-    right false t e = e
-
-    first : (s t : Bool) → s ≡ true → (s || t) ≡ true
-    first true t e = refl
-    first false t e = absurd (subst T (sym e) tt)
-
-    here : (t : Bool) → t ≡ true → f i ≡ true → list_any f (if t then i ∷ filter g (range_with_len (i + 1) n) else filter g (range_with_len (i + 1) n)) ≡ true
-    here true e u = first (f i) (list_any f (filter g (range_with_len (i + 1) n))) u
-    here false e u = absurd (subst T (sym e) tt)
-
-    there : (t : Bool) → list_any f (filter g (range_with_len (i + 1) n)) ≡ true → list_any f (if t then i ∷ filter g (range_with_len (i + 1) n) else filter g (range_with_len (i + 1) n)) ≡ true
-    there true u = right (f i) (list_any f (filter g (range_with_len (i + 1) n))) u
-    there false u = u
-
-    go : Dec (i ≡ x) → (i + 1 ≤ x → list_any f (filter g (range_with_len (i + 1) n)) ≡ true) → list_any f (if g i then i ∷ filter g (range_with_len (i + 1) n) else filter g (range_with_len (i + 1) n)) ≡ true
-    go (yes e) ih = here (g i) (rw e p) (rw e q)
-    go (no e) ih = there (g i) (ih (omega arith))
+list_any-yes f g i (suc n) x a b p q =
+    let later : i + 1 ≤ x → list_any f (filter g (range_with_len (i + 1) n)) ≡ true = λ l. list_any-yes f g (i + 1) n x l (omega arith) p q in
+    grind (arith, ints)
 
 -- ---- each axis is in the class of exactly one axis that is kept
 

@@ -16,7 +16,7 @@ use Rattle.specification.specs.RecordClaims.{WholeRecord, ReadRefused, no_record
 use Rattle.specification.proofs.ReachLaws.{and-true}
 use Rattle.specification.proofs.NormalTest.{normal_tested}
 use Rattle.specification.proofs.JudgeLaws.{Judging, is_judged, too_few, judging}
-use Rattle.specification.proofs.ReaderLaws.{fields_tested, fields-pass, whole-accepted, buffer_read}
+use Rattle.specification.proofs.ReaderLaws.{fields_tested, fields-pass, whole-accepted, buffer_read, verdict_read}
 use Rattle.specification.proofs.OutcomeLaws.{clash, false-unless, refuse-yes, refuse-no, bind_done, bind-refused}
 
 -- ---- a whole record or not
@@ -139,6 +139,7 @@ reader_claims = record {
   normal_tested = normal_tested;
   refuses = λ bytes words number values. (refuses-forth bytes words, refuses-back bytes words);
   buffer_read = buffer_read;
+  verdict_read = verdict_read;
   frees = frees-needed;
   frees_none = frees_none;
 }

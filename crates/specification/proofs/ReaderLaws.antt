@@ -148,5 +148,12 @@ buffer_read bytes words w e =
     subst (λ (x : WasRead). BufferToHighest x.layout) (sym r.is)
     (buffer-to-highest (record { buffer = 0; offset = offset_field bytes; axes = axes_from bytes 13 (get_or bytes 4 0) }) (λ k h. (r.whole.form.within k h).0))
 
+pub verdict_read : (bytes : List ℕ) (words : ℕ) (w : WasRead) → read_of bytes words ≡ done w
+    → (j : Judged) × (judge w.layout.axes words ≡ done j) × (w.answer ≡ j.answer) × (verdict_byte w.answer ≡ get_or bytes 3 0)
+verdict_read bytes words w e =
+    let r = reads bytes words w e in
+    subst (λ (x : WasRead). (j : Judged) × (judge x.layout.axes words ≡ done j) × (x.answer ≡ j.answer) × (verdict_byte x.answer ≡ get_or bytes 3 0)) (sym r.is)
+    (r.j, r.judged, refl, r.true_byte)
+
 pub accepted_claims : AcceptedClaims
 accepted_claims = record { views = views-keep; ends = ends-keep; checked_in = checked_in; was_read = was_read }

@@ -51,15 +51,21 @@ module _ (x : LayoutModel) (a : IsAccepted x) (room words : ℕ) {m : Made} (w :
       → read_of (record_then (normal_of x) w.j.answer behind) words' ≡ done (record { layout = layout_from (record_then (normal_of x) w.j.answer behind); answer = w.j.answer })
   read_again words' h = read_done (record_then (normal_of x) w.j.answer behind) words' whole w.j (judged-again words' h) (sym (verdict-byte (normal_of x) w.j.answer behind))
 
+  -- the bytes are those of the layout that is read, with the verdict written
+  written_so : record_bytes (normal_of x) w.j.answer ≡ record_bytes (layout_from (record_then (normal_of x) w.j.answer behind)) w.j.answer
+  unfolding record_bytes with_buffer
+  written_so = sym (ap (λ (l : LayoutModel). record_bytes l w.j.answer) told)
+
 write_read : (l : LayoutModel) (room words words' : ℕ) (m : Made) (behind : List ℕ) → IsAccepted l → written l room words ≡ done m → words_needed (normal_of l).axes ≤ words'
-    → (w : WasRead) × (read_of (m.bytes ++ behind) words' ≡ done w) × (w.layout ≡ with_buffer (normal_of l)) × (rest_of (m.bytes ++ behind) ≡ behind)
+    → (w : WasRead) × (read_of (m.bytes ++ behind) words' ≡ done w) × (w.layout ≡ with_buffer (normal_of l)) × (rest_of (m.bytes ++ behind) ≡ behind) × (m.bytes ≡ record_bytes w.layout w.answer)
 write_read l room words words' m behind a e h =
     let w = writes l room words m a e in
-    subst (λ (r : Made). (w : WasRead) × (read_of (r.bytes ++ behind) words' ≡ done w) × (w.layout ≡ with_buffer (normal_of l)) × (rest_of (r.bytes ++ behind) ≡ behind)) (sym w.is) (
+    subst (λ (r : Made). (w : WasRead) × (read_of (r.bytes ++ behind) words' ≡ done w) × (w.layout ≡ with_buffer (normal_of l)) × (rest_of (r.bytes ++ behind) ≡ behind) × (r.bytes ≡ record_bytes w.layout w.answer)) (sym w.is) (
       record { layout = layout_from (record_then (normal_of l) w.j.answer behind); answer = w.j.answer },
       read_again l a room words w behind words' h,
       told l a room words w behind,
       rest-behind (normal_of l) w.j.answer behind (normal-accepted l a).few,
+      written_so l a room words w behind,
     )
 
 -- ---- read then write

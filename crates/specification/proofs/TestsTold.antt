@@ -13,6 +13,7 @@ use lib.ListN.{length}
 use mir.Syntax.{w64}
 use mir.Val.{SFits}
 use borrow.Author.Tests.{ltb-true, lt-ltb, leb-true, le-leb, eqb-true, eq-eqb}
+use Rattle.std.specs.Int.{FitsUnsigned}
 use Rattle.std.specs.Ordering.{int_eq}
 use Rattle.integer.specs.Range.{fits, most_signed, most_unsigned}
 use Rattle.integer.proofs.PartLaws.{fits-of-sfits, sfits-of-fits}
@@ -52,6 +53,9 @@ int_eq-holds x y = Decides-int_eq x y
 
 pub in_range : (z : ℤ) → (fits z ≡ true) ↔ SFits w64 z
 in_range z = (sfits-of-fits z, fits-of-sfits z)
+
+pub in_word : (n : ℕ) → (n ≤ most_unsigned) ↔ FitsUnsigned w64 (pos n)
+in_word n = (λ h. omega (arith, ints), λ h. omega (arith, ints, h.1))
 
 -- ---- some axis
 
@@ -130,6 +134,7 @@ module _ (axes : List Axis) where
 pub test_claims : TestClaims
 test_claims = record {
   in_range = in_range;
+  in_word = in_word;
   empty = empty;
   over = over;
   too_wide = too_wide;

@@ -6,7 +6,7 @@ use Rattle.specification.specs.Outcome.{done, refused, pass}
 use Rattle.specification.specs.Views.{permute, diagonal_view, pairs_of, broadcast}
 use Rattle.specification.specs.Normal.{normal_form}
 use Rattle.specification.specs.Verdict.{Distinct, Repeated, verdict}
-use Rattle.specification.specs.Record.{written}
+use Rattle.specification.specs.Record.{written, read_of}
 use Rattle.specification.specs.Beside.{col_major, row_major, index_order, indexed_offset}
 use Rattle.specification.specs.CountClaims.{judged}
 use Rattle.specification.specs.WorkedExamples.{layout, ax}
@@ -63,6 +63,11 @@ pub record Cases : Type 0 where
     bytes = 0x00 ∷ 0x0D ∷ 0x01 ∷ 0x01 ∷ 0x00 ∷ 0x00 ∷ 0x00 ∷ 0x00 ∷ 0x00 ∷ 0x00 ∷ 0x00 ∷ 0x12 ∷ 0x34 ∷ [];
     freed = 0;
   })
+  -- a record with the verdict Repeated is read with it: 001D 01 02 01, the offset, extent 4 and stride 0
+  pub read_repeated : (words : ℕ) → read_of (0x00 ∷ 0x1D ∷ 0x01 ∷ 0x02 ∷ 0x01 ∷ 0x00 ∷ 0x00 ∷ 0x00 ∷ 0x00 ∷ 0x00 ∷ 0x00 ∷ 0x00 ∷ 0x07
+      ∷ 0x00 ∷ 0x00 ∷ 0x00 ∷ 0x00 ∷ 0x00 ∷ 0x00 ∷ 0x00 ∷ 0x04
+      ∷ 0x00 ∷ 0x00 ∷ 0x00 ∷ 0x00 ∷ 0x00 ∷ 0x00 ∷ 0x00 ∷ 0x00 ∷ []) words
+      ≡ done (record { layout = layout 8 (pos 7) (ax 4 (pos 0) ∷ []); answer = Repeated })
   -- dense strides of an empty shape: in place of a step that does not fit stands 2^63 - 1
   pub empty_dense : col_major (0 ∷ 2 ^ 63 ∷ 5 ∷ []) ≡ done (pos 1 ∷ pos 0 ∷ pos most_signed ∷ [])
   pub row_dense : row_major (2 ∷ 3 ∷ 4 ∷ []) ≡ done (pos 12 ∷ pos 4 ∷ pos 1 ∷ [])

@@ -4,7 +4,7 @@ use Rattle.std.specs.Prelude.{true, false, List, [], ◌≢◌, ◌⊎◌, ◌�
 use Rattle.std.specs.Int.{w64}
 use Rattle.std.specs.Prelude.{FitsSigned}
 use Rattle.integer.specs.Range.{most_signed}
-use Rattle.specification.specs.Axis.{axes_of_lists, is_empty, span}
+use Rattle.specification.specs.Axis.{Axis, extents, strides, axes_of_lists, is_empty, span}
 use Rattle.specification.specs.Outcome.{done, refused}
 use Rattle.specification.specs.Layout.{LayoutModel, lowest, highest, IsAccepted, HandedRefused}
 use Rattle.specification.specs.CheckIn.{check_in}
@@ -43,6 +43,8 @@ pub record IsCheckedIn (buffer : ℕ) (offset : ℤ) (extents : List ℕ) (strid
   pub in_bounds : (is_empty (axes_of_lists extents strides) ≡ true) ⊎ (¬ (IsOutOfBounds (layout_of buffer offset extents strides)))
 
 pub record CheckInClaims : Type 0 where
+  -- axes are paired again from their extents and strides
+  pub lists_of_axes : (axes : List Axis) → axes_of_lists (extents axes) (strides axes) ≡ axes
   pub passes : (buffer : ℕ) (offset : ℤ) (extents : List ℕ) (strides : List ℤ) (l : LayoutModel)
       → (check_in buffer offset extents strides ≡ done l) ↔ IsCheckedIn buffer offset extents strides × (layout_of buffer offset extents strides ≡ l)
   pub refuses : (buffer : ℕ) (offset : ℤ) (extents : List ℕ) (strides : List ℤ) (number : ℕ) (values : List ℕ)

@@ -7,7 +7,7 @@ use Rattle.specification.specs.Outcome.{done, refused}
 use Rattle.specification.specs.Layout.{LayoutModel, offset_at, IsAccepted, HandedRefused}
 use Rattle.specification.specs.Normal.{normal_of, overfull}
 use Rattle.specification.specs.Verdict.{Judged, judge, words_needed}
-use Rattle.specification.specs.Record.{Made, verdict_byte, written, write_frees, fields_right, is_normal_form, layout_from, WasRead, read_of, read_frees, with_buffer, length_field, rest_of}
+use Rattle.specification.specs.Record.{Made, verdict_byte, record_bytes, written, write_frees, fields_right, is_normal_form, layout_from, WasRead, read_of, read_frees, with_buffer, length_field, rest_of}
 use Rattle.specification.specs.NormalClaims.{SameForm}
 
 -- the writer's refusals before those of `AnsweredExactly`, and what it leaves in the scratch
@@ -51,7 +51,7 @@ pub record BufferToHighest (l : LayoutModel) : Type 0 where
   pub reached : 0 < positions l.axes → (k : ℕ) × (k < positions l.axes) × (offset_at l k +ℤ pos 1 ≡ pos l.buffer)
   pub none_above : (k : ℕ) → k < positions l.axes → offset_at l k <ℤ pos l.buffer
 
--- what the reader refuses, the buffer length of what it reads, and what it leaves in the scratch
+-- what the reader refuses, the buffer length and the verdict of what it reads, and what it leaves in the scratch
 pub record ReaderClaims : Type 0 where
   -- the test of the fields and the test for a normal form say what they should
   pub fields_told : (bytes : List ℕ) → (fields_right bytes ≡ true) ↔ Fields bytes
@@ -59,6 +59,9 @@ pub record ReaderClaims : Type 0 where
   pub refuses : (bytes : List ℕ) (words number : ℕ) (values : List ℕ) → (read_of bytes words ≡ refused number values) ↔ ReadRefused bytes words number values
   -- the buffer of a layout that is read ends at its highest offset
   pub buffer_read : (bytes : List ℕ) (words : ℕ) (w : WasRead) → read_of bytes words ≡ done w → BufferToHighest w.layout
+  -- the verdict that is read is the one judged of that layout, and the byte says it
+  pub verdict_read : (bytes : List ℕ) (words : ℕ) (w : WasRead) → read_of bytes words ≡ done w
+      → (j : Judged) × (judge w.layout.axes words ≡ done j) × (w.answer ≡ j.answer) × (verdict_byte w.answer ≡ slice_index bytes 3)
   -- the words needed are free afterwards where the verdict was judged, also if it was false; else none
   pub frees : (bytes : List ℕ) (words : ℕ) → WholeRecord bytes → words_needed (layout_from bytes).axes ≤ words → read_frees bytes words ≡ words_needed (layout_from bytes).axes
   pub frees_none : (bytes : List ℕ) (words : ℕ) → (¬ (WholeRecord bytes)) ⊎ (words < words_needed (layout_from bytes).axes) → read_frees bytes words ≡ 0
@@ -69,9 +72,9 @@ Bytes bytes = (i : ℕ) → slice_index bytes i < 256
 
 -- both ways: the reader accepts exactly what the writer writes; the first call is lent `words`, the second `words'`, at least as many as the verdict needs
 pub record RoundTrip : Type 0 where
-  -- write then read: the normal form, with the buffer length that its offsets need; bytes behind are ignored
+  -- write then read: the normal form, with the buffer length that its offsets need, and the verdict that was written; bytes behind are ignored
   pub write_read : (l : LayoutModel) (room words words' : ℕ) (m : Made) (behind : List ℕ) → IsAccepted l → written l room words ≡ done m → words_needed (normal_of l).axes ≤ words'
-      → (w : WasRead) × (read_of (m.bytes ++ behind) words' ≡ done w) × (w.layout ≡ with_buffer (normal_of l)) × (rest_of (m.bytes ++ behind) ≡ behind)
+      → (w : WasRead) × (read_of (m.bytes ++ behind) words' ≡ done w) × (w.layout ≡ with_buffer (normal_of l)) × (rest_of (m.bytes ++ behind) ≡ behind) × (m.bytes ≡ record_bytes w.layout w.answer)
   -- read then write: the bytes of the front again
   pub read_write : (bytes : List ℕ) (room words words' : ℕ) (w : WasRead) → Bytes bytes → read_of bytes words ≡ done w → length_field bytes ≤ room → words_needed w.layout.axes ≤ words'
       → (m : Made) × (written w.layout room words' ≡ done m) × (m.bytes ≡ take (length_field bytes) bytes)

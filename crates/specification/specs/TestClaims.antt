@@ -1,8 +1,8 @@
 -- Claims on the tests that the rules are said with: each holds exactly if what it tests is so.
 -- RULES, "Check-in", "The normal form", "The verdict: inputs".
 use Rattle.std.specs.List.{list_any}
-use Rattle.std.specs.Prelude.{true, List, ◌↔◌, ◌≡◌, ℕ, ◌-◌, ◌^◌, ◌<◌, ℤ, pos, negsuc, length}
-use Rattle.std.specs.Int.{w64}
+use Rattle.std.specs.Prelude.{true, List, ◌↔◌, ◌≡◌, ℕ, ◌-◌, ◌^◌, ◌<◌, ◌≤◌, ℤ, pos, negsuc, length}
+use Rattle.std.specs.Int.{w64, FitsUnsigned}
 use Rattle.std.specs.Prelude.{FitsSigned}
 use Rattle.integer.specs.Range.{fits, most_signed, most_unsigned}
 use Rattle.specification.specs.Axis.{Axis, positions, is_empty, span, upward, downward}
@@ -33,6 +33,8 @@ pub data IsOutOfRange (axes : List Axis) : Type 0 where
 pub record TestClaims : Type 0 where
   -- 64 bits signed
   pub in_range : (z : ℤ) → (fits z ≡ true) ↔ FitsSigned w64 z
+  -- 64 bits unsigned
+  pub in_word : (n : ℕ) → (n ≤ most_unsigned) ↔ FitsUnsigned w64 (pos n)
   -- a zero extent
   pub empty : (axes : List Axis) → (is_empty axes ≡ true) ↔ SomeAxis axes (λ a. a.extent ≡ 0)
   -- not empty, with more than 2^64 - 1 positions

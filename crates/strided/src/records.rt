@@ -89,8 +89,8 @@ pub extern "C" fn strided_read(
     }
 }
 
-/// Where the bytes behind the record at the front begin: the length that stands there; the end of
-/// the bytes, where that is missing, below 13 or past the end.
+/// Where the rest begins: behind as many bytes as the length in the first two says; at the end, if
+/// that length is missing, below 13 or past the end. No other field is looked at.
 #[tactic(auto, using(std::proofs::lemmas::Grind::common_steps), unfolding(specification::specs::Record::rest_of))]
 #[unsafe(no_mangle)]
 pub extern "C" fn strided_step(bytes: &[u8]) -> usize

@@ -60,11 +60,7 @@ pub struct DifferenceAxis {
 
 impl DifferenceAxis {
     pub const NONE: DifferenceAxis = DifferenceAxis {
-        axis: ActiveAxis {
-            axis: 0,
-            extent: 0,
-            stride: 0,
-        },
+        axis: ActiveAxis::NONE,
         digit: 0,
         z: Step::NONE,
         q: Step::NONE,
