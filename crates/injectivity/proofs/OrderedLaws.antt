@@ -1,13 +1,12 @@
 -- Axes that stand separated as they are, or from the last on: what is told of them axis by axis, and that sorted they have no block.
-use Rattle.std.specs.List.{list_any}
+use Rattle.std.specs.List.{list_any, push}
 use Rattle.std.specs.Prelude.{Some, None}
-use Rattle.std.proofs.Common.{◌≡◌, ℕ, zero, suc, ◌+◌, ◌*◌, ◌-◌, ◌^◌, ◌≤◌, ◌<◌, Bool, true, false, List, [], ◌∷◌, ◌++◌, reverse, length, take, drop, get_or, append-nil, refl, sym, ap, ◌∙◌, subst, arith}
+use Rattle.std.proofs.Common.{◌≡◌, ℕ, zero, suc, ◌+◌, ◌*◌, ◌-◌, ◌^◌, ◌≤◌, ◌<◌, Bool, true, false, List, [], ◌∷◌, ◌++◌, reverse, length, drop, get_or, append-nil, refl, sym, ap, ◌∙◌, subst, arith}
 use mathlib.Core.List.{reverse-cons}
 use native.Mathlib.Nat.{mul-le-mul_left, mul-le-mul_right}
-use lib.IntN.{pos}
 use Rattle.std.proofs.lemmas.Bool.Decides.{nat_tests}
 use Rattle.std.proofs.lemmas.Int.{ints}
-use Rattle.std.proofs.lemmas.List.{take_more, take_all, length-take-le, reverse-append}
+use Rattle.std.proofs.lemmas.List.{reverse-append}
 use Rattle.integer.specs.Range.{most_signed}
 use Rattle.specification.specs.Axis.{Axis, product, positions, is_empty}
 use Rattle.specification.specs.Normal.{overfull}
@@ -80,53 +79,48 @@ unfolding active_from
 active-append k [] m = let e : k ≡ k + 0 = omega arith in ap (λ (j : ℕ). active_from j m) e
 active-append k (a ∷ l) m = let e = active-append (suc k) l m in grind (arith, ints)
 
--- the last of the first n axes
-module _ (axes : List Axis) (n : ℕ) (some : 0 < n) (h : n ≤ length axes) where
-  abbrev last : Axis
-  last = axis_at axes (n - 1)
-
-  last-of : active_from 0 (take n axes) ≡ active_from 0 (take (n - 1) axes) ++ active_from (n - 1) (last ∷ [])
+-- the axes in front, and the last
+module _ (axes front : List Axis) (last : Axis) (parted : axes ≡ push front last) where
+  last-of : active_from 0 axes ≡ active_from 0 front ++ active_from (length front) (last ∷ [])
   last-of =
-      let one : n - 1 + 1 ≡ n = omega arith in
-      let places : 0 + length (take (n - 1) axes) ≡ n - 1 = omega (arith, length-take-le (n - 1) axes (omega arith)) in
-      ap (λ (j : ℕ). active_from 0 (take j axes)) (sym one)
-      ∙ ap (active_from 0) (take_more axes (n - 1) (record { extent = 0; stride = pos 0 }) (omega arith))
-      ∙ active-append 0 (take (n - 1) axes) (last ∷ [])
-      ∙ ap (λ (k : ℕ). active_from 0 (take (n - 1) axes) ++ active_from k (last ∷ [])) places
+      let places : 0 + length front ≡ length front = omega arith in
+      ap (active_from 0) parted
+      ∙ active-append 0 front (last ∷ [])
+      ∙ ap (λ (k : ℕ). active_from 0 front ++ active_from k (last ∷ [])) places
 
-  pub left_out : last.extent ≤ 1 → active_from 0 (take n axes) ≡ active_from 0 (take (n - 1) axes)
+  left_out : last.extent ≤ 1 → active_from 0 axes ≡ active_from 0 front
   unfolding active_from
   left_out k = let e = last-of in grind (arith, nat_tests, append-nil)
 
-  put-last : 1 < last.extent → active_from 0 (take n axes) ≡ active_from 0 (take (n - 1) axes) ++ (active_axis (n - 1) last ∷ [])
+  put-last : 1 < last.extent → active_from 0 axes ≡ active_from 0 front ++ (active_axis (length front) last ∷ [])
   unfolding active_from
   put-last k = let e = last-of in grind (arith, nat_tests)
 
-  pub turned_one : 1 < last.extent
-      → reverse (active_from 0 (take n axes)) ≡ active_axis (n - 1) last ∷ reverse (active_from 0 (take (n - 1) axes))
-  turned_one k = ap reverse (put-last k) ∙ reverse-append (active_from 0 (take (n - 1) axes)) (active_axis (n - 1) last ∷ [])
+  turned_one : 1 < last.extent → reverse (active_from 0 axes) ≡ active_axis (length front) last ∷ reverse (active_from 0 front)
+  turned_one k = ap reverse (put-last k) ∙ reverse-append (active_from 0 front) (active_axis (length front) last ∷ [])
 
   module _ (before : ℕ) where
-    pub row_stops : span_after before last ≡ None → separated_in_order before (reverse (active_from 0 (take n axes))) ≡ false
+    pub row_stops : span_after before last ≡ None → separated_in_order before (reverse (active_from 0 axes)) ≡ false
     row_stops e =
         let g = turned_one in
-        let f = ends before (active_axis (n - 1) last) (reverse (active_from 0 (take (n - 1) axes))) in
+        let f = ends before (active_axis (length front) last) (reverse (active_from 0 front)) in
         grind (arith, nat_tests)
 
     pub row_goes_on : (next : ℕ) → span_after before last ≡ Some next
-        → separated_in_order before (reverse (active_from 0 (take n axes))) ≡ separated_in_order next (reverse (active_from 0 (take (n - 1) axes)))
+        → separated_in_order before (reverse (active_from 0 axes)) ≡ separated_in_order next (reverse (active_from 0 front))
     row_goes_on next e =
         let p = left_out in
         let g = turned_one in
-        let f = continues before (active_axis (n - 1) last) (reverse (active_from 0 (take (n - 1) axes))) in
+        let f = continues before (active_axis (length front) last) (reverse (active_from 0 front)) in
         grind (arith, nat_tests)
 
 -- none is left
-pub none_turned : (before : ℕ) (axes : List Axis) (n : ℕ) → n ≤ 0 → separated_in_order before (reverse (active_from 0 (take n axes))) ≡ true
+pub none_turned : (before : ℕ) (axes : List Axis) → length axes ≡ 0 → separated_in_order before (reverse (active_from 0 axes)) ≡ true
 unfolding separated_in_order active_from
-none_turned before axes n h = let e : n ≡ 0 = omega arith in rw e refl
+none_turned before [] h = refl
+none_turned before (a ∷ axes) h = absurd (omega arith)
 
-pub ruleset by_row = (row_stops, row_goes_on, none_turned, take_all)
+pub ruleset by_row = (row_stops, row_goes_on, none_turned)
 
 -- ---- separated axes are sorted, and have no block
 

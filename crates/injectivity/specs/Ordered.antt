@@ -1,9 +1,9 @@
--- What is told of axes in the order in which they stand, or from the last on, as the code tells it.
+-- What is answered of axes in the order in which they stand, or from the last on, as the code answers it.
 use Rattle.std.specs.Prelude.{Bool, true, ◌&&◌, List, [], ◌∷◌, ℕ, ◌+◌, ◌-◌, ◌*◌, ◌^◌, nat_lt, nat_abs, Option, Some, None, if◌then◌else◌}
 use Rattle.specification.specs.Axis.{Axis, active}
 use Rattle.specification.specs.Search.{ActiveAxis}
 
--- an axis is separated by those before it, whose absolute spans add up to `before`, and it is no larger than is told at sight
+-- an axis is separated by those before it, whose absolute spans add up to `before`, and it is no larger than is answered at sight
 abbrev pub goes_on : ℕ → ℕ → ℕ → Bool
 goes_on before extent stride = nat_lt before stride && nat_lt stride (2 ^ 32) && nat_lt extent (2 ^ 31)
 

@@ -155,7 +155,7 @@ pub fn is_injective_layout(
 }
 
 /// The verdict of at most 16 axes. Of axes that stand separated as they are, or from the last on, it
-/// is told before anything else is asked.
+/// is answered before anything else is asked.
 #[tactic(auto, using(crate::proofs::PlanLaws::settled, crate::proofs::PlanLaws::turned_down, crate::proofs::OrderedLaws::in_order))]
 fn judge_axes(axes: &[Axis], scratch: &mut [u64]) -> Result<Judgement, Refusal>
     requires { length axes.now ≤ 16 }
