@@ -1,4 +1,4 @@
--- Which lines ask for memory, by the words behind the name: each fault that is found before is told. Assumes nothing.
+-- Which lines may ask for memory, by the words behind the name; of every other line the answer or the fault is told, whatever memory there is. Assumes nothing.
 use Rattle.std.specs.Prelude.{ℕ, Bool, true, false, ◌&&◌, List, [], ◌∷◌, Option, Some, None, is_some}
 use Rattle.commands.specs.declared.command.Command.{Command}
 use Rattle.commands.specs.declared.command.Command.TheVariants as command
@@ -22,7 +22,7 @@ abbrev pub is_lent_if : Option Numbered → Bool
 is_lent_if None = true
 is_lent_if (Some w) = is_lent w.1
 
--- a command that changes the layout, of words as many as it takes: memory is for its lists and its bytes
+-- a command that changes the layout, with as many words as it takes: memory is for its lists and its bytes
 unfoldable pub change_asks : Change → List (List ℕ) → Bool
 change_asks New (len ∷ offset ∷ extents ∷ strides ∷ []) = are_placed len offset
 change_asks Set (len ∷ offset ∷ extents ∷ strides ∷ []) = are_placed len offset
@@ -33,7 +33,7 @@ change_asks Read (bytes ∷ []) = true
 change_asks Read (bytes ∷ words ∷ []) = true
 change_asks other words = false
 
--- a command that leaves the layout, of words as many as it takes: memory is for its lists, its bytes and its scratch; `show`, `normal` and `help` want none
+-- a command that leaves the layout, with as many words as it takes: memory is for its lists, its bytes and its scratch; `show`, `normal` and `help` want none
 unfoldable pub query_asks : Query → List (List ℕ) → Bool
 query_asks Bounds (len ∷ offset ∷ extents ∷ strides ∷ []) = are_placed len offset
 query_asks Offset (index ∷ []) = true
