@@ -1,3 +1,5 @@
 pub mod Shown
 pub mod ScratchLaws
 pub mod RecordText
+pub mod Named
+pub mod Asked

@@ -1,5 +1,5 @@
 -- The commands: their names, how each is used and what it does, and which of them a name means. Assumes nothing.
-use Rattle.std.specs.Prelude.{ℕ, List, [], ◌∷◌, ◌++◌, codes, Option, nat_eq}
+use Rattle.std.specs.Prelude.{ℕ, List, [], ◌∷◌, ◌++◌, codes, Option, Some, nat_eq, ◌≡◌}
 use Rattle.std.specs.List.{find}
 use Rattle.std.specs.Cmp.Lexicographic.{pointwise}
 use Rattle.commands.specs.declared.command.Command.{Command}
@@ -85,3 +85,7 @@ commands =
 -- the command with a name
 abbrev pub named : List ℕ → Option Command
 named name = find (λ command. pointwise nat_eq (name_of command) name) commands
+
+-- each command is found by its name: it stands in the list, and no other has its name
+abbrev pub EachIsNamed : Type 0
+EachIsNamed = (command : Command) → named (name_of command) ≡ Some command

@@ -2,3 +2,4 @@ pub mod Commands
 pub mod Replies
 pub mod Obeyed
 pub mod Scratch
+pub mod Asking

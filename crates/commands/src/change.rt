@@ -4,7 +4,8 @@ ghost use Rattle.specification.specs.Axis.{axes_of_lists};
 ghost use Rattle.specification.specs.Record.{read_of};
 ghost use Rattle.view.specs.Model.{model_of, first_axes, layout_outcome};
 ghost use Rattle.record.specs.Reading.{layout_read};
-ghost use Rattle.words.specs.Words.{Gives, numbered, numbered_if};
+ghost use Rattle.words.specs.Words.{Gives, MemoryOnlyIf, numbered, numbered_if};
+ghost use Rattle.commands.specs.Asking.{are_placed};
 ghost use Rattle.commands.specs.Obeyed.{or_most, four_parts, new_layout, set_layout, permuted, tied, stretched, read_layout};
 
 use crate::memory::{Memory, lend};
@@ -34,8 +35,9 @@ impl Given {
     /// What the four words spell, from the left.
     #[tactic(auto, unfolding(crate::specs::Obeyed::four_parts))]
     pub fn read<'a>(alloc: Global, words: Four<'a>) -> Result<Given, Problem<'a>>
-        ensures { Gives (λ g. (g.len, g.offset.0, g.extents.items, g.strides.items)) result
+        ensures told { Gives (λ g. (g.len, g.offset.0, g.extents.items, g.strides.items)) result
             (four_parts (numbered words.entry.0, numbered words.entry.1, numbered words.entry.2, numbered words.entry.3)) }
+        ensures memory { MemoryOnlyIf (are_placed words.entry.0.text.now words.entry.1.text.now) result }
     {
         let (len, offset, extents, strides) = words;
         Ok(Given {
@@ -50,8 +52,9 @@ impl Given {
 /// A layout that is checked in.
 #[tactic(auto, unfolding(crate::specs::Obeyed::new_layout))]
 pub fn new_layout<'a>(alloc: Global, words: Four<'a>) -> Result<Layout, Problem<'a>>
-    ensures { Gives model_of result (new_layout
+    ensures told { Gives model_of result (new_layout
         (numbered words.entry.0, numbered words.entry.1, numbered words.entry.2, numbered words.entry.3)) }
+    ensures memory { MemoryOnlyIf (are_placed words.entry.0.text.now words.entry.1.text.now) result }
 {
     let given = Given::read(alloc, words)?;
     let extents = given.extents.as_slice();
@@ -81,8 +84,9 @@ fn sixteen(given: &Given) -> [Axis; 16]
 /// A layout of any rank without check-in, of lists of one length; its first 16 axes in place.
 #[tactic(auto, unfolding(crate::specs::Obeyed::set_layout, crate::specs::Obeyed::unchecked))]
 pub fn set_layout<'a>(alloc: Global, words: Four<'a>) -> Result<Layout, Problem<'a>>
-    ensures { Gives model_of result (set_layout
+    ensures told { Gives model_of result (set_layout
         (numbered words.entry.0, numbered words.entry.1, numbered words.entry.2, numbered words.entry.3)) }
+    ensures memory { MemoryOnlyIf (are_placed words.entry.0.text.now words.entry.1.text.now) result }
 {
     let given = Given::read(alloc, words)?;
     let rank = given.extents.len();

@@ -61,7 +61,9 @@ pub const COMMANDS: [Command; 18] = [
 ];
 
 impl Command {
-    ghost use Rattle.commands.specs.Commands.{name_of, named, usage_of, meaning_of};
+    ghost use Rattle.std.specs.Prelude.{◌≢◌, IfNone};
+    ghost use Rattle.commands.specs.declared.command.Command.{Command};
+    ghost use Rattle.commands.specs.Commands.{name_of, named, usage_of, meaning_of, EachIsNamed};
 
     /// The word that a line begins with.
     #[tactic(auto, unfolding(crate::specs::Commands::name_of))]
@@ -90,14 +92,24 @@ impl Command {
         }
     }
 
-    /// The command with a name, if there is one.
-    pub fn named(name: &[u8]) -> Option<Command>
+    // The first command of the list that has a name.
+    fn first_named(name: &[u8]) -> Option<Command>
         ensures { result ≡ named name.now }
     {
         COMMANDS
             .iter()
             .copied()
             .find(|command| command.name().as_bytes() == name)
+    }
+
+    /// The command with a name, if there is one. Each command is found by its own.
+    #[tactic(auto, using(crate::proofs::Named::each, crate::proofs::Named::none))]
+    pub fn named(name: &[u8]) -> Option<Command>
+        ensures named { result ≡ named name.now }
+        ensures each { EachIsNamed }
+        ensures none { IfNone result ((command : Command) → name_of command ≢ name.now) }
+    {
+        Command::first_named(name)
     }
 
     /// The name with the words that the command takes; those in brackets may be left out.

@@ -1,7 +1,8 @@
 // A line of words obeyed: which function each command is.
 ghost use Rattle.std.specs.Prelude.{◌≡◌, OnErr, map};
 ghost use Rattle.view.specs.Model.{model_of};
-ghost use Rattle.words.specs.Words.{Gives};
+ghost use Rattle.words.specs.Words.{Gives, MemoryOnlyIf};
+ghost use Rattle.commands.specs.Asking.{change_asks, query_asks, asks_for_memory, line_asks};
 ghost use Rattle.commands.specs.Replies.{reply_text};
 ghost use Rattle.commands.specs.Obeyed.{next_layout, answer_text, run, obeyed};
 
@@ -19,7 +20,7 @@ use words::place::Word;
 use words::word::Words;
 
 // The layout after a command that changes it, with the words behind its name.
-#[tactic(auto, unfolding(crate::specs::Obeyed::next_layout))]
+#[tactic(auto, using(crate::proofs::Asked::one, crate::proofs::Asked::four, crate::proofs::Asked::read_asks), unfolding(crate::specs::Obeyed::next_layout, crate::specs::Asking::change_asks))]
 fn next_layout<'a>(
     alloc: Global,
     current: &Layout,
@@ -27,8 +28,9 @@ fn next_layout<'a>(
     change: Change,
     words: Words<'a>,
 ) -> Result<Layout, Problem<'a>>
-    ensures { Gives model_of result (next_layout (model_of current.now) change
+    ensures told { Gives model_of result (next_layout (model_of current.now) change
         words.entry.usage.now (map (λ text. text.now) words.entry.texts.now)) }
+    ensures memory { MemoryOnlyIf (change_asks change (map (λ text. text.now) words.entry.texts.now)) result }
 {
     match change {
         Change::New => new_layout(alloc, words.four()?),
@@ -41,7 +43,7 @@ fn next_layout<'a>(
 }
 
 // What a command answers that leaves the layout, with the words behind its name.
-#[tactic(auto, unfolding(crate::specs::Obeyed::answer_text))]
+#[tactic(auto, using(crate::proofs::Asked::one, crate::proofs::Asked::two, crate::proofs::Asked::four, crate::proofs::Asked::verdict_asks, crate::proofs::Asked::injective_asks, crate::proofs::Asked::record_asks), unfolding(crate::specs::Obeyed::answer_text, crate::specs::Asking::query_asks))]
 fn answer<'a>(
     alloc: Global,
     current: &Layout,
@@ -49,8 +51,9 @@ fn answer<'a>(
     query: Query,
     words: Words<'a>,
 ) -> Result<Reply, Problem<'a>>
-    ensures { Gives reply_text result (answer_text (model_of current.now) query
+    ensures told { Gives reply_text result (answer_text (model_of current.now) query
         words.entry.usage.now (map (λ text. text.now) words.entry.texts.now)) }
+    ensures memory { MemoryOnlyIf (query_asks query (map (λ text. text.now) words.entry.texts.now)) result }
 {
     match query {
         Query::Bounds => bounds(alloc, words.four()?),
@@ -61,7 +64,7 @@ fn answer<'a>(
         Query::Offset => offset(alloc, current, words.one()?),
         Query::Normal => {
             words.none()?;
-            normal(current)
+            Ok(normal(current)?)
         }
         Query::Verdict => verdict(current, memory, words.up_to_one()?),
         Query::Injective => injective(alloc, memory, words.two_or_three()?),
@@ -70,7 +73,7 @@ fn answer<'a>(
         Query::Order => order(alloc, words.two()?),
         Query::Column => column(alloc, words.one()?),
         Query::Row => row(alloc, words.one()?),
-        Query::Help => help(words.up_to_one()?),
+        Query::Help => Ok(help(words.up_to_one()?)?),
     }
 }
 
@@ -85,6 +88,7 @@ fn run<'a>(
 ) -> Result<Reply, Problem<'a>>
     ensures told { Gives (λ reply. record { text = reply_text reply; layout = model_of current.new }) result
         (run (model_of current.old) command (map (λ text. text.now) texts.now)) }
+    ensures memory { MemoryOnlyIf (asks_for_memory command (map (λ text. text.now) texts.now)) result }
     ensures kept { OnErr result (current.new ≡ current.old) }
 {
     let words = Words {
@@ -111,6 +115,7 @@ pub fn obey<'a>(
 ) -> Result<Reply, Problem<'a>>
     ensures told { Gives (λ reply. record { text = reply_text reply; layout = model_of current.new }) result
         (obeyed (model_of current.old) name.now (map (λ text. text.now) texts.now)) }
+    ensures memory { MemoryOnlyIf (line_asks name.now (map (λ text. text.now) texts.now)) result }
     ensures kept { OnErr result (current.new ≡ current.old) }
 {
     match Command::named(name) {

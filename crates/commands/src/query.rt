@@ -1,13 +1,13 @@
 // The commands that answer and leave the current layout.
-ghost use Rattle.std.specs.Prelude.{◌≡◌, ◌≢◌, Err, IfOk, length};
+ghost use Rattle.std.specs.Prelude.{◌≡◌, ◌&&◌, IfOk, length};
 ghost use Rattle.specification.specs.Record.{written};
 ghost use Rattle.specification.specs.Verdict.{verdict};
 ghost use Rattle.specification.specs.Beside.{col_major, row_major};
 ghost use Rattle.view.specs.Model.{model_of};
-ghost use Rattle.words.specs.Words.{Gives, numbered, numbered_if};
+ghost use Rattle.words.specs.Words.{Tells, Gives, MemoryOnlyIf, numbered, numbered_if};
 ghost use Rattle.injectivity.specs.Judgement.{axes_judged, judged_of, told_of};
-ghost use Rattle.words.specs.declared.fault.Problem.TheVariants.{Memory as out_of_memory};
 ghost use Rattle.commands.specs.Scratch.{bytes_made, front_written};
+ghost use Rattle.commands.specs.Asking.{are_placed, is_lent, is_lent_if};
 ghost use Rattle.commands.specs.Replies.{reply_text};
 ghost use Rattle.commands.specs.Obeyed.{or_most, bounds_text, offset_text, normal_text, verdict_of, injective_text, record_text, rest_text, order_text, dense_text, help_text};
 
@@ -35,8 +35,9 @@ use words::word::ENTRIES_MOST;
 /// Whether check-in finds the bounds of a layout right.
 #[tactic(auto, unfolding(crate::specs::Obeyed::bounds_text))]
 pub fn bounds<'a>(alloc: Global, words: Four<'a>) -> Result<Reply, Problem<'a>>
-    ensures { Gives reply_text result (bounds_text
+    ensures told { Gives reply_text result (bounds_text
         (numbered words.entry.0, numbered words.entry.1, numbered words.entry.2, numbered words.entry.3)) }
+    ensures memory { MemoryOnlyIf (are_placed words.entry.0.text.now words.entry.1.text.now) result }
 {
     let given = Given::read(alloc, words)?;
     let extents = given.extents.as_slice();
@@ -57,9 +58,8 @@ pub fn offset<'a>(alloc: Global, current: &Layout, index: Word<'a>) -> Result<Re
 
 /// The normal form of the current layout.
 #[tactic(auto, unfolding(crate::specs::Obeyed::normal_text))]
-pub fn normal<'a>(current: &Layout) -> Result<Reply, Problem<'a>>
-    ensures told { Gives reply_text result (normal_text (model_of current.now)) }
-    ensures allocates_nothing { result ≢ Err out_of_memory }
+pub fn normal<'a>(current: &Layout) -> Result<Reply, Fault<'a>>
+    ensures { Tells reply_text result (normal_text (model_of current.now)) }
 {
     Ok(Reply::Current(normal_form(current)?))
 }
@@ -82,13 +82,14 @@ fn judge(
 }
 
 /// The verdict on a layout's axes.
-#[tactic(auto, unfolding(crate::specs::Obeyed::verdict_of, crate::specs::Obeyed::judged_text))]
+#[tactic(auto, using(crate::proofs::Asked::given), unfolding(crate::specs::Obeyed::verdict_of, crate::specs::Obeyed::judged_text))]
 pub fn verdict<'a>(
     current: &Layout,
     memory: &mut Memory,
     words: Option<Word<'a>>,
 ) -> Result<Reply, Problem<'a>>
-    ensures { Gives reply_text result (verdict_of (model_of current.now) (numbered_if words.entry)) }
+    ensures told { Gives reply_text result (verdict_of (model_of current.now) (numbered_if words.entry)) }
+    ensures memory { MemoryOnlyIf (is_lent_if (numbered_if words.entry)) result }
 {
     let words = words_given(words)?;
     Ok(Reply::Judged(judge(current, &mut memory.scratch, words)??))
@@ -154,15 +155,17 @@ fn write(
 }
 
 /// The record of the current layout, in so many bytes.
-#[tactic(auto, using(crate::proofs::RecordText::record_told), unfolding(crate::specs::Obeyed::record_text))]
+#[tactic(auto, using(crate::proofs::RecordText::record_told, crate::proofs::Asked::given), unfolding(crate::specs::Obeyed::record_text))]
 pub fn record<'a>(
     alloc: Global,
     current: &Layout,
     memory: &mut Memory,
     words: (Word<'a>, Option<Word<'a>>),
 ) -> Result<Reply, Problem<'a>>
-    ensures { Gives reply_text result (record_text (model_of current.now)
+    ensures told { Gives reply_text result (record_text (model_of current.now)
         (numbered words.entry.0, numbered_if words.entry.1)) }
+    ensures memory { MemoryOnlyIf
+        (is_lent words.entry.0.text.now && is_lent_if (numbered_if words.entry.1)) result }
 {
     let (room, words) = words;
     let Lent(bytes) = room.one()?;
@@ -214,15 +217,14 @@ pub fn row<'a>(alloc: Global, extents: Word<'a>) -> Result<Reply, Problem<'a>>
 
 /// What a command does, or each of them.
 #[tactic(auto, unfolding(crate::specs::Obeyed::help_text))]
-pub fn help<'a>(name: Option<Word<'a>>) -> Result<Reply, Problem<'a>>
-    ensures told { Gives reply_text result (help_text (numbered_if name.entry)) }
-    ensures allocates_nothing { result ≢ Err out_of_memory }
+pub fn help<'a>(name: Option<Word<'a>>) -> Result<Reply, Fault<'a>>
+    ensures { Tells reply_text result (help_text (numbered_if name.entry)) }
 {
     let Some(word) = name else {
         return Ok(Reply::AllHelp);
     };
     match Command::named(word.text) {
         Some(command) => Ok(Reply::Help(command)),
-        None => Err(Fault::UnknownCommand(word).into()),
+        None => Err(Fault::UnknownCommand(word)),
     }
 }

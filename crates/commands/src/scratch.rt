@@ -1,17 +1,17 @@
 // How many words of scratch a line lends: those that it names, or as many as are needed.
 ghost use Rattle.std.specs.Prelude.{◌≡◌, Option};
-ghost use Rattle.words.specs.Words.{Gives, numbered_if};
+ghost use Rattle.words.specs.Words.{Tells, numbered_if};
 ghost use Rattle.commands.specs.Obeyed.{words_given};
 ghost use Rattle.commands.specs.Scratch.{words_lacking};
 
 use view::layout::Refusal;
-use words::fault::Problem;
+use words::fault::Fault;
 use words::place::Word;
 use words::spelled::Lent;
 
 /// WORDS, where the line has them.
-pub fn words_given<'a>(words: Option<Word<'a>>) -> Result<Option<usize>, Problem<'a>>
-    ensures { Gives (λ words. words) result (words_given (numbered_if words.entry)) }
+pub fn words_given<'a>(words: Option<Word<'a>>) -> Result<Option<usize>, Fault<'a>>
+    ensures { Tells (λ words. words) result (words_given (numbered_if words.entry)) }
 {
     let Some(word) = words else {
         return Ok(None);

@@ -1,5 +1,5 @@
 -- The words of a line and what they spell, or the first fault from the left. Assumes nothing.
-use Rattle.std.specs.Prelude.{ℕ, Bool, not, ◌&&◌, ◌||◌, List, [], ◌∷◌, ◌+◌, ◌==◌, nat_lt, length, slice_index, filter, if◌then◌else◌, Option, Some, None, Result, Ok, Err, ◌≡◌}
+use Rattle.std.specs.Prelude.{ℕ, Bool, not, ◌&&◌, ◌||◌, List, [], ◌∷◌, ◌+◌, ◌==◌, nat_lt, length, slice_index, filter, if◌then◌else◌, Option, Some, None, Result, Ok, Err, ◌≡◌, IsTrue, ⊤}
 use Rattle.std.specs.List.{slice_split}
 use Rattle.std.specs.Io.BufRead.{strip_last}
 use Rattle.hex.specs.Hex.{decode_of}
@@ -7,6 +7,7 @@ use Rattle.hex.specs.declared.error.FromHexError.{FromHexError}
 use Rattle.hex.specs.declared.error.FromHexError.TheVariants.{OddLength}
 use Rattle.words.specs.declared.place.Word.{Word}
 use Rattle.words.specs.declared.fault.Form.{Form}
+use Rattle.words.specs.declared.fault.Fault.{Fault}
 use Rattle.words.specs.declared.fault.Problem.{Problem}
 use Rattle.words.specs.declared.fault.Problem.TheVariants as problem
 use Rattle.words.specs.Texts.{at_word, at_entry, word_count, misspelled, many_entries, odd_digits, bad_digit, fault_text}
@@ -22,6 +23,11 @@ abbrev pub ◌>>=◌ : {A B : Type 0} → Told A → (A → Told B) → Told B
 (Ok x) >>= f = f x
 (Err text) >>= f = Err text
 
+-- what a function returned that asks for no memory, seen by view, is what the definition gives
+abbrev pub Tells : {X Y : Type 0} → (X → Y) → Result X Fault → Told Y → Type 0
+Tells view (Ok x) told = told ≡ Ok (view x)
+Tells view (Err fault) told = told ≡ Err (fault_text fault)
+
 -- a problem is the fault that the definition gives, or that memory ran out
 abbrev pub Fails : {Y : Type 0} → Problem → Told Y → Type 0
 Fails problem.Memory told = Unit {0}
@@ -31,6 +37,12 @@ Fails (problem.Told fault) told = told ≡ Err (fault_text fault)
 abbrev pub Gives : {X Y : Type 0} → (X → Y) → Result X Problem → Told Y → Type 0
 Gives view (Ok x) told = told ≡ Ok (view x)
 Gives view (Err p) told = Fails p told
+
+-- memory ran out only if it was asked for
+abbrev pub MemoryOnlyIf : {X : Type 0} → Bool → Result X Problem → Type 0
+MemoryOnlyIf asked (Ok x) = ⊤
+MemoryOnlyIf asked (Err problem.Memory) = IsTrue asked
+MemoryOnlyIf asked (Err (problem.Told fault)) = ⊤
 
 -- ---- words
 

@@ -38,6 +38,14 @@ pub enum Problem<'a> {
     Told(Fault<'a>),
 }
 
+impl<'a> From<Refusal> for Fault<'a> {
+    ghost from_gives = { λ why fault. fault ≡ Refused why };
+
+    fn from(why: Refusal) -> Fault<'a> {
+        Fault::Refused(why)
+    }
+}
+
 impl<'a> From<Fault<'a>> for Problem<'a> {
     ghost from_gives = { λ fault p. p ≡ Told fault };
 

@@ -1,7 +1,7 @@
 // Words of a line, and what they spell.
 ghost use Rattle.std.specs.Prelude.{◌≡◌, ◌≤◌, IfOk, length, map, vec_len};
 ghost use Rattle.std.specs.Io.BufRead.{strip_last};
-ghost use Rattle.words.specs.Words.{Gives, is_space, words, numbered, numbered_if, no_word, one_word, two_words, four_words, up_to_one_word, one_or_two_words, two_or_three_words, is_none, entries, one_of, list_of, listed, bytes_of};
+ghost use Rattle.words.specs.Words.{Tells, Gives, is_space, words, numbered, numbered_if, no_word, one_word, two_words, four_words, up_to_one_word, one_or_two_words, two_or_three_words, is_none, entries, one_of, list_of, listed, bytes_of};
 
 use crate::fault::{Fault, Problem};
 use crate::place::{Place, Word};
@@ -47,41 +47,41 @@ pub fn words_of(alloc: Global, line: &[u8]) -> Result<Vec<&[u8]>, AllocError>
 
 impl<'a> Words<'a> {
     #[tactic(auto, unfolding(crate::specs::Words::no_word))]
-    pub fn none(self) -> Result<(), Problem<'a>>
-        ensures { Gives (λ none. none) result
+    pub fn none(self) -> Result<(), Fault<'a>>
+        ensures { Tells (λ none. none) result
             (no_word self.entry.usage.now (map (λ text. text.now) self.entry.texts.now)) }
     {
         match self.texts {
             [] => Ok(()),
-            [..] => Err(Fault::WordCount(self.usage).into()),
+            [..] => Err(Fault::WordCount(self.usage)),
         }
     }
 
     #[tactic(auto, unfolding(crate::specs::Words::one_word))]
-    pub fn one(self) -> Result<Word<'a>, Problem<'a>>
-        ensures { Gives numbered result
+    pub fn one(self) -> Result<Word<'a>, Fault<'a>>
+        ensures { Tells numbered result
             (one_word self.entry.usage.now (map (λ text. text.now) self.entry.texts.now)) }
     {
         match self.texts {
             [a] => Ok(Word::new(2, *a)),
-            [..] => Err(Fault::WordCount(self.usage).into()),
+            [..] => Err(Fault::WordCount(self.usage)),
         }
     }
 
     #[tactic(auto, unfolding(crate::specs::Words::two_words))]
-    pub fn two(self) -> Result<(Word<'a>, Word<'a>), Problem<'a>>
-        ensures { Gives (λ w. (numbered w.0, numbered w.1)) result
+    pub fn two(self) -> Result<(Word<'a>, Word<'a>), Fault<'a>>
+        ensures { Tells (λ w. (numbered w.0, numbered w.1)) result
             (two_words self.entry.usage.now (map (λ text. text.now) self.entry.texts.now)) }
     {
         match self.texts {
             [a, b] => Ok((Word::new(2, *a), Word::new(3, *b))),
-            [..] => Err(Fault::WordCount(self.usage).into()),
+            [..] => Err(Fault::WordCount(self.usage)),
         }
     }
 
     #[tactic(auto, unfolding(crate::specs::Words::four_words))]
-    pub fn four(self) -> Result<(Word<'a>, Word<'a>, Word<'a>, Word<'a>), Problem<'a>>
-        ensures { Gives (λ w. (numbered w.0, numbered w.1, numbered w.2, numbered w.3)) result
+    pub fn four(self) -> Result<(Word<'a>, Word<'a>, Word<'a>, Word<'a>), Fault<'a>>
+        ensures { Tells (λ w. (numbered w.0, numbered w.1, numbered w.2, numbered w.3)) result
             (four_words self.entry.usage.now (map (λ text. text.now) self.entry.texts.now)) }
     {
         match self.texts {
@@ -91,46 +91,46 @@ impl<'a> Words<'a> {
                 Word::new(4, *c),
                 Word::new(5, *d),
             )),
-            [..] => Err(Fault::WordCount(self.usage).into()),
+            [..] => Err(Fault::WordCount(self.usage)),
         }
     }
 
     /// One word, which may be left out.
     #[tactic(auto, unfolding(crate::specs::Words::up_to_one_word))]
-    pub fn up_to_one(self) -> Result<Option<Word<'a>>, Problem<'a>>
-        ensures { Gives numbered_if result
+    pub fn up_to_one(self) -> Result<Option<Word<'a>>, Fault<'a>>
+        ensures { Tells numbered_if result
             (up_to_one_word self.entry.usage.now (map (λ text. text.now) self.entry.texts.now)) }
     {
         match self.texts {
             [] => Ok(None),
             [a] => Ok(Some(Word::new(2, *a))),
-            [..] => Err(Fault::WordCount(self.usage).into()),
+            [..] => Err(Fault::WordCount(self.usage)),
         }
     }
 
     /// Two words, of which the second may be left out.
     #[tactic(auto, unfolding(crate::specs::Words::one_or_two_words))]
-    pub fn one_or_two(self) -> Result<(Word<'a>, Option<Word<'a>>), Problem<'a>>
-        ensures { Gives (λ w. (numbered w.0, numbered_if w.1)) result
+    pub fn one_or_two(self) -> Result<(Word<'a>, Option<Word<'a>>), Fault<'a>>
+        ensures { Tells (λ w. (numbered w.0, numbered_if w.1)) result
             (one_or_two_words self.entry.usage.now (map (λ text. text.now) self.entry.texts.now)) }
     {
         match self.texts {
             [a] => Ok((Word::new(2, *a), None)),
             [a, b] => Ok((Word::new(2, *a), Some(Word::new(3, *b)))),
-            [..] => Err(Fault::WordCount(self.usage).into()),
+            [..] => Err(Fault::WordCount(self.usage)),
         }
     }
 
     /// Three words, of which the third may be left out.
     #[tactic(auto, unfolding(crate::specs::Words::two_or_three_words))]
-    pub fn two_or_three(self) -> Result<(Word<'a>, Word<'a>, Option<Word<'a>>), Problem<'a>>
-        ensures { Gives (λ w. (numbered w.0, numbered w.1, numbered_if w.2)) result
+    pub fn two_or_three(self) -> Result<(Word<'a>, Word<'a>, Option<Word<'a>>), Fault<'a>>
+        ensures { Tells (λ w. (numbered w.0, numbered w.1, numbered_if w.2)) result
             (two_or_three_words self.entry.usage.now (map (λ text. text.now) self.entry.texts.now)) }
     {
         match self.texts {
             [a, b] => Ok((Word::new(2, *a), Word::new(3, *b), None)),
             [a, b, c] => Ok((Word::new(2, *a), Word::new(3, *b), Some(Word::new(4, *c)))),
-            [..] => Err(Fault::WordCount(self.usage).into()),
+            [..] => Err(Fault::WordCount(self.usage)),
         }
     }
 }
@@ -150,12 +150,12 @@ impl<'a> Word<'a> {
     }
 
     /// What the word spells.
-    pub fn one<T: Spelled>(self) -> Result<T, Problem<'a>>
-        ensures { Gives (λ x. x) result (one_of T.spelled T.form (numbered self.entry)) }
+    pub fn one<T: Spelled>(self) -> Result<T, Fault<'a>>
+        ensures { Tells (λ x. x) result (one_of T.spelled T.form (numbered self.entry)) }
     {
         match T::read(self.text) {
             Some(x) => Ok(x),
-            None => Err(Problem::Told(Fault::Misspelled(Place::Word(self), T::form()))),
+            None => Err(Fault::Misspelled(Place::Word(self), T::form())),
         }
     }
 
