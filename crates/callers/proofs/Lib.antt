@@ -1,0 +1,5 @@
+pub mod Compared
+pub mod Kept
+pub mod Records
+pub mod Sheets
+pub mod Verdicts
