@@ -22,9 +22,11 @@ module _ (a b : LayoutModel) (cs ds : List Call) (output other scratch output-th
       let h = had_room (end_of a cs) (length output) (length scratch) n w.answered in
       record { told = t.answer; byte = m.verdict; long = omega (arith, h.room_there, m.as_long) }
 
-  -- one was refused: it had no room
-  pub compared_answered : (number : ℕ) (values : List ℕ) → Means a b cs ds output other scratch (refused number values) output-then other-then scratch-then
-      → HasRoom (end_of a cs) (length output) (length scratch) → ¬ (HasRoom (end_of b ds) (length other) (length scratch))
-  compared_answered number values (first_refused w) h k = not_refused (end_of a cs) (length output) (length scratch) number values w.answered h
-  compared_answered number values (second_refused {n} w v) h k =
-      let m = w.made n refl in not_refused (end_of b ds) (length other) _ number values v.answered (record { few = k.few; room_there = k.room_there; words_there = omega (arith, k.words_there, m.scratch_as_long) })
+-- one was refused: it had no room
+pub compared_answered : (a b : LayoutModel) (cs ds : List Call) (output other scratch output-then other-then scratch-then : List ℕ) (number : ℕ) (values : List ℕ)
+    → Means a b cs ds output other scratch (refused number values) output-then other-then scratch-then
+    → HasRoom (end_of a cs) (length output) (length scratch) → ¬ (HasRoom (end_of b ds) (length other) (length scratch))
+compared_answered a b cs ds output other scratch _ _ _ number values (first_refused w) h k = not_refused (end_of a cs) (length output) (length scratch) number values w.answered h
+compared_answered a b cs ds output other scratch _ _ _ number values (second_refused {n} {between = between} w v) h k =
+    let m = w.made n refl in
+    not_refused (end_of b ds) (length other) (length between) number values v.answered (record { few = k.few; room_there = k.room_there; words_there = omega (arith, k.words_there, m.scratch_as_long) })

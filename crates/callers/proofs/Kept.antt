@@ -1,21 +1,22 @@
 -- Both ways of the round trip for whoever writes and reads in one scratch, from what `calls_hold`, `records_hold` and `verdicts_hold` promise.
-use Rattle.std.proofs.Common.{◌≡◌, refl, sym, ap, ◌∙◌, ℕ, ◌<◌, ◌≤◌, ◌⊎◌, inl, inr, List, [], ◌∷◌, length, take, Result, Ok, Err, arith}
+use Rattle.std.proofs.Common.{◌≡◌, refl, sym, ap, ◌∙◌, ℕ, ◌<◌, ◌≤◌, ◌⊎◌, inl, inr, List, [], ◌∷◌, length, take, Result, Ok, Err, IfOk, IfErr, IsOk, arith}
 use Rattle.std.proofs.lemmas.Bool.{cases_lt}
 use Rattle.specification.specs.Outcome.{Outcome, done, refused}
 use Rattle.specification.specs.Layout.{LayoutModel, IsAccepted}
 use Rattle.specification.specs.Normal.{normal_of}
 use Rattle.specification.specs.NormalClaims.{SameOffsets, NormalClaims}
-use Rattle.specification.specs.Verdict.{words_needed}
+use Rattle.specification.specs.Verdict.{Judged, judge, words_needed}
 use Rattle.specification.specs.VerdictClaims.{VerdictClaims}
 use Rattle.specification.specs.Record.{WasRead, read_of, layout_from, with_buffer, length_field, Writing}
 use Rattle.specification.specs.RecordClaims.{Bytes, ReadRefused, ReaderClaims}
 use Rattle.specification.specs.RecordsAgree.{Side, RecordsAgreeClaim}
 use Rattle.specification.specs.Calls.{end_of}
+use Rattle.specification.proofs.OutcomeLaws.{done_inj}
 use Rattle.specification.proofs.ReaderLaws.{reads}
 use Rattle.view.specs.declared.layout.Layout.{Layout}
 use Rattle.view.specs.declared.layout.Refusal.{Refusal}
 use Rattle.view.specs.Answers.{number_of, values_of}
-use Rattle.view.specs.Model.{model_of}
+use Rattle.view.specs.Model.{model_of, layout_outcome}
 use Rattle.record.specs.declared.fields.BytePlace.{BytePlace}
 use Rattle.record.specs.Writer.{wrote_of, Wrote}
 use Rattle.record.specs.Reading.{layout_read, Reading}
@@ -46,6 +47,12 @@ pub form_reads_same : (l : LayoutModel) → NormalClaims → SameOffsets (with_b
 unfolding with_buffer
 form_reads_same l n = let s = n.same l in record { as_many = s.as_many; alike = s.alike }
 
+-- the same of the answer of the call
+pub kept : (r : Result Layout Refusal) (l : LayoutModel) → NormalClaims → layout_outcome r ≡ done (with_buffer (normal_of l))
+    → IfOk r (λ read. model_of read ≡ with_buffer (normal_of l)) × IfOk r (λ read. SameOffsets (model_of read) l) × IsOk r
+kept (Ok read) l n e = let p = done_inj e in (p, rw p (form_reads_same l n), refl)
+kept (Err why) l n e = absurd cc
+
 pub write_answered : (l : Layout) (why : Refusal) (output scratch output-then scratch-then : List ℕ) → RecordsAgreeClaim → Wrote l output scratch (Err why) output-then scratch-then
     → IsAccepted (model_of l) → ¬ (HasRoom (model_of l) (length output) (length scratch))
 unfolding end_of
@@ -65,11 +72,11 @@ words_enough bytes words x v e =
     let d = was_read (read_of bytes words) e in
     let r = reads bytes words d.0 d.1 in
     let q : x ≡ layout_from bytes = d.2 ∙ ap (λ (w : WasRead). w.layout) r.is in
-    rw q (go r.judged (cases_lt words (words_needed (layout_from bytes).axes)))
+    rw q (go r.j r.judged (cases_lt words (words_needed (layout_from bytes).axes)))
   where
-    go : _ → (words < words_needed (layout_from bytes).axes) ⊎ (words_needed (layout_from bytes).axes ≤ words) → words_needed (layout_from bytes).axes ≤ words
-    go j (inl h) = let p = (v.needed (layout_from bytes).axes words (words_needed (layout_from bytes).axes ∷ [])).1 (h, refl) in absurd cc
-    go j (inr h) = h
+    go : (j : Judged) → judge (layout_from bytes).axes words ≡ done j → (words < words_needed (layout_from bytes).axes) ⊎ (words_needed (layout_from bytes).axes ≤ words) → words_needed (layout_from bytes).axes ≤ words
+    go j e (inl h) = let p = (v.needed (layout_from bytes).axes words (words_needed (layout_from bytes).axes ∷ [])).1 (h, refl) in absurd cc
+    go j e (inr h) = h
 
 pub written_again : (bytes scratch scratch-then output output-then scratch-last : List ℕ) (l : Layout) (wrote : Result BytePlace Refusal) → VerdictClaims → RunningRoundTrip → Bytes bytes
     → Reading bytes scratch (done (model_of l)) scratch-then → length_field bytes ≤ length output → Wrote l output scratch-then wrote output-then scratch-last
@@ -77,6 +84,12 @@ pub written_again : (bytes scratch scratch-then output output-then scratch-last 
 written_again bytes scratch scratch-then output output-then scratch-last l wrote v trip b r k w =
     trip.read_write bytes scratch scratch-then l b r output scratch-then output-then scratch-last wrote
     (omega (arith, words_enough bytes (length scratch) (model_of l) v r.answer_is, r.scratch_is.0)) k w
+
+-- the same of the answer of the call, if there is room
+pub again : (r : Result BytePlace Refusal) (n room : ℕ) (bytes output : List ℕ) (P : Refusal → Type 0) → (n ≤ room → (wrote_of r ≡ done n) × (take n output ≡ take n bytes))
+    → (n ≤ room → IfOk r (λ end. take end.0 output ≡ take end.0 bytes)) × (n ≤ room → IfOk r (λ end. end.0 ≡ n)) × (n ≤ room → IfErr r P)
+again (Ok end) n room bytes output P t = (λ h. rw (done_inj (t h).0) (t h).1, λ h. done_inj (t h).0, λ h. tt)
+again (Err why) n room bytes output P t = (λ h. tt, λ h. tt, λ h. let p = (t h).0 in absurd cc)
 
 read_refused_by : {number : ℕ} {values : List ℕ} (o : Outcome WasRead) → refused number values ≡ layout_read o → o ≡ refused number values
 read_refused_by (done w) e = absurd cc

