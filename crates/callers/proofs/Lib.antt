@@ -1,3 +1,4 @@
+pub mod Chained
 pub mod Compared
 pub mod Kept
 pub mod Records

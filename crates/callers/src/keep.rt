@@ -9,11 +9,10 @@ ghost use Rattle.view.specs.Answers.{number_of, values_of};
 ghost use Rattle.view.specs.Model.{model_of};
 ghost use Rattle.callers.specs.Records.{HasRoom};
 
-use record::calls_hold;
 use record::fields::BytePlace;
 use record::read::read_record;
-use record::records_hold;
 use record::writer::write_record;
+use record::{calls_hold, records_hold};
 use specification::{normal_forms_hold, verdicts_hold};
 use view::layout::{Layout, Refusal};
 

@@ -71,20 +71,29 @@ pub fn same_after_steps(
     steps: Steps<'_>,
     second: Sheet<'_>,
     calls: (Call<'_>, Call<'_>),
-    lent: (&mut [u8], &mut [u64]),
-    other_lent: (&mut [u8], &mut [u64]),
+    output: &mut [u8],
+    scratch: &mut [u64],
+    other_output: &mut [u8],
+    other_scratch: &mut [u64],
 ) -> Result<(Answers, bool), Refusal>
     ensures run { IfOk result (λ answer. Run (sheet_of first.entry) (calls_of steps.entry)
         (answers_in answer.0) (end_of (sheet_of first.entry) (calls_of steps.entry))) }
     ensures same { IfOk result (λ answer. IsTrue answer.1
         ↔ SameOffsets (end_of (sheet_of first.entry) (calls_of steps.entry))
         (end_of (sheet_of second.entry) (call_in calls.entry.0 ∷ call_in calls.entry.1 ∷ []))) }
+    ensures answered { IsFit first.entry → IsFit second.entry
+        → HasRoom (end_of (sheet_of first.entry) (calls_of steps.entry))
+        (length output.old) (length scratch.old)
+        → HasRoom (end_of (sheet_of second.entry)
+        (call_in calls.entry.0 ∷ call_in calls.entry.1 ∷ []))
+        (length other_output.old) (length other_scratch.old)
+        → IsOk result }
 {
     calls_hold();
     let mut layout = first.checked_in()?;
     let answers = steps.made_in(&mut layout);
     let (_, end) = two_views(second.checked_in()?, calls.0, calls.1);
-    let BytePlace(size) = write_record(&layout, lent.0, lent.1)?;
-    let BytePlace(other_size) = write_record(&end.layout, other_lent.0, other_lent.1)?;
-    Ok((answers, lent.0[..size] == other_lent.0[..other_size]))
+    let BytePlace(size) = write_record(&layout, output, scratch)?;
+    let BytePlace(other_size) = write_record(&end.layout, other_output, other_scratch)?;
+    Ok((answers, output[..size] == other_output[..other_size]))
 }

@@ -36,11 +36,7 @@ pub fn may_write(
 
 /// Whether no two positions of two lists share a cell, as far as the budgets reach.
 #[tactic(auto, using(crate::proofs::Verdicts::lists_told, crate::proofs::Verdicts::lists_answered))]
-pub fn stand_apart(
-    extents: &[u64],
-    strides: &[i64],
-    scratch: &mut [u64],
-) -> Result<bool, Refusal>
+pub fn stand_apart(extents: &[u64], strides: &[i64], scratch: &mut [u64]) -> Result<bool, Refusal>
     ensures told { IfOk result (λ apart. IsTrue apart
         ↔ (¬ (BothBudgetsPassed (axes_of_lists extents.now strides.now)))
         × (¬ (SharesOffset (axes_of_lists extents.now strides.now)))) }
