@@ -1,4 +1,4 @@
--- Both ways of the round trip for whoever writes and reads in one scratch, from what `calls_hold`, `records_hold` and `verdicts_hold` promise.
+-- Both ways of the round trip for whoever writes and reads in one scratch, from what `calls_hold`, `records_hold` and `normal_forms_hold` promise.
 use Rattle.std.proofs.Common.{◌≡◌, refl, sym, ap, ◌∙◌, ℕ, ◌<◌, ◌≤◌, ◌⊎◌, inl, inr, List, [], ◌∷◌, length, take, Result, Ok, Err, IfOk, IfErr, IsOk, arith}
 use Rattle.std.proofs.lemmas.Bool.{cases_lt}
 use Rattle.specification.specs.Outcome.{Outcome, done, refused}
@@ -20,6 +20,7 @@ use Rattle.view.specs.Model.{model_of, layout_outcome}
 use Rattle.record.specs.declared.fields.BytePlace.{BytePlace}
 use Rattle.record.specs.Writer.{wrote_of, Wrote}
 use Rattle.record.specs.Reading.{layout_read, Reading}
+use Rattle.record.specs.Lent.{LentClaims}
 use Rattle.record.specs.Running.{RunningRoundTrip}
 use Rattle.record.proofs.SameLaws.{writing, accepted}
 use Rattle.callers.specs.Records.{HasRoom}
@@ -33,15 +34,12 @@ side : RecordsAgreeClaim → {x : LayoutModel} {output scratch output-then scrat
 unfolding end_of
 side agree {x} a w = (agree x x a a [] [] _ _ _ _ _ _ _ _ _ _ w w).first
 
-pub read_is_form : (l : Layout) (place : BytePlace) (output scratch output-then scratch-then scratch-last : List ℕ) (answer : Outcome LayoutModel) → RecordsAgreeClaim → RunningRoundTrip
+pub read_is_form : (l : Layout) (place : BytePlace) (output scratch output-then scratch-then scratch-last : List ℕ) (answer : Outcome LayoutModel) → LentClaims → RunningRoundTrip
     → Wrote l output scratch (Ok place) output-then scratch-then → Reading output-then scratch-then answer scratch-last → answer ≡ done (with_buffer (normal_of (model_of l)))
-unfolding end_of
-read_is_form l place output scratch output-then scratch-then scratch-last answer agree trip w r =
+read_is_form l place output scratch output-then scratch-then scratch-last answer lent trip w r =
     let x = writing l output scratch (Ok place) output-then scratch-then w in
-    let s = side agree (accepted x) x in
-    let h = had_room (model_of l) (length output) (length scratch) place.0 s.answered in
     trip.write_read l output scratch output-then scratch-then (Ok place) place.0 (accepted x) w refl scratch-then scratch-last answer
-    (omega (arith, h.words_there, (s.made place.0 refl).scratch_as_long)) r
+    (omega (arith, lent.lent_to_write l output scratch output-then scratch-then (Ok place) place.0 w refl, x.scratch_is.0)) r
 
 pub form_reads_same : (l : LayoutModel) → NormalClaims → SameOffsets (with_buffer (normal_of l)) l
 unfolding with_buffer
@@ -62,28 +60,12 @@ write_answered l why output scratch output-then scratch-then agree w a h =
 
 -- ---- read, then write
 
--- a layout that was read: the words were enough for its verdict
-was_read : {x : LayoutModel} (o : Outcome WasRead) → done x ≡ layout_read o → (w : WasRead) × (o ≡ done w) × (x ≡ w.layout)
-was_read (done w) e = (w, refl, cc)
-was_read (refused number values) e = absurd cc
-
-words_enough : (bytes : List ℕ) (words : ℕ) (x : LayoutModel) → VerdictClaims → done x ≡ layout_read (read_of bytes words) → words_needed x.axes ≤ words
-words_enough bytes words x v e =
-    let d = was_read (read_of bytes words) e in
-    let r = reads bytes words d.0 d.1 in
-    let q : x ≡ layout_from bytes = d.2 ∙ ap (λ (w : WasRead). w.layout) r.is in
-    rw q (go r.j r.judged (cases_lt words (words_needed (layout_from bytes).axes)))
-  where
-    go : (j : Judged) → judge (layout_from bytes).axes words ≡ done j → (words < words_needed (layout_from bytes).axes) ⊎ (words_needed (layout_from bytes).axes ≤ words) → words_needed (layout_from bytes).axes ≤ words
-    go j e (inl h) = let p = (v.needed (layout_from bytes).axes words (words_needed (layout_from bytes).axes ∷ [])).1 (h, refl) in absurd cc
-    go j e (inr h) = h
-
-pub written_again : (bytes scratch scratch-then output output-then scratch-last : List ℕ) (l : Layout) (wrote : Result BytePlace Refusal) → VerdictClaims → RunningRoundTrip → Bytes bytes
+pub written_again : (bytes scratch scratch-then output output-then scratch-last : List ℕ) (l : Layout) (wrote : Result BytePlace Refusal) → LentClaims → RunningRoundTrip → Bytes bytes
     → Reading bytes scratch (done (model_of l)) scratch-then → length_field bytes ≤ length output → Wrote l output scratch-then wrote output-then scratch-last
     → (wrote_of wrote ≡ done (length_field bytes)) × (take (length_field bytes) output-then ≡ take (length_field bytes) bytes)
-written_again bytes scratch scratch-then output output-then scratch-last l wrote v trip b r k w =
+written_again bytes scratch scratch-then output output-then scratch-last l wrote lent trip b r k w =
     trip.read_write bytes scratch scratch-then l b r output scratch-then output-then scratch-last wrote
-    (omega (arith, words_enough bytes (length scratch) (model_of l) v r.answer_is, r.scratch_is.0)) k w
+    (omega (arith, lent.lent_to_read bytes scratch scratch-then l r, r.scratch_is.0)) k w
 
 -- the same of the answer of the call, if there is room
 pub again : (r : Result BytePlace Refusal) (n room : ℕ) (bytes output : List ℕ) (P : Refusal → Type 0) → (n ≤ room → (wrote_of r ≡ done n) × (take n output ≡ take n bytes))

@@ -13,7 +13,7 @@ use record::fields::BytePlace;
 use record::read::read_record;
 use record::writer::write_record;
 use record::{calls_hold, records_hold};
-use specification::{normal_forms_hold, verdicts_hold};
+use specification::normal_forms_hold;
 use view::layout::{Layout, Refusal};
 
 /// A layout written as a record and read back, in one scratch: its normal form, whose buffer ends at its highest offset. It reads
@@ -50,7 +50,6 @@ pub fn written_again(
 {
     calls_hold();
     records_hold();
-    verdicts_hold();
     let layout = read_record(bytes, scratch)?;
     write_record(&layout, output, scratch)
 }

@@ -11,6 +11,6 @@ returns-in_err-layout-clause-refused c h =
 pub returns : goal.returns
 returns c =
     let k = again c.write_record.result _ _ _ _ _ (λ h.
-    written_again c.args.bytes.now _ _ _ _ _ c.in_ok-layout.layout c.write_record.result c.verdicts_hold.ensures.verdict c.calls_hold.ensures.running_round_trips (λ i. omega (arith, c.type_inv.bytes i))
+    written_again c.args.bytes.now _ _ _ _ _ c.in_ok-layout.layout c.write_record.result c.calls_hold.ensures.lent c.calls_hold.ensures.running_round_trips (λ i. omega (arith, c.type_inv.bytes i))
     c.in_ok-layout.ensures h c.write_record.ensures) in
     record { same = k.0; whole = k.1; refused = k.2 }
