@@ -4,6 +4,8 @@
 #[cfg(test)]
 mod calls;
 #[cfg(test)]
+mod copied;
+#[cfg(test)]
 mod fakes;
 #[cfg(test)]
 mod readme;

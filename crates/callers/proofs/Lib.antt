@@ -1,0 +1,6 @@
+pub mod Chained
+pub mod Compared
+pub mod Kept
+pub mod Records
+pub mod Sheets
+pub mod Verdicts

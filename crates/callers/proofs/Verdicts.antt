@@ -1,0 +1,50 @@
+-- What a judgement says of axes, out of what the calls of the verdict promise (`Means`, `MeansOfLists`).
+use Rattle.std.proofs.Common.{◌≡◌, ◌↔◌, ℕ, ◌<◌, ◌≤◌, List, [], ◌∷◌, length, Ok, Err, inl, inr, refl, arith}
+use mathlib.Core.Logic.{◌⊎◌}
+use lib.IntN.{ℤ}
+use Rattle.std.proofs.lemmas.Int.{ints}
+use Rattle.specification.specs.Axis.{Axis, axes_of_lists, SharesOffset}
+use Rattle.specification.specs.Verdict.{BothBudgetsPassed}
+use Rattle.view.specs.declared.layout.Refusal.{Refusal}
+use Rattle.view.specs.declared.layout.Refusal.TheVariants.{TooManyAxes, LengthsDiffer, OutOfRange, WrongLength, BadAxis, BadExtent, BadIndex, TooManyPositions, ShortScratch, ShortOutput, NotARecord}
+use Rattle.injectivity.specs.declared.Judgement.{Judgement}
+use Rattle.injectivity.specs.declared.Judgement.TheVariants.{Distinct, Repeated, Undecided}
+use Rattle.injectivity.specs.Meaning.{NoneDue, IsFitting, Means, MeansOfLists}
+use Rattle.callers.specs.Verdicts.{IsTrueOf}
+
+pub told_true : (axes : List Axis) (before after : List ℕ) (j : Judgement) → Means axes before after (Ok j) → IsTrueOf axes j
+unfolding Means
+told_true axes before after (Distinct count) m = let d = m.distinct.0 (count, refl) in (d.1, d.2)
+told_true axes before after (Repeated count) m = let d = m.repeated.0 (count, refl) in (d.1, d.2)
+told_true axes before after Undecided m = (m.undecided.0 (0, refl)).1
+
+-- no refusal where none is due
+pub answered : (axes : List Axis) (before after : List ℕ) (why : Refusal) → Means axes before after (Err why) → ¬ (NoneDue axes (length before))
+unfolding Means
+answered axes before after TooManyAxes m d = let h = m.one.0 refl in omega (arith, d.few)
+answered axes before after OutOfRange m d = d.not_three (m.three.0 refl).1
+answered axes before after TooManyPositions m d = let h = (m.eight.0 refl).1 in let k = d.not_eight in absurd cc
+answered axes before after (ShortScratch words) m d = let h = ((m.nine words).0 refl).1 in omega (arith, d.enough)
+answered axes before after LengthsDiffer m d = grind (arith, m.no_other 2 [] refl)
+answered axes before after (WrongLength a b) m d = grind (arith, m.no_other 4 (a ∷ b ∷ []) refl)
+answered axes before after (BadAxis a b) m d = grind (arith, m.no_other 5 (a ∷ b ∷ []) refl)
+answered axes before after (BadExtent a) m d = grind (arith, m.no_other 6 (a ∷ []) refl)
+answered axes before after (BadIndex a) m d = grind (arith, m.no_other 7 (a ∷ []) refl)
+answered axes before after (ShortOutput n) m d = grind (arith, m.no_other 10 (n ∷ []) refl)
+answered axes before after NotARecord m d = grind (arith, m.no_other 11 [] refl)
+
+-- ---- two lists
+
+-- lists that were answered fit
+fitting : (extents : List ℕ) (strides : List ℤ) (before after : List ℕ) (j : Judgement) → MeansOfLists extents strides before after (Ok j) → IsFitting extents strides
+unfolding MeansOfLists
+fitting extents strides before after j m = grind (arith, ints, m.one.1, m.two.1)
+
+pub lists_told : (extents : List ℕ) (strides : List ℤ) (before after : List ℕ) (j : Judgement) → MeansOfLists extents strides before after (Ok j) → IsTrueOf (axes_of_lists extents strides) j
+unfolding MeansOfLists
+lists_told extents strides before after j m = told_true (axes_of_lists extents strides) before after j (m.fitting (fitting extents strides before after j m))
+
+pub lists_answered : (extents : List ℕ) (strides : List ℤ) (before after : List ℕ) (why : Refusal) → MeansOfLists extents strides before after (Err why)
+    → IsFitting extents strides → ¬ (NoneDue (axes_of_lists extents strides) (length before))
+unfolding MeansOfLists
+lists_answered extents strides before after why m f = answered (axes_of_lists extents strides) before after why (m.fitting f)

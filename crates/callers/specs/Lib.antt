@@ -1,0 +1,4 @@
+pub mod Records
+pub mod Sheets
+pub mod Steps
+pub mod Verdicts
