@@ -1,23 +1,17 @@
 // Each call of the library where it succeeds.
-use auxiliary::index_order_into;
 use commands::memory::Memory;
 use commands::obey::obey;
-use dense::{checked_col_major_strides, checked_row_major_strides};
-use injectivity::{Judgement, is_injective_layout, judge_layout};
+use layouts::{
+    AxisPair, BytePlace, Call, Judgement, Layout, Reach, ReadingOffset, Viewed, after,
+    checked_col_major_strides, checked_element_count, checked_row_major_strides, fuse_by_numbers,
+    index_order_into, is_injective_axes, is_injective_layout, judge_layout, make_in_place,
+    normal_form, read_record, run, same_readings, step_over, validate_bounds, write_record,
+};
 use lines::line::Line;
 use lines::write::write_front;
-use record::calls::{Call, fuse_by_numbers, make_in_place, run};
-use record::normal::normal_form;
-use record::read::read_record;
-use record::step::step_over;
-use record::writer::write_record;
 use spelling::number::{read_signed, read_unsigned};
 use std::io::Write;
 use std::test::Fail;
-use view::bounds::validate_bounds;
-use view::count::checked_element_count;
-use view::diagonal::AxisPair;
-use view::layout::{Layout, ReadingOffset};
 use words::word::words_of;
 
 #[test]
@@ -27,6 +21,7 @@ fn views(rt: HostRuntime) -> Result<(), Fail> {
     assert_eq!(rt; checked_element_count(&[2, 3])?, 6);
     let sheet = Layout::new(6, at, &[2, 3], &[1, 2])?;
     assert_eq!(rt; sheet.indexed_offset(&[1, 2])?, ReadingOffset(5));
+    assert_eq!(rt; sheet.reach()?, Reach::Between(at, ReadingOffset(5)));
     let turned = sheet.permute(&[1, 0]).accepted()?;
     assert_eq!(rt; turned.indexed_offset(&[2, 1])?, ReadingOffset(5));
     let tied = sheet.diagonal_view(&[AxisPair(0, 1)]).accepted()?;
@@ -48,16 +43,35 @@ fn verdicts_and_records(rt: HostRuntime) -> Result<(), Fail> {
     let judged = is_injective_layout(&[2, 2, 2], &[2, 3, 5], &mut [])?;
     assert_eq!(rt; judged, Judgement::Repeated(1));
     assert_eq!(rt; judge_layout(&sheet, &mut [])?, Judgement::Distinct(0));
+    assert_eq!(rt;
+        is_injective_axes(&sheet.axes[..2], &mut [])?,
+        Judgement::Distinct(0)
+    );
     assert_eq!(rt; normal_form(&sheet)?.rank, 1);
     let mut bytes = [0; 29];
-    write_record(&sheet, &mut bytes, &mut [])?;
+    let BytePlace(size) = write_record(&sheet, &mut bytes, &mut [])?;
+    assert_eq!(rt; size, 29);
     let read = read_record(&bytes, &mut [])?;
     assert_eq!(rt; read.len, 6);
     assert_eq!(rt; step_over(&bytes), b"".as_slice());
     let turned = run(sheet, &[Call::Permute(&[1, 0])]);
     assert_eq!(rt; turned.indexed_offset(&[2, 1])?, ReadingOffset(5));
+    let turn = Call::Permute(&[1, 0]);
+    let viewed: Viewed = after(turned, turn);
+    assert_eq!(rt; viewed.layout.axes[0], sheet.axes[0]);
+    let mut other = [0; 29];
+    let same = same_readings(
+        sheet,
+        &[turn, turn],
+        sheet,
+        &[],
+        &mut bytes,
+        &mut other,
+        &mut [],
+    )?;
+    assert!(rt; same);
     let mut place = sheet;
-    make_in_place(&mut place, Call::Permute(&[1, 0]))?;
+    make_in_place(&mut place, turn)?;
     fuse_by_numbers(&mut place, &[0, 1])?;
     assert_eq!(rt; place.indexed_offset(&[1])?, ReadingOffset(3));
     Ok(())

@@ -4,11 +4,8 @@ use callers::keep::{written_again, written_back};
 use callers::start::Sheet;
 use callers::steps::{Steps, same_after_steps};
 use callers::write::{may_write, stand_apart};
-use injectivity::Judgement;
-use record::calls::Call;
-use record::fields::BytePlace;
+use layouts::{BytePlace, Call, Judgement, ReadingOffset};
 use std::test::Fail;
-use view::layout::ReadingOffset;
 
 const SHEET: Sheet<'static> = Sheet {
     len: 6,

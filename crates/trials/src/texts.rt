@@ -1,6 +1,6 @@
 // What a refusal prints of itself.
+use layouts::Refusal;
 use std::test::Fail;
-use view::layout::Refusal;
 
 #[test]
 fn each_refusal_is_a_sentence(rt: HostRuntime) -> Result<(), Fail> {
