@@ -1,4 +1,3 @@
-pub mod Shown
 pub mod ScratchLaws
 pub mod RecordText
 pub mod Named

@@ -23,9 +23,10 @@ use Rattle.commands.specs.declared.command.Query.{Query}
 use Rattle.commands.specs.declared.command.Query.TheVariants.{Bounds, Show, Offset, Normal, Verdict, Injective, Record, Rest, Order, Column, Row, Help}
 use Rattle.words.specs.declared.fault.Form.TheVariants.{Unsigned, Signed, Pair, Lent}
 use Rattle.commands.specs.Commands.{commands, named, usage_of, help_line}
-use Rattle.commands.specs.Replies.{layout_text, bytes_text}
+use Rattle.commands.specs.Replies.{bytes_text}
+use Rattle.view.specs.Printed.{joined, list_text, layout_text}
 use Rattle.words.specs.Spelled.{unsigned, signed, lent, pair}
-use Rattle.words.specs.Texts.{refusal_text, unknown_command, unequal_lists, joined, list_text}
+use Rattle.words.specs.Texts.{refusal_text, unknown_command, unequal_lists}
 use Rattle.words.specs.Words.{Told, ◌>>=◌, Numbered, no_word, one_word, two_words, four_words, up_to_one_word, one_or_two_words, two_or_three_words, one_of, list_of, bytes_of}
 
 -- what a call answers, or its refusal as a text

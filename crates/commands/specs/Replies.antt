@@ -1,21 +1,13 @@
 -- What is printed of an answer, byte by byte. Assumes nothing.
-use Rattle.std.specs.Prelude.{ℕ, List, [], ◌∷◌, ◌++◌, codes, take, string_bytes}
+use Rattle.std.specs.Prelude.{ℕ, List, [], ◌∷◌, ◌++◌, codes, string_bytes}
 use Rattle.std.specs.Fmt.{decimal, signed_decimal}
 use Rattle.hex.specs.Hex.{encode_lower}
-use Rattle.specification.specs.Layout.{LayoutModel}
 use Rattle.view.specs.Model.{model_of}
+use Rattle.view.specs.Printed.{joined, list_text, layout_text}
 use Rattle.injectivity.specs.Text.{judgement_text}
-use Rattle.words.specs.Texts.{joined, list_text}
 use Rattle.commands.specs.declared.reply.Reply.{Reply}
 use Rattle.commands.specs.declared.reply.Reply.TheVariants as reply
 use Rattle.commands.specs.Commands.{commands, help_line}
-
--- LEN OFFSET EXTENTS STRIDES; above rank 16 the 16 axes that a layout holds
-unfoldable pub layout_text : LayoutModel → List ℕ
-layout_text l =
-    decimal l.buffer ++ 32 ∷ (signed_decimal l.offset
-    ++ 32 ∷ (list_text (λ a. decimal a.extent) (take 16 l.axes)
-    ++ 32 ∷ list_text (λ a. signed_decimal a.stride) (take 16 l.axes)))
 
 -- bytes as two digits each; `-` for none
 abbrev pub bytes_text : List ℕ → List ℕ

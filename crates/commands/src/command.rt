@@ -2,7 +2,7 @@
 ghost use Rattle.std.specs.Prelude.{◌≡◌};
 
 use std::fmt;
-use words::list::Entry;
+use view::list::Entry;
 
 /// A command that changes the current layout.
 #[derive(Clone, Copy)]

@@ -5,7 +5,7 @@ use injectivity::Judgement;
 use std::alloc::{AllocError, Global};
 use std::fmt;
 use view::layout::Layout;
-use words::list::{Joined, List, first};
+use view::list::{Joined, List};
 
 #[derive(Drop)]
 pub enum Reply {
@@ -35,27 +35,6 @@ impl Reply {
     }
 }
 
-// LEN OFFSET EXTENTS STRIDES; above rank 16 the 16 places that a layout holds.
-#[derive(Clone, Copy)]
-struct Shown<'a>(&'a Layout);
-
-impl fmt::Display for Shown<'_> {
-    ghost use Rattle.std.specs.Prelude.{Some};
-    ghost use Rattle.view.specs.Model.{model_of};
-    ghost use Rattle.commands.specs.Replies.{layout_text};
-
-    ghost output = { λ shown. Some (layout_text (model_of shown.0.now)) };
-
-    fn fmt<W: fmt::Write>(&self, f: &mut fmt::Formatter<W>) -> fmt::Result {
-        let layout = self.0;
-        let extents = layout.axes.map(|axis| axis.extent);
-        let strides = layout.axes.map(|axis| axis.stride);
-        let extents = List(first(layout.rank, &extents));
-        let strides = List(first(layout.rank, &strides));
-        write!(f, "{} {} {extents} {strides}", layout.len, layout.offset.0)
-    }
-}
-
 impl fmt::Display for Reply {
     ghost use Rattle.std.specs.Prelude.{Some};
     ghost use Rattle.commands.specs.Replies.{reply_text};
@@ -65,7 +44,7 @@ impl fmt::Display for Reply {
     fn fmt<W: fmt::Write>(&self, f: &mut fmt::Formatter<W>) -> fmt::Result {
         match self {
             Reply::Done => f.write_str("ok"),
-            Reply::Current(layout) => write!(f, "{}", Shown(layout)),
+            Reply::Current(layout) => write!(f, "{layout}"),
             Reply::Offset(offset) => write!(f, "{offset}"),
             Reply::Judged(judgement) => write!(f, "{judgement}"),
             Reply::Bytes(digits) => f.write_str(digits.as_str()),

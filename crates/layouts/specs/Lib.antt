@@ -8,6 +8,9 @@ pub use Rattle.record.specs.SameReadings
 pub use Rattle.record.specs.Writer
 pub use Rattle.view.specs.Answers
 pub use Rattle.view.specs.Count
+pub use Rattle.view.specs.Equal
 pub use Rattle.view.specs.Indexed
 pub use Rattle.view.specs.Model
+pub use Rattle.view.specs.Parts
+pub use Rattle.view.specs.Printed
 pub use Rattle.view.specs.Reach

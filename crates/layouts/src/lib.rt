@@ -21,4 +21,5 @@ pub use view::bounds::{Reach, validate_bounds};
 pub use view::count::checked_element_count;
 pub use view::diagonal::AxisPair;
 pub use view::layout::{Layout, MOST_AXES, ReadingOffset, Refusal, Viewed};
+pub use view::parts::{Extents, Strides};
 pub use view::values::Values;

@@ -2,7 +2,7 @@
 use commands::memory::Memory;
 use commands::obey::obey;
 use layouts::{
-    AxisPair, BytePlace, Call, Judgement, Layout, Reach, ReadingOffset, Viewed, after,
+    Axis, AxisPair, BytePlace, Call, Judgement, Layout, Reach, ReadingOffset, Viewed, after,
     checked_col_major_strides, checked_element_count, checked_row_major_strides, fuse_by_numbers,
     index_order_into, is_injective_axes, is_injective_layout, judge_layout, make_in_place,
     normal_form, read_record, run, same_readings, step_over, validate_bounds, write_record,
@@ -34,6 +34,31 @@ fn views(rt: HostRuntime) -> Result<(), Fail> {
     place.diagonal_in_place(&[AxisPair(0, 1)])?;
     place.broadcast_in_place(&[2])?;
     assert_eq!(rt; place.indexed_offset(&[1])?, ReadingOffset(3));
+    Ok(())
+}
+
+#[test]
+fn what_a_layout_tells(rt: HostRuntime) -> Result<(), Fail> {
+    let alloc = rt.alloc();
+    let sheet = Layout::new(6, ReadingOffset(4), &[2, 3], &[1, -2])?;
+    assert_eq!(rt; sheet.rank(), 2);
+    assert!(rt; !sheet.is_empty());
+    let last = Axis {
+        extent: 3,
+        stride: -2,
+    };
+    assert_eq!(rt; sheet.axes()[1], last);
+    let extents: Vec<u64> = sheet.extents().collect(alloc)?;
+    assert_eq!(rt; extents.as_slice(), [2, 3].as_slice());
+    let strides: Vec<i64> = sheet.strides().collect(alloc)?;
+    assert_eq!(rt; strides.as_slice(), [1, -2].as_slice());
+    let text = format!(in alloc; "{sheet} from {}", sheet.offset)?;
+    assert_eq!(rt; text.as_str(), "6 4 2,3 1,-2 from 4");
+    let mut same = sheet;
+    same.axes[2] = last;
+    assert!(rt; same == sheet);
+    same.offset = ReadingOffset(5);
+    assert!(rt; same != sheet);
     Ok(())
 }
 

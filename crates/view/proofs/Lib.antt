@@ -22,5 +22,8 @@ pub mod StrideSumLaws
 pub mod FusedLaws
 pub mod DiagonalLaws
 pub mod CountLaws
+pub mod PartsLaws
+pub mod PrintedLaws
+pub mod EqualLaws
 pub mod AnswersClaimed
 pub mod IndexedLaws

@@ -9,3 +9,6 @@ pub mod Ties
 pub mod Count
 pub mod AnswerClaims
 pub mod Indexed
+pub mod Parts
+pub mod Equal
+pub mod Printed

@@ -10,10 +10,14 @@ pub mod bounds;
 pub mod broadcast;
 pub mod count;
 pub mod diagonal;
+pub mod equal;
 pub mod layout;
+pub mod list;
 pub mod numbers;
 pub mod offset;
+pub mod parts;
 pub mod permute;
+pub mod printed;
 pub mod values;
 
 /// Does nothing, and promises what the reach, the number of positions and the offset of an index vector say of a layout: the

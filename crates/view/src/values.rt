@@ -6,7 +6,7 @@ ghost use Rattle.std.specs.Prelude.{[], ◌∷◌, ◌≡◌, ◌≤◌};
 pub struct Values {
     /// How many of them count.
     pub count: usize,
-    /// The values, then 0.
+    /// The values in the first places; the others do not count.
     pub values: [usize; 2],
     ghost few: { count ≤ 2 },
 }

@@ -87,15 +87,3 @@ fault_text (ManyEntries w) = many_entries w.number w.text.now
 fault_text (OddDigits w) = odd_digits w.number w.text.now
 fault_text (BadDigit w) = bad_digit w.number w.text.now
 fault_text (Refused why) = told_refusal why
-
--- ---- lists
-
--- the texts of entries, with a text between each two
-unfoldable pub joined : {A : Type 0} → List ℕ → (A → List ℕ) → List A → List ℕ
-joined between text_of [] = []
-joined between text_of (first ∷ others) = text_of first ++ flat_map (λ other. between ++ text_of other) others
-
--- entries joined by commas; `-` for none
-unfoldable pub list_text : {A : Type 0} → (A → List ℕ) → List A → List ℕ
-list_text text_of [] = codes "-"
-list_text text_of (first ∷ others) = joined (codes ",") text_of (first ∷ others)

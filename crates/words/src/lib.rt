@@ -2,7 +2,6 @@
 #![tactic(auto)]
 
 pub mod fault;
-pub mod list;
 pub mod place;
 pub mod spelled;
 pub mod word;

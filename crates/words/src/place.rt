@@ -1,9 +1,9 @@
 // Where something stands in a line, and how an error shows what stands there.
 ghost use Rattle.std.specs.Prelude.{◌≡◌, [], codes, length, nat_lt, if◌then◌else◌};
 
-use crate::list::first;
 use bstr::ByteSlice;
 use std::fmt;
+use view::list::first;
 
 // The most bytes of a word that an error shows.
 const SHOWN_BYTES: usize = 32;

@@ -8,7 +8,7 @@ use Rattle.specification.specs.Axis.{Axis}
 use Rattle.specification.specs.Views.{axis_at}
 use Rattle.view.specs.Model.{first_axes}
 use Rattle.view.proofs.TableLaws.{length-table, get_or-table}
-use Rattle.words.specs.Texts.{joined, list_text}
+use Rattle.view.specs.Printed.{joined, list_text}
 
 list_text-map : {A B : Type 0} (text_of : B → List ℕ) (f : A → B) (xs : List A) → list_text (λ x. text_of (f x)) xs ≡ list_text text_of (map f xs)
 unfolding list_text joined

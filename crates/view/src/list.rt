@@ -1,4 +1,4 @@
-// Lists as they are printed, and the front of a list.
+//! Lists as they are printed, and the front of a list.
 ghost use Rattle.std.specs.Prelude.{◌≡◌, take};
 
 use std::fmt;
@@ -53,10 +53,10 @@ pub struct Joined<'a, T> {
     pub entries: &'a [T],
 }
 
-#[tactic(auto, unfolding(crate::specs::Texts::joined))]
+#[tactic(auto, unfolding(crate::specs::Printed::joined))]
 impl<'a, T: Entry> fmt::Display for Joined<'a, T> {
     ghost use Rattle.std.specs.Prelude.{Some};
-    ghost use Rattle.words.specs.Texts.{joined};
+    ghost use Rattle.view.specs.Printed.{joined};
 
     ghost output = { λ list. Some (joined list.between.now T.text list.entries.now) };
 
@@ -76,10 +76,10 @@ impl<'a, T: Entry> fmt::Display for Joined<'a, T> {
 #[derive(Clone, Copy)]
 pub struct List<'a, T>(pub &'a [T]);
 
-#[tactic(auto, unfolding(crate::specs::Texts::list_text))]
+#[tactic(auto, unfolding(crate::specs::Printed::list_text))]
 impl<'a, T: Entry> fmt::Display for List<'a, T> {
     ghost use Rattle.std.specs.Prelude.{Some};
-    ghost use Rattle.words.specs.Texts.{list_text};
+    ghost use Rattle.view.specs.Printed.{list_text};
 
     ghost output = { λ list. Some (list_text T.text list.0.now) };
 

@@ -1,15 +1,14 @@
 use Rattle.std.proofs.Common.{rules, ◌≡◌, take, ap, ◌∙◌}
 use Rattle.std.specs.Fmt.{decimal, signed_decimal}
 use Rattle.view.specs.Model.{first_axes}
-use Rattle.words.specs.Texts.{list_text}
-use Rattle.commands.specs.Replies.{layout_text}
-use Rattle.commands.proofs.Shown.{parts_shown}
-use Rattle.commands.proofs.reply.ShownDisplay.fmt.Goals as goal
+use Rattle.view.specs.Printed.{list_text, layout_text}
+use Rattle.view.proofs.PrintedLaws.{parts_shown}
+use Rattle.view.proofs.printed.LayoutDisplay.fmt.Goals as goal
 
 pub returns-clause-writes : goal.returns-clause-writes
 unfolding layout_text
 returns-clause-writes g c = λ plain ok.
-    let l = c.args.self.now.0.now in
+    let l = c.args.self.now in
     let axes = take 16 (first_axes l.axes l.rank) in
     let extents : list_text decimal c.first.result.now ≡ list_text (λ a. decimal a.extent) axes =
     ap (list_text decimal) c.first.ensures ∙ parts_shown (λ a. a.extent) _ _ l.axes c.map-extents.result l.rank c.map-extents.ensures.items (λ p x y q h. search rules) decimal in
