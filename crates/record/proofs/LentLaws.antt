@@ -1,21 +1,20 @@
 -- A call that answered was lent what the verdict needs; so as many words, or the most that any verdict needs, are enough for the next one.
-use Rattle.std.proofs.Common.{◌≡◌, ◌⊎◌, inl, inr, ℕ, ◌/◌, ◌<◌, ◌≤◌, List, [], ◌∷◌, length, take, refl, sym, ap, ◌∙◌, arith}
-use Rattle.std.proofs.lemmas.Bool.{lt-leb, le-leb, cases_lt}
+use Rattle.std.proofs.Common.{◌≡◌, ◌⊎◌, inl, inr, ℕ, ◌<◌, ◌≤◌, List, [], ◌∷◌, length, take, refl, sym, ap, ◌∙◌, arith}
+use Rattle.std.proofs.lemmas.Bool.{cases_lt}
 use Rattle.specification.specs.Axis.{Axis}
 use Rattle.specification.specs.Outcome.{Outcome, done}
 use Rattle.specification.specs.Layout.{LayoutModel, rank}
 use Rattle.specification.specs.Normal.{normal_of}
-use Rattle.specification.specs.Search.{ActiveAxis, span_sum, total, words_for}
-use Rattle.specification.specs.Verdict.{Judged, Plan, block_of, others_of, plan_of, judge, words_of, words_needed}
+use Rattle.specification.specs.Verdict.{Judged, judge, words_needed}
 use Rattle.specification.specs.Record.{Made, record_length, written, write_answer, read_of, layout_from, Writing}
 use Rattle.specification.proofs.OutcomeLaws.{clash, done_inj}
-use Rattle.specification.proofs.PlanCases.{PlanCase, when_empty, when_overfull, when_one, when_still, when_out, by_block, plan-case, small, large, searching, enumerating, past_both, judged-with}
-use Rattle.specification.proofs.SearchLaws.{SearchEnd, collided, completed, exhausted, search-end}
+use Rattle.specification.proofs.PlanCases.{judged-with}
 use Rattle.specification.proofs.RecordFields.{length-record_bytes}
 use Rattle.specification.proofs.VerdictLaws.{verdict_claims}
 use Rattle.specification.proofs.WriterAnswers.{Writes, writes, written-made}
 use Rattle.specification.proofs.ReaderLaws.{Reads, reads}
 use Rattle.specification.proofs.ReaderAnswers as reader
+use Rattle.injectivity.proofs.WordsLaws.{enough_words}
 use Rattle.view.specs.Model.{model_of}
 use Rattle.record.specs.Reading.{layout_read}
 use Rattle.record.specs.Writer.{wrote_of}
@@ -23,40 +22,11 @@ use Rattle.record.specs.Lent.{IsLentAgain, LentClaims}
 use Rattle.record.proofs.SameLaws.{writing, fronted, accepted, front_is}
 use Rattle.record.proofs.RunningLaws.{read_back, read_done, written_back}
 
--- ---- the most that a verdict needs
-
-words_bounded : (n s : ℕ) → n ≤ 16777216 → words_for n s ≤ 16777217
-unfolding words_for
-words_bounded n s h = go (cases_lt n (s / 64))
-  where
-    go : (n < s / 64) ⊎ (s / 64 ≤ n) → words_for n s ≤ 16777217
-    go (inl l) = rw (lt-leb) (omega arith)
-    go (inr l) = rw (le-leb) (omega arith)
-
-search_bounded : {a b : ActiveAxis} {others : List ActiveAxis} {p : Plan} → SearchEnd a b others p → words_of (done p) ≤ 16777217
-unfolding words_of
-search_bounded (collided e) = omega arith
-search_bounded (completed e h w f) = omega arith
-search_bounded (exhausted e f) = omega arith
-
-at_most : (axes : List Axis) → words_needed axes ≤ 16777217
-unfolding words_of
-at_most axes = go (plan_of axes) (plan-case axes)
-  where
-    go : (o : Outcome Plan) → PlanCase axes o → words_of o ≤ 16777217
-    go _ (when_empty e) = omega arith
-    go _ (when_overfull f o) = omega arith
-    go _ (when_one f o e) = omega arith
-    go _ (when_still f o e) = omega arith
-    go _ (when_out f o s e) = omega arith
-    go _ (by_block t (small c)) = omega arith
-    go _ (by_block t (large m h (searching {a} {b} k e))) = search_bounded (search-end a b (others_of (block_of axes)))
-    go _ (by_block t (large m h (enumerating k l))) = words_bounded (total (block_of axes)) (span_sum (block_of axes)) l
-    go _ (by_block t (large m h (past_both k l))) = omega arith
+-- ---- the words of the second call
 
 enough : (axes : List Axis) (scratch scratch' : List ℕ) → words_needed axes ≤ length scratch → IsLentAgain scratch scratch' → words_needed axes ≤ length scratch'
 enough axes scratch scratch' h (inl more) = omega arith
-enough axes scratch scratch' h (inr most) = omega (arith, at_most axes)
+enough axes scratch scratch' h (inr most) = omega (arith, enough_words axes)
 
 -- ---- what a call was lent that answered
 
