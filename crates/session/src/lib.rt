@@ -3,4 +3,4 @@
 
 mod session;
 
-pub use session::run;
+pub use session::{answer_text, run};
