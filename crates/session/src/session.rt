@@ -89,6 +89,7 @@ fn answer_words<'a>(
 }
 
 // Puts what a line is answered in the place of a text.
+#[tactic(auto, using(crate::proofs::FirstWords::by_front))]
 fn answer(
     alloc: Global,
     layout: &mut Layout,
