@@ -9,6 +9,7 @@ use Rattle.words.specs.Texts.{long_line, fault_text}
 use Rattle.words.specs.Words.{Told, words}
 use Rattle.commands.specs.Replies.{reply_text}
 use Rattle.commands.specs.Obeyed.{Answered, obeyed}
+use Rattle.commands.specs.Asking.{line_asks}
 use Rattle.session.specs.declared.session.Response.{Response}
 use Rattle.session.specs.declared.session.Response.TheVariants.{Nothing, Reply, Fault}
 
@@ -35,6 +36,11 @@ in_line l (Err text) = record { text = text ++ 10 ∷ []; layout = l }
 unfoldable pub by_words : LayoutModel → List (List ℕ) → Answered
 by_words l [] = unanswered l
 by_words l (name ∷ words) = if begins_with 35 name then unanswered l else in_line l (obeyed l name words)
+
+-- the words of a line that asks for memory to be answered; what it then prints is not counted
+abbrev pub words_ask : List (List ℕ) → Bool
+words_ask [] = false
+words_ask (name ∷ words) = if begins_with 35 name then false else line_asks name words
 
 -- a line that is longer than 4,096 bytes, or not
 abbrev pub by_length : LayoutModel → Bool → List ℕ → Answered

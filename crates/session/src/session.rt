@@ -1,9 +1,9 @@
 // Lines answered in order, each before the next is awaited.
-ghost use Rattle.std.specs.Prelude.{◌≡◌, ◌≢◌, ◌++◌, [], map, string_bytes, Some, OnOk, OnErr, IfOk, IfErr, IfSome};
+ghost use Rattle.std.specs.Prelude.{◌≡◌, ◌≢◌, ◌++◌, [], map, string_bytes, Some, OnOk, OnErr, IfOk, IfErr, IfSome, IsTrue};
 ghost use Rattle.std.specs.Io.KnownBytes.{Appends};
 ghost use Rattle.lines.specs.Lines.{AppendsFront};
 ghost use Rattle.view.specs.Model.{model_of};
-ghost use Rattle.session.specs.Session.{begins_with, empty_layout, text_of, by_words, by_length, output_of, Answers};
+ghost use Rattle.session.specs.Session.{begins_with, empty_layout, text_of, by_words, words_ask, by_length, output_of, Answers};
 
 use axis::Axis;
 use commands::memory::Memory;
@@ -72,8 +72,7 @@ fn answer_words<'a>(
         ≡ (by_words (model_of layout.old) (map (λ word. word.now) words.now)).text) }
     ensures layout { OnOk result (model_of layout.new
         ≡ (by_words (model_of layout.old) (map (λ word. word.now) words.now)).layout) }
-    ensures memory { OnErr result
-        ((by_words (model_of layout.old) (map (λ word. word.now) words.now)).text ≢ []) }
+    ensures memory { OnErr result (IsTrue (words_ask (map (λ word. word.now) words.now))) }
 {
     let [name, texts @ ..] = words else {
         return Ok(Response::Nothing);
@@ -89,7 +88,7 @@ fn answer_words<'a>(
 }
 
 // Puts what a line is answered in the place of a text.
-#[tactic(auto, using(crate::proofs::FirstWords::by_front))]
+#[tactic(auto, using(crate::proofs::FirstWords::by_front, crate::proofs::FirstWords::asked_has_text))]
 fn answer(
     alloc: Global,
     layout: &mut Layout,
