@@ -1,5 +1,5 @@
 -- What was read so far of a line, and of the whole line at its end.
-use Rattle.std.proofs.Common.{◌≡◌, ◌≢◌, ◌↔◌, ℕ, ◌+◌, ◌-◌, ◌≤◌, List, [], ◌∷◌, ◌++◌, All, None, Some, IfSome, OnSome, IsTrue, Bool, true, false, not, length, get_or, refl, sym, subst, ap, ◌∙◌, arith, length-append, length-take, append_assoc, append-nil, take_at, ne_eqb, eq-eqb, vec_len, min}
+use Rattle.std.proofs.Common.{◌≡◌, ◌≢◌, ◌↔◌, ℕ, ◌+◌, ◌-◌, ◌≤◌, List, [], ◌∷◌, ◌++◌, All, None, Some, IfSome, OnSome, IsTrue, Bool, true, false, not, length, get_or, refl, sym, subst, ap, ◌∙◌, arith, length-append, length-take, append_assoc, append-nil, take_at, ne_eqb, eq-eqb, min}
 use Rattle.std.specs.Prelude.{Option, nat_lt, ◌==◌}
 use Rattle.std.proofs.lemmas.Bool.{lt-ltb}
 use Rattle.std.proofs.lemmas.Grind.{common_steps}
@@ -120,7 +120,7 @@ unfed (Some bytes) (Some left) line read empty held one_line taken ends is =
     (subst (Holds line) (sym (ap (first_piece 10) all ∙ parts.0)) held, ap Some (ends ∙ sym (ap (drop_through 10) all ∙ parts.1)), some_kept bytes (length line.bytes.items) empty count is)
 
 pub at_input : (before now next : Option (List ℕ)) (old new line : Line) (piece : List ℕ) (empty : Bool) → SoFar before now old → Took old new piece → TakesPiece now next piece Input
-    → line.bytes ≡ new.bytes → line.is_long ≡ new.is_long → empty ≡ (vec_len line.bytes == 0)
+    → line.bytes ≡ new.bytes → line.is_long ≡ new.is_long → empty ≡ (length line.bytes.items == 0)
     → Whole before next line × IfSome before (λ bytes. IsTrue (not empty) ↔ (bytes ≢ [])) × OnSome before (IsAtEnd next)
 at_input before now next old new line piece empty so_far took takes same_bytes same_length is =
     let read = so_far.read ++ piece in
@@ -129,5 +129,5 @@ at_input before now next old new line piece empty so_far took takes same_bytes s
     let one_line = All-append (λ byte. byte ≢ 10) so_far.read piece so_far.one_line takes.one_line in
     let taken = Consumes-trans before now next so_far.read piece so_far.taken takes.taken in
     let at_end = known_before before now so_far.read (IsAtEnd next) so_far.taken (takes.input refl) in
-    let ends = unfed before next line read empty held one_line taken at_end (is ∙ ap (λ n. n == 0) line.bytes.ok.0) in
+    let ends = unfed before next line read empty held one_line taken at_end is in
     (record { few = few line read held; one_line = kept line read held one_line; held = ends.0; rest = ends.1 }, ends.2, at_end)

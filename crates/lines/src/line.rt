@@ -1,15 +1,16 @@
 //! A line as it is read: up to its line feed, of which no more than 4,096 bytes are kept.
-ghost use Rattle.std.specs.Prelude.{◌≡◌, ◌≢◌, ◌↔◌, ◌≤◌, ℕ, List, [], true, IfOk, IfSome, OnOk, OnSome, IsTrue, All, length};
+ghost use Rattle.std.specs.Prelude.{◌≡◌, ◌≢◌, ◌↔◌, ◌≤◌, ℕ, List, [], true, IfOk, IfErr, IfSome, OnOk, OnSome, IsTrue, All, length};
 ghost use Rattle.std.specs.Io.{StartsWith};
 ghost use Rattle.std.specs.Io.BufRead.{DropsThrough, first_piece};
 ghost use Rattle.std.specs.Io.KnownBytes.{Keeps, IsAtEnd};
 ghost use Rattle.lines.specs.Lines.{Holds};
 ghost use Rattle.lines.specs.Pieces.{Took, TakesPiece, with_end};
 ghost use Rattle.lines.specs.declared.line.End.TheVariants.{Input};
+ghost use Rattle.lines.specs.declared.failure.Failure.TheVariants.{Memory};
 
 use crate::failure::Failure;
+use arrayvec::ArrayVec;
 use memchr::memchr;
-use std::alloc::{AllocError, Global};
 use std::io::{BufRead, ErrorKind, Write};
 
 /// The most bytes of a line that are kept, its line feed not counted.
@@ -18,7 +19,7 @@ pub const LINE_BYTES: usize = 4096;
 /// A line without its line feed: its first 4,096 bytes, and whether it has more.
 #[derive(Drop)]
 pub struct Line {
-    pub bytes: Vec<u8>,
+    pub bytes: ArrayVec<u8, LINE_BYTES>,
     pub is_long: bool,
     /// Whether the input ended with it.
     pub is_last: bool,
@@ -35,16 +36,16 @@ enum End {
 }
 
 impl Line {
-    /// A line of no bytes, with room for as many as are kept.
-    pub fn new(alloc: Global) -> Result<Line, AllocError>
-        ensures { IfOk result (λ line. Holds line []) }
+    /// A line of no bytes. The bytes lie in the value itself, so that no line asks for memory.
+    pub fn new() -> Line
+        ensures { Holds result [] }
     {
-        Ok(Line {
-            bytes: Vec::with_capacity(alloc, LINE_BYTES)?,
+        Line {
+            bytes: ArrayVec::new(),
             is_long: false,
             is_last: false,
             waits: true,
-        })
+        }
     }
 
     /// The next line of a reader, or that there is none. What the writer holds back is written before the reader waits.
@@ -57,6 +58,7 @@ impl Line {
         ensures kept { Keeps (W.contents out.old) (W.contents out.new) }
         ensures few { OnOk result (length self.new.bytes.items ≤ 4096) }
         ensures one_line { OnOk result (All (λ byte. byte ≢ 10) self.new.bytes.items) }
+        ensures no_memory { IfErr result (λ why. why ≢ Memory) }
 
         // Where the bytes are known.
         ensures more { IfOk result (λ more. IfSome (R.remaining input.old)
@@ -91,6 +93,7 @@ impl Line {
     fn take_piece<R: BufRead>(&mut self, input: &mut R) -> Result<End, Failure>
         ensures took { IfOk result (λ end. (piece : List ℕ) × Took self.old self.new piece
             × TakesPiece (R.remaining input.old) (R.remaining input.new) piece end) }
+        ensures no_memory { IfErr result (λ why. why ≢ Memory) }
     {
         let shown = match input.fill_buf() {
             Ok(shown) => shown,
@@ -98,7 +101,7 @@ impl Line {
             Err(error) => return Err(Failure::Read(error)),
         };
         let (piece, end) = piece_of(shown);
-        self.keep(piece)?;
+        self.keep(piece);
         let taken = piece.len() + usize::from(end == End::Feed);
         self.waits = taken == shown.len();
         input.consume(taken);
@@ -106,14 +109,13 @@ impl Line {
     }
 
     // Bytes behind those that are kept, as far as there is room.
-    fn keep(&mut self, bytes: &[u8]) -> Result<(), AllocError>
-        ensures { OnOk result (Took self.old self.new bytes.now) }
+    fn keep(&mut self, bytes: &[u8])
+        ensures { Took self.old self.new bytes.now }
     {
-        let room = LINE_BYTES.saturating_sub(self.bytes.len());
-        self.bytes
-            .extend_from_slice(&bytes[..room.min(bytes.len())])?;
+        let room = self.bytes.remaining_capacity();
+        let kept = &bytes[..room.min(bytes.len())];
+        self.bytes.try_extend_from_slice(kept).unwrap();
         self.is_long |= room < bytes.len();
-        Ok(())
     }
 }
 

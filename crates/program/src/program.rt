@@ -1,8 +1,11 @@
 // Lines of standard input, or of a file, answered on standard output.
-ghost use Rattle.std.specs.Prelude.{◌≤◌, IfOk};
+ghost use Rattle.std.specs.Prelude.{◌≡◌, ◌≢◌, ◌≤◌, IfOk};
 ghost use Rattle.std.specs.Process.{exit_status};
+ghost use Rattle.clap.specs.Values.{kind_of};
+ghost use Rattle.clap.specs.declared.error.kind.ErrorKind.TheVariants.{OutOfMemory, DisplayHelp, DisplayVersion};
 
 use crate::status::status;
+use clap::error::ErrorKind;
 use clap::{Arg, Command, Error};
 use commands::reply::Reply;
 use lines::failure::Failure;
@@ -52,13 +55,16 @@ fn command_line<'a>(alloc: Global, name: &'a str, help: &'a str) -> Result<Comma
     Ok(taken.after_help(help).arg(file)?)
 }
 
+// What a buffer fails with that is not made.
+fn no_memory(_error: io::Error) -> Failure {
+    Failure::Memory
+}
+
 // Answers the lines of a reader to its end.
 fn answer<R: Read + Drop>(rt: &HostRuntime, reader: R) -> Result<(), Failure> {
     let alloc = rt.alloc();
-    let mut input = BufReader::with_capacity(alloc, BUFFER_BYTES, reader).map_err(Failure::Read)?;
-    let mut out = BufWriter::with_capacity(alloc, BUFFER_BYTES, rt.stdout()).map_err(
-        Failure::Write,
-    )?;
+    let mut input = BufReader::with_capacity(alloc, BUFFER_BYTES, reader).map_err(no_memory)?;
+    let mut out = BufWriter::with_capacity(alloc, BUFFER_BYTES, rt.stdout()).map_err(no_memory)?;
     session::run(alloc, &mut input, &mut out)
 }
 
@@ -98,28 +104,40 @@ fn words(rt: &HostRuntime) -> io::Result<Vec<String>> {
     Ok(env::args(rt)?.collect(rt.alloc())?)
 }
 
+// The status of a command line that no lines were answered for, and what is told of it.
+fn status_of_error(rt: &HostRuntime, name: &str, error: Error) -> ExitCode
+    ensures memory { kind_of error ≡ OutOfMemory → exit_status result ≡ 1 }
+    ensures mistake { (kind_of error ≢ OutOfMemory) → (kind_of error ≢ DisplayHelp)
+        → (kind_of error ≢ DisplayVersion) → exit_status result ≡ 2 }
+    ensures few { exit_status result ≤ 2 }
+{
+    if error.kind() == ErrorKind::OutOfMemory {
+        return status(rt, name, "the command line", Err(Failure::Memory));
+    }
+    let printed = error.print(rt);
+    if error.use_stderr() {
+        return ExitCode::from(NOT_UNDERSTOOD);
+    }
+    // what --help or --version asks for
+    status(rt, name, "the command line", printed.map_err(Failure::Write))
+}
+
 /// Does what the command line asks for. Status 0 where the input has ended or the reader of the answers has closed the pipe, and
 /// behind `--help` and `--version`; 1 where something fails; 2 where the command line is not understood.
 pub fn run(rt: HostRuntime, name: &str) -> ExitCode
     ensures { exit_status result ≤ 2 }
 {
-    let words = match words(&rt) {
-        Ok(words) => words,
+    match words(&rt) {
+        Ok(words) => match obey(&rt, name, words.as_slice()) {
+            Ok(code) => code,
+            Err(error) => status_of_error(&rt, name, error),
+        },
+        Err(error) if error.kind() == io::ErrorKind::OutOfMemory => {
+            status(&rt, name, "the command line", Err(Failure::Memory))
+        }
         Err(error) => {
             let _ = eprintln!(rt; "{name}: cannot read the command line: {error}");
-            return ExitCode::from(NOT_UNDERSTOOD);
-        }
-    };
-    match obey(&rt, name, words.as_slice()) {
-        Ok(code) => code,
-        Err(error) if error.use_stderr() => {
-            let _ = error.print(&rt);
             ExitCode::from(NOT_UNDERSTOOD)
-        }
-        // what --help or --version asks for
-        Err(shown) => {
-            let printed = shown.print(&rt).map_err(Failure::Write);
-            status(&rt, name, "the command line", printed)
         }
     }
 }

@@ -1,2 +1,3 @@
+mod FirstWords
 pub mod HeldLaws
 pub mod Owed

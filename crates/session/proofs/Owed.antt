@@ -1,6 +1,6 @@
 -- What has been written so far, what stands to be written, and what the lines that are left will be answered: together all that is written.
 use Rattle.std.proofs.Common.{◌≡◌, ◌≢◌, ℕ, length, take, drop, List, [], ◌∷◌, ◌++◌, true, false, Option, Some, None, Result, Ok, Err, IsTrue, ◌↔◌, IfSome, refl, sym, ap, subst, ◌∙◌, append_assoc, append-nil, take-append-drop}
-use Rattle.std.specs.Prelude.{IfErr, OnOk, OnSome}
+use Rattle.std.specs.Prelude.{IfErr, OnOk, OnSome, slice_get}
 use Rattle.std.specs.Io.KnownBytes.{Appends, Keeps, IsAtEnd}
 use Rattle.std.specs.Io.BufRead.{DropsThrough, drop_through, first_piece}
 use Rattle.std.proofs.KnownBytes.{Appends-nil, Appends-trans, Appends-kept}
@@ -9,7 +9,8 @@ use Rattle.lines.specs.Lines.{AppendsFront, Holds, lines_of}
 use Rattle.lines.specs.declared.failure.Failure.{Failure}
 use Rattle.lines.specs.declared.failure.Failure.TheVariants.{Read, Write, Memory, Endless}
 use Rattle.lines.specs.declared.line.Line.{Line}
-use Rattle.session.specs.Session.{by_length, written_for, output_of, empty_layout, Answers}
+use Rattle.commands.specs.Obeyed.{Answered}
+use Rattle.session.specs.Session.{by_length, answered, written_for, layout_after, output_of, empty_layout, AnswersFirst, HasAnswer, Answers}
 use Rattle.lines.proofs.LineLaws.{first_line_of}
 use Rattle.session.proofs.HeldLaws.{answered-held}
 
@@ -20,6 +21,7 @@ pub record OwedKnown (bytes left : List ℕ) (before after : Option (List ℕ)) 
   pub added : Appends before after written
   pub all : lines_of bytes ≡ lines ++ lines_of left
   pub answers : (more : List (List ℕ)) → written_for empty_layout (lines ++ more) ≡ written ++ (text ++ written_for l more)
+  pub reached : layout_after empty_layout lines ≡ l
 
 -- of the bytes `was`, `now` are left; the writer held `before` and holds `after`; `text` stands to be written, and the layout is l
 abbrev pub Owed : Option (List ℕ) → Option (List ℕ) → Option (List ℕ) → Option (List ℕ) → List ℕ → LayoutModel → Type 0
@@ -28,8 +30,9 @@ Owed (Some bytes) None before after text l = ⊥
 Owed (Some bytes) (Some left) before after text l = OwedKnown bytes left before after text l
 
 pub at_start : (bytes held : Option (List ℕ)) → Owed bytes bytes held held [] empty_layout
+unfolding layout_after
 at_start None held = tt
-at_start (Some bytes) held = record { lines = []; written = []; added = Appends-nil held; all = refl; answers = λ more. refl }
+at_start (Some bytes) held = record { lines = []; written = []; added = Appends-nil held; all = refl; answers = λ more. refl; reached = refl }
 
 -- with what is owed, all is written
 owed_all : (bytes left : List ℕ) (before after : Option (List ℕ)) (text : List ℕ) (l : LayoutModel) (a : OwedKnown bytes left before after text l)
@@ -42,14 +45,20 @@ pub kept : (was now before mid after : Option (List ℕ)) (text : List ℕ) (l :
 kept None now before mid after text l owed keeps = tt
 kept (Some bytes) None before mid after text l owed keeps = absurd owed
 kept (Some bytes) (Some left) before mid after text l owed keeps =
-    record { lines = owed.lines; written = owed.written; added = Appends-kept before mid after owed.written owed.added keeps; all = owed.all; answers = owed.answers }
+    record { lines = owed.lines; written = owed.written; added = Appends-kept before mid after owed.written owed.added keeps; all = owed.all; answers = owed.answers; reached = owed.reached }
+
+-- the layout after lines and one more
+after-last : (l : LayoutModel) (lines : List (List ℕ)) (line : List ℕ) → layout_after l (lines ++ line ∷ []) ≡ (answered (layout_after l lines) line).layout
+unfolding layout_after
+after-last l [] line = refl
+after-last l (first ∷ lines) line = after-last (answered l first).layout lines line
 
 -- a line has been read and answered
 pub answers : (was now next before after : Option (List ℕ)) (l : LayoutModel) (line : Line) (text : List ℕ) (layout : LayoutModel) → Owed was now before after [] l
     → IfSome now (λ bytes. IsTrue true ↔ (bytes ≢ [])) → IfSome now (λ bytes. Holds line (first_piece 10 bytes)) → DropsThrough now next 10
     → text ≡ (by_length l line.is_long line.bytes.items).text → layout ≡ (by_length l line.is_long line.bytes.items).layout
     → Owed was next before after text layout
-unfolding written_for
+unfolding written_for layout_after
 answers None now next before after l line text layout owed more holds rest texts layouts = tt
 answers (Some bytes) None next before after l line text layout owed more holds rest texts layouts = absurd owed
 answers (Some bytes) (Some left) next before after l line text layout owed more holds rest texts layouts =
@@ -64,6 +73,7 @@ answers (Some bytes) (Some left) next before after l line text layout owed more 
       added = owed.added;
       all = all;
       answers = λ ls. ap (written_for empty_layout) (append_assoc owed.lines (first ∷ []) ls) ∙ owed.answers (first ∷ ls);
+      reached = after-last empty_layout owed.lines first ∙ ap (λ at. (answered at first).layout) owed.reached;
     }
 
 -- the text is written
@@ -77,6 +87,7 @@ writes (Some bytes) (Some left) before mid after text l owed added =
       added = Appends-trans before mid after owed.written text owed.added added;
       all = owed.all;
       answers = λ more. owed.answers more ∙ sym (append_assoc owed.written text (written_for l more));
+      reached = owed.reached;
     }
 
 take-front : {A : Type 0} (front rest : List A) → take (length front) (front ++ rest) ≡ front
@@ -104,26 +115,64 @@ writes-front (Some bytes) (Some left) before mid after text l owed (n, added) =
 pub front : (was now before after : Option (List ℕ)) (text : List ℕ) (l : LayoutModel) → Owed was now before after text l → IfSome was (λ bytes. AppendsFront before after (output_of bytes))
 front was now before after text l owed = writes-front was now before after after text l owed (0, Appends-nil after)
 
--- where it is no write that failed, the lines that were read have been answered
-pub whole_answers : (result : Result (Unit {0}) Failure) (was now before after : Option (List ℕ)) (l : LayoutModel) → Owed was now before after [] l
-    → IfErr result (λ why. IfSome was (λ bytes. Answers why before after bytes))
+-- the lines that were read have been answered
+first_answered : (bytes left : List ℕ) (before after : Option (List ℕ)) (l : LayoutModel) (a : OwedKnown bytes left before after [] l)
+    → AnswersFirst (length a.lines) before after (lines_of bytes)
 unfolding written_for
-whole_answers (Ok x) was now before after l owed = tt
-whole_answers (Err why) None now before after l owed = tt
-whole_answers (Err why) (Some bytes) None before after l owed = absurd owed
-whole_answers (Err why) (Some bytes) (Some left) before after l owed = by_why why
+first_answered bytes left before after l a = subst (Appends before after) is a.added
+  where
+    is : a.written ≡ written_for empty_layout (take (length a.lines) (lines_of bytes))
+    is = sym (append-nil a.written) ∙ sym (a.answers []) ∙ ap (written_for empty_layout) (append-nil a.lines ∙ sym (ap (take (length a.lines)) a.all ∙ take-front a.lines (lines_of left)))
+
+-- where neither a write nor memory failed, they have been answered
+pub whole_answers : (result : Result (Unit {0}) Failure) (was now before after : Option (List ℕ)) (l : LayoutModel) → IfErr result (λ why. why ≢ Memory)
+    → Owed was now before after [] l → IfErr result (λ why. IfSome was (λ bytes. Answers why before after bytes))
+whole_answers (Ok x) was now before after l other owed = tt
+whole_answers (Err why) None now before after l other owed = tt
+whole_answers (Err why) (Some bytes) None before after l other owed = absurd owed
+whole_answers (Err why) (Some bytes) (Some left) before after l other owed = by_why why other
+  where
+    by_why : (why : Failure) → why ≢ Memory → Answers why before after bytes
+    by_why (Write error) other = tt
+    by_why (Read error) other = (length owed.lines, first_answered bytes left before after l owed)
+    by_why Memory other = absurd (other refl)
+    by_why Endless other = (length owed.lines, first_answered bytes left before after l owed)
+
+line_behind : (front : List (List ℕ)) (line : List ℕ) (rest : List (List ℕ)) → slice_get (front ++ line ∷ rest) (length front) ≡ Some line
+line_behind [] line rest = refl
+line_behind (first ∷ front) line rest = line_behind front line rest
+
+-- where memory failed, the line behind them has an answer with a text
+answered_before : (was now before after : Option (List ℕ)) (l : LayoutModel) (line : Line) → Owed was now before after [] l
+    → IfSome now (λ bytes. IsTrue true ↔ (bytes ≢ [])) → IfSome now (λ bytes. Holds line (first_piece 10 bytes)) → (by_length l line.is_long line.bytes.items).text ≢ []
+    → IfSome was (λ bytes. Answers Memory before after bytes)
+answered_before None now before after l line owed more holds text = tt
+answered_before (Some bytes) None before after l line owed more holds text = absurd owed
+answered_before (Some bytes) (Some left) before after l line owed more holds text = (length owed.lines, first_answered bytes left before after l owed, has)
   where
     first : List ℕ
-    first = written_for empty_layout (take (length owed.lines) (lines_of bytes))
+    first = first_piece 10 left
 
-    is : owed.written ≡ first
-    is = sym (append-nil owed.written) ∙ sym (owed.answers []) ∙ ap (written_for empty_layout) (append-nil owed.lines ∙ sym (ap (take (length owed.lines)) owed.all ∙ take-front owed.lines (lines_of left)))
+    all : lines_of bytes ≡ owed.lines ++ first ∷ lines_of (drop_through 10 left)
+    all = owed.all ∙ ap (λ (ls : List (List ℕ)). owed.lines ++ ls) (first_line_of left (more.0 refl))
 
-    by_why : (why : Failure) → Answers why before after bytes
-    by_why (Write error) = tt
-    by_why (Read error) = (length owed.lines, subst (Appends before after) is owed.added)
-    by_why Memory = (length owed.lines, subst (Appends before after) is owed.added)
-    by_why Endless = (length owed.lines, subst (Appends before after) is owed.added)
+    read : take (length owed.lines) (lines_of bytes) ≡ owed.lines
+    read = ap (take (length owed.lines)) owed.all ∙ take-front owed.lines (lines_of left)
+
+    next : slice_get (lines_of bytes) (length owed.lines) ≡ Some first
+    next = ap (λ (ls : List (List ℕ)). slice_get ls (length owed.lines)) all ∙ line_behind owed.lines first (lines_of (drop_through 10 left))
+
+    is : (answered (layout_after empty_layout (take (length owed.lines) (lines_of bytes))) first).text ≡ (by_length l line.is_long line.bytes.items).text
+    is = ap (λ (ls : List (List ℕ)). (answered (layout_after empty_layout ls) first).text) read ∙ ap (λ at. (answered at first).text) owed.reached ∙ ap (λ (a : Answered). a.text) (answered-held l line first holds)
+
+    has : HasAnswer (length owed.lines) (lines_of bytes)
+    has = rw next (λ none. text (sym is ∙ none))
+
+pub answers_before : (result : Result (Unit {0}) Failure) (was now before after : Option (List ℕ)) (l : LayoutModel) (line : Line) → IfErr result (λ why. why ≡ Memory)
+    → Owed was now before after [] l → IfSome now (λ bytes. IsTrue true ↔ (bytes ≢ [])) → IfSome now (λ bytes. Holds line (first_piece 10 bytes)) → (by_length l line.is_long line.bytes.items).text ≢ []
+    → IfErr result (λ why. IfSome was (λ bytes. Answers why before after bytes))
+answers_before (Ok x) was now before after l line memory owed more holds text = tt
+answers_before (Err why) was now before after l line memory owed more holds text = rw memory (answered_before was now before after l line owed more holds text)
 
 -- no line is left
 pub whole : (was now before after : Option (List ℕ)) (l : LayoutModel) → Owed was now before after [] l → OnSome was (IsAtEnd now) → IfSome was (λ bytes. Appends before after (output_of bytes))

@@ -1,17 +1,27 @@
 -- What is written for all that is read: a stated function of it (RULES, "The text program"). Assumes nothing.
-use Rattle.std.specs.Prelude.{ℕ, Bool, true, false, List, [], ◌∷◌, ◌++◌, ◌==◌, nat_lt, length, if◌then◌else◌, pos, take, Option, Ok, Err, ⊤}
+use Rattle.std.specs.Prelude.{ℕ, Bool, true, false, List, [], ◌∷◌, ◌++◌, ◌==◌, ◌≢◌, nat_lt, length, if◌then◌else◌, pos, take, slice_get, Option, IsSomeAnd, Ok, Err, ⊤}
 use Rattle.std.specs.Io.KnownBytes.{Appends}
 use Rattle.specification.specs.Layout.{LayoutModel}
 use Rattle.lines.specs.Lines.{lines_of}
 use Rattle.lines.specs.declared.failure.Failure.{Failure}
-use Rattle.lines.specs.declared.failure.Failure.TheVariants.{Write}
-use Rattle.words.specs.Texts.{long_line}
+use Rattle.lines.specs.declared.failure.Failure.TheVariants.{Write, Memory}
+use Rattle.words.specs.Texts.{long_line, fault_text}
 use Rattle.words.specs.Words.{Told, words}
+use Rattle.commands.specs.Replies.{reply_text}
 use Rattle.commands.specs.Obeyed.{Answered, obeyed}
+use Rattle.commands.specs.Asking.{line_asks}
+use Rattle.session.specs.declared.session.Response.{Response}
+use Rattle.session.specs.declared.session.Response.TheVariants.{Nothing, Reply, Fault}
 
 abbrev pub begins_with : ℕ → List ℕ → Bool
 begins_with byte [] = false
 begins_with byte (first ∷ rest) = first == byte
+
+-- an answer ends in a line feed (10)
+abbrev pub text_of : Response → List ℕ
+text_of Nothing = []
+text_of (Reply reply) = reply_text reply ++ 10 ∷ []
+text_of (Fault fault) = fault_text fault ++ 10 ∷ []
 
 -- nothing is answered
 abbrev pub unanswered : LayoutModel → Answered
@@ -27,6 +37,11 @@ unfoldable pub by_words : LayoutModel → List (List ℕ) → Answered
 by_words l [] = unanswered l
 by_words l (name ∷ words) = if begins_with 35 name then unanswered l else in_line l (obeyed l name words)
 
+-- the words of a line that asks for memory to be answered; what it then prints is not counted
+abbrev pub words_ask : List (List ℕ) → Bool
+words_ask [] = false
+words_ask (name ∷ words) = if begins_with 35 name then false else line_asks name words
+
 -- a line that is longer than 4,096 bytes, or not
 abbrev pub by_length : LayoutModel → Bool → List ℕ → Answered
 by_length l true line = in_line l (Err long_line)
@@ -41,6 +56,11 @@ unfoldable pub written_for : LayoutModel → List (List ℕ) → List ℕ
 written_for l [] = []
 written_for l (line ∷ lines) = (answered l line).text ++ written_for (answered l line).layout lines
 
+-- the layout after lines, one after another, from a layout on
+unfoldable pub layout_after : LayoutModel → List (List ℕ) → LayoutModel
+layout_after l [] = l
+layout_after l (line ∷ lines) = layout_after (answered l line).layout lines
+
 -- the layout at the start: one axis of extent 0
 abbrev pub empty_layout : LayoutModel
 empty_layout = record { buffer = 0; offset = pos 0; axes = record { extent = 0; stride = pos 0 } ∷ [] }
@@ -49,7 +69,16 @@ empty_layout = record { buffer = 0; offset = pos 0; axes = record { extent = 0; 
 unfoldable pub output_of : List ℕ → List ℕ
 output_of bytes = written_for empty_layout (lines_of bytes)
 
--- unless it was a write that failed, the first lines have been answered, each whole
+-- the first k lines have been answered, each whole
+abbrev pub AnswersFirst : ℕ → Option (List ℕ) → Option (List ℕ) → List (List ℕ) → Type 0
+AnswersFirst k old new lines = Appends old new (written_for empty_layout (take k lines))
+
+-- there is a line behind the first k, and its answer has a text
+abbrev pub HasAnswer : ℕ → List (List ℕ) → Type 0
+HasAnswer k lines = IsSomeAnd (slice_get lines k) (λ line. (answered (layout_after empty_layout (take k lines)) line).text ≢ [])
+
+-- unless it was a write that failed, the first lines have been answered, each whole; memory runs out only at a line whose answer has a text
 abbrev pub Answers : Failure → Option (List ℕ) → Option (List ℕ) → List ℕ → Type 0
 Answers (Write error) old new bytes = ⊤
-Answers other old new bytes = (k : ℕ) × Appends old new (written_for empty_layout (take k (lines_of bytes)))
+Answers Memory old new bytes = (k : ℕ) × AnswersFirst k old new (lines_of bytes) × HasAnswer k (lines_of bytes)
+Answers other old new bytes = (k : ℕ) × AnswersFirst k old new (lines_of bytes)

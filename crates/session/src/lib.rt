@@ -3,4 +3,5 @@
 
 mod session;
 
+pub use session::answer_text;
 pub use session::run;

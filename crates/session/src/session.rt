@@ -1,22 +1,22 @@
 // Lines answered in order, each before the next is awaited.
-ghost use Rattle.std.specs.Prelude.{◌≡◌, ◌++◌, ◌∷◌, [], map, string_bytes, OnOk, IfErr, IfSome};
+ghost use Rattle.std.specs.Prelude.{◌≡◌, ◌≢◌, ◌++◌, [], map, string_bytes, Some, OnOk, OnErr, IfOk, IfErr, IfSome, IsTrue};
 ghost use Rattle.std.specs.Io.KnownBytes.{Appends};
 ghost use Rattle.lines.specs.Lines.{AppendsFront};
 ghost use Rattle.view.specs.Model.{model_of};
-ghost use Rattle.session.specs.Session.{begins_with, empty_layout, by_words, by_length, output_of, Answers};
+ghost use Rattle.session.specs.Session.{begins_with, empty_layout, text_of, by_words, words_ask, by_length, output_of, Answers};
 
 use axis::Axis;
 use commands::memory::Memory;
 use commands::obey::obey;
+use commands::reply::Reply;
 use lines::failure::Failure;
 use lines::line::Line;
 use lines::write::write_front;
-use std::alloc::Global;
-use std::fmt;
+use std::alloc::{AllocError, Global};
 use std::io::{BufRead, Write};
 use view::layout::{Layout, MOST_AXES, ReadingOffset};
 use words::fault::{Fault, Problem};
-use words::word::words_of;
+use words::word::first_words;
 
 // At the start the layout is empty.
 #[tactic(auto, unfolding(view::specs::Table::table))]
@@ -31,13 +31,26 @@ fn empty() -> Layout
     }
 }
 
-// Puts an answer behind a text, with a line feed.
-fn say<D: fmt::Display + Drop>(text: &mut String, answer: D) -> Result<(), Failure>
-    ensures { OnOk result (IfSome (D.output answer)
-        (λ line. string_bytes text.new ≡ string_bytes text.old ++ line ++ 10 ∷ [])) }
+// What a line is answered.
+#[derive(Drop)]
+enum Response<'a> {
+    /// A blank line, or a comment.
+    Nothing,
+    Reply(Reply),
+    Fault(Fault<'a>),
+}
+
+// Puts an answer in the place of a text, with a line feed.
+fn print(text: &mut String, answer: Response) -> Result<(), AllocError>
+    ensures text { OnOk result (string_bytes text.new ≡ text_of answer.entry) }
+    ensures memory { OnErr result (text_of answer.entry ≢ []) }
 {
-    writeln!(text, "{answer}")?;
-    Ok(())
+    text.clear();
+    match answer {
+        Response::Nothing => Ok(()),
+        Response::Reply(reply) => writeln!(text, "{reply}"),
+        Response::Fault(fault) => writeln!(text, "{fault}"),
+    }
 }
 
 // Whether a line whose first word is this one is a comment.
@@ -47,52 +60,55 @@ fn is_comment(name: &[u8]) -> bool
     name.first() == Some(&b'#')
 }
 
-// Puts what the words of a line are answered behind a text.
+// What the words of a line are answered.
 #[tactic(auto, unfolding(crate::specs::Session::by_words))]
-fn answer_words(
+fn answer_words<'a>(
     alloc: Global,
     layout: &mut Layout,
     memory: &mut Memory,
-    words: &[&[u8]],
-    text: &mut String,
-) -> Result<(), Failure>
-    ensures text { OnOk result (string_bytes text.new ≡ string_bytes text.old
-        ++ (by_words (model_of layout.old) (map (λ word. word.now) words.now)).text) }
+    words: &'a [&'a [u8]],
+) -> Result<Response<'a>, AllocError>
+    ensures text { IfOk result (λ answer. text_of answer
+        ≡ (by_words (model_of layout.old) (map (λ word. word.now) words.now)).text) }
     ensures layout { OnOk result (model_of layout.new
         ≡ (by_words (model_of layout.old) (map (λ word. word.now) words.now)).layout) }
+    ensures memory { OnErr result (IsTrue (words_ask (map (λ word. word.now) words.now))) }
 {
     let [name, texts @ ..] = words else {
-        return Ok(());
+        return Ok(Response::Nothing);
     };
     if is_comment(*name) {
-        return Ok(());
+        return Ok(Response::Nothing);
     }
     match obey(alloc, layout, memory, *name, texts) {
-        Ok(reply) => say(text, reply),
-        Err(Problem::Memory) => Err(Failure::Memory),
-        Err(Problem::Told(fault)) => say(text, fault),
+        Ok(reply) => Ok(Response::Reply(reply)),
+        Err(Problem::Told(fault)) => Ok(Response::Fault(fault)),
+        Err(Problem::Memory) => Err(AllocError),
     }
 }
 
 // Puts what a line is answered in the place of a text.
+#[tactic(auto, using(crate::proofs::FirstWords::by_front, crate::proofs::FirstWords::asked_has_text))]
 fn answer(
     alloc: Global,
     layout: &mut Layout,
     memory: &mut Memory,
     line: &Line,
     text: &mut String,
-) -> Result<(), Failure>
+) -> Result<(), AllocError>
     ensures text { OnOk result (string_bytes text.new
         ≡ (by_length (model_of layout.old) line.now.is_long line.now.bytes.items).text) }
     ensures layout { OnOk result (model_of layout.new
         ≡ (by_length (model_of layout.old) line.now.is_long line.now.bytes.items).layout) }
+    ensures memory { OnErr result
+        ((by_length (model_of layout.old) line.now.is_long line.now.bytes.items).text ≢ []) }
 {
-    text.clear();
     if line.is_long {
-        return say(text, Fault::LongLine);
+        return print(text, Response::Fault(Fault::LongLine));
     }
-    let words = words_of(alloc, line.bytes.as_slice())?;
-    answer_words(alloc, layout, memory, words.as_slice(), text)
+    let words = first_words(line.bytes.as_slice());
+    let answer = answer_words(alloc, layout, memory, words.as_slice())?;
+    print(text, answer)
 }
 
 /// Answers a reader's lines in order. What is written is a stated function of what is read, and a
@@ -107,7 +123,7 @@ pub fn run<R: BufRead, W: Write>(alloc: Global, input: &mut R, out: &mut W) -> R
 {
     let mut layout = empty();
     let mut memory = Memory::new(alloc);
-    let mut line = Line::new(alloc)?;
+    let mut line = Line::new();
     let mut text = String::new(alloc);
     for _ in 0..u64::MAX {
         if !line.read(input, out)? {
@@ -124,4 +140,15 @@ pub fn run<R: BufRead, W: Write>(alloc: Global, input: &mut R, out: &mut W) -> R
         }
     }
     Err(Failure::Endless)
+}
+
+/// Puts what the lines of a text are answered behind what a list holds.
+pub fn answer_text(alloc: Global, text: &[u8], out: &mut Vec<u8>) -> Result<(), Failure>
+    ensures whole { OnOk result (out.new.items ≡ out.old.items ++ output_of text.now) }
+    ensures front { AppendsFront (Some out.old.items) (Some out.new.items) (output_of text.now) }
+    ensures answers { IfErr result (λ why.
+        Answers why (Some out.old.items) (Some out.new.items) text.now) }
+{
+    let mut input = text;
+    run(alloc, &mut input, out)
 }

@@ -12,7 +12,7 @@ use lines::write::write_front;
 use spelling::number::{read_signed, read_unsigned};
 use std::io::Write;
 use std::test::Fail;
-use words::word::words_of;
+use words::word::first_words;
 
 #[test]
 fn views(rt: HostRuntime) -> Result<(), Fail> {
@@ -125,9 +125,9 @@ fn lines_and_commands(rt: HostRuntime) -> Result<(), Fail> {
     let alloc = rt.alloc();
     let mut input = b"row\t2,3\r\n".as_slice();
     let mut out = Vec::new(alloc);
-    let mut line = Line::new(alloc)?;
+    let mut line = Line::new();
     assert!(rt; line.read(&mut input, &mut out)?);
-    let words = words_of(alloc, line.bytes.as_slice())?;
+    let words = first_words(line.bytes.as_slice());
     let [name, texts @ ..] = words.as_slice() else {
         return Err(Fail::new("a line without words"));
     };

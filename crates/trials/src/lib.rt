@@ -13,3 +13,5 @@ mod readme;
 mod streams;
 #[cfg(test)]
 mod texts;
+#[cfg(test)]
+mod waits;

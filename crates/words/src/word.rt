@@ -1,16 +1,20 @@
 // Words of a line, and what they spell.
-ghost use Rattle.std.specs.Prelude.{◌≡◌, ◌≤◌, IfOk, length, map, vec_len};
+ghost use Rattle.std.specs.Prelude.{◌≡◌, ◌≤◌, IfOk, length, map, take, vec_len};
 ghost use Rattle.std.specs.Io.BufRead.{strip_last};
 ghost use Rattle.words.specs.Words.{Tells, Gives, is_space, words, numbered, numbered_if, no_word, one_word, two_words, four_words, up_to_one_word, one_or_two_words, two_or_three_words, is_none, entries, one_of, list_of, listed, bytes_of};
 
 use crate::fault::{Fault, Problem};
 use crate::place::{Place, Word};
 use crate::spelled::Spelled;
+use arrayvec::ArrayVec;
 use hex::FromHexError;
 use std::alloc::{AllocError, Global};
 
 /// The most entries of a list.
 pub const ENTRIES_MOST: usize = 64;
+
+/// The most words of a line that are looked at: a name and, behind it, one word more than any command takes.
+pub const WORDS_MOST: usize = 6;
 
 /// The words behind the name of a command, and how the command is used.
 #[derive(Clone, Copy)]
@@ -35,14 +39,17 @@ fn without_return(line: &[u8]) -> &[u8]
     }
 }
 
-/// The words between the spaces of a line.
-pub fn words_of(alloc: Global, line: &[u8]) -> Result<Vec<&[u8]>, AllocError>
-    ensures { IfOk result (λ v. map (λ text. text.now) v.items ≡ words line.now) }
+/// The first words between the spaces of a line, at most six.
+pub fn first_words(line: &[u8]) -> ArrayVec<&[u8], WORDS_MOST>
+    ensures { map (λ text. text.now) result.items ≡ take 6 (words line.now) }
 {
-    without_return(line)
+    let mut first = ArrayVec::new();
+    let words = without_return(line)
         .split(|byte| is_space(*byte))
-        .filter(|text| !text.is_empty())
-        .collect(alloc)
+        .filter(|text| !text.is_empty());
+    // no more come than fit
+    let _ = first.extend(words.take(WORDS_MOST));
+    first
 }
 
 impl<'a> Words<'a> {

@@ -1,6 +1,6 @@
-use Rattle.std.proofs.Common.{Err}
+use Rattle.std.proofs.Common.{Err, rules}
 use Rattle.lines.specs.declared.failure.Failure.TheVariants.{Endless}
-use Rattle.session.proofs.Owed.{at_start, kept, answers, writes, writes-front, front, whole, at_end, at_last, whole_answers, always}
+use Rattle.session.proofs.Owed.{at_start, kept, answers, writes, writes-front, front, whole, at_end, at_last, whole_answers, answers_before, always}
 use Rattle.session.proofs.session.run.Goals as goal
 
 pub loop-init : goal.loop-init
@@ -50,21 +50,19 @@ loop-preserved g c =
 pub returns-clause-front : goal.returns-clause-front
 returns-clause-front g c = front _ _ _ _ _ _ c.loop.invariant
 
-pub returns-in_err-line-clause-answers : goal.returns-in_err-line-clause-answers
-returns-in_err-line-clause-answers g c = whole_answers _ _ _ _ _ _ (at_start (g.R.Read.remaining c.args.input.now) (g.W.Write.contents c.args.out.now))
-
 pub returns-in_err-read-clause-answers : goal.returns-in_err-read-clause-answers
-returns-in_err-read-clause-answers g c = whole_answers _ _ _ _ _ _ (kept _ _ _ _ _ _ _ c.loop.invariant c.in_err-read.ensures.kept)
+returns-in_err-read-clause-answers g c = whole_answers _ _ _ _ _ _ (search rules) (kept _ _ _ _ _ _ _ c.loop.invariant c.in_err-read.ensures.kept)
 
 pub returns-in_err-answer-clause-answers : goal.returns-in_err-answer-clause-answers
-returns-in_err-answer-clause-answers g c = whole_answers _ _ _ _ _ _ (kept _ _ _ _ _ _ _ c.loop.invariant c.in_ok-read.ensures.kept)
+returns-in_err-answer-clause-answers g c =
+    answers_before _ _ _ _ _ _ _ (search rules) (kept _ _ _ _ _ _ _ c.loop.invariant c.in_ok-read.ensures.kept) (rw c.if-not-branch.false at c.in_ok-read.ensures.more) c.in_ok-read.ensures.line c.in_err-answer.ensures.memory
 
 pub returns-then-line-clause-answers : goal.returns-then-line-clause-answers
 returns-then-line-clause-answers g c =
     let more = rw c.if-not-branch.false at c.in_ok-read.ensures.more in
     let owed = answers _ _ _ _ _ _ _ _ _ (kept _ _ _ _ _ _ _ c.loop.invariant c.in_ok-read.ensures.kept) more c.in_ok-read.ensures.line c.in_ok-read.ensures.rest c.in_ok-answer.ensures.text c.in_ok-answer.ensures.layout in
     let text = rw c.as_bytes.ensures.value at c.in-Ok.ensures.all in
-    whole_answers _ _ _ _ _ _ (kept _ _ _ _ _ _ _ (writes _ _ _ _ _ _ _ owed text) c.flush.ensures.bytes)
+    whole_answers _ _ _ _ _ _ (search rules) (kept _ _ _ _ _ _ _ (writes _ _ _ _ _ _ _ owed text) c.flush.ensures.bytes)
 
 pub returns-clause-answers : goal.returns-clause-answers
-returns-clause-answers g c = whole_answers (Err Endless) _ _ _ _ _ c.loop.invariant
+returns-clause-answers g c = whole_answers (Err Endless) _ _ _ _ _ (λ e. cc) c.loop.invariant

@@ -7,13 +7,13 @@ pub returns-in-Feed : goal.returns-in-Feed
 returns-in-Feed g c =
     let (piece, took, takes) = c.in_ok-take_piece.ensures.took in
     let read = at_line_feed _ _ _ _ _ piece c.loop.invariant.0 took (subst (TakesPiece _ _ piece) c.in-Feed.is takes) in
-    record { kept = search rules; few = read.0.few; one_line = read.0.one_line; more = read.1; line = read.0.held; rest = read.0.rest; last = search rules }
+    record { kept = search rules; few = read.0.few; one_line = read.0.one_line; no_memory = search rules; more = read.1; line = read.0.held; rest = read.0.rest; last = search rules }
 
 pub returns-in-Input : goal.returns-in-Input
 returns-in-Input g c =
     let (piece, took, takes) = c.in_ok-take_piece.ensures.took in
     let read = at_input _ _ _ _ _ _ piece _ c.loop.invariant.0 took (subst (TakesPiece _ _ piece) c.in-Input.is takes) refl refl c.is_empty.ensures in
-    record { kept = search rules; few = read.0.few; one_line = read.0.one_line; more = read.1; line = read.0.held; rest = read.0.rest; last = λ _. read.2 }
+    record { kept = search rules; few = read.0.few; one_line = read.0.one_line; no_memory = search rules; more = read.1; line = read.0.held; rest = read.0.rest; last = λ _. read.2 }
 
 pub loop-preserved : goal.loop-preserved
 loop-preserved g c =

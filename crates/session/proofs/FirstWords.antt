@@ -1,0 +1,70 @@
+-- The first six words of a line decide what it is answered.
+use Rattle.std.proofs.Common.{◌≡◌, ℕ, List, [], ◌∷◌, take, Bool, true, false, Option, Some, None, Ok, Err, IsTrue, ◌≢◌, ◌++◌, length, length-append, arith, ap, refl, sym}
+use Rattle.specification.specs.Layout.{LayoutModel}
+use Rattle.words.specs.Words.{Told, words, no_word, one_word, two_words, four_words, up_to_one_word, one_or_two_words, two_or_three_words}
+use Rattle.commands.specs.declared.command.Command.{Command}
+use Rattle.commands.specs.declared.command.Command.TheVariants as command
+use Rattle.commands.specs.declared.command.Change.TheVariants.{New, Set, Permute, Diagonal, Broadcast, Read}
+use Rattle.commands.specs.declared.command.Query.TheVariants.{Bounds, Show, Offset, Normal, Verdict, Injective, Record, Rest, Order, Column, Row, Help}
+use Rattle.commands.specs.Commands.{named, name_of}
+use Rattle.commands.specs.Obeyed.{Answered, next_layout, answer_text, run, obeyed}
+use Rattle.session.specs.Session.{begins_with, in_line, by_words, words_ask, by_length}
+
+module _ (l : LayoutModel) (a b c d e : List ℕ) (more : List (List ℕ)) where
+  -- no command takes five words
+  five_run : (command : Command) → run l command (a ∷ b ∷ c ∷ d ∷ e ∷ []) ≡ run l command (a ∷ b ∷ c ∷ d ∷ e ∷ more)
+  unfolding run next_layout answer_text no_word one_word two_words four_words up_to_one_word one_or_two_words two_or_three_words
+  five_run (command.Change New) = refl
+  five_run (command.Change Set) = refl
+  five_run (command.Change Permute) = refl
+  five_run (command.Change Diagonal) = refl
+  five_run (command.Change Broadcast) = refl
+  five_run (command.Change Read) = refl
+  five_run (command.Query Bounds) = refl
+  five_run (command.Query Show) = refl
+  five_run (command.Query Offset) = refl
+  five_run (command.Query Normal) = refl
+  five_run (command.Query Verdict) = refl
+  five_run (command.Query Injective) = refl
+  five_run (command.Query Record) = refl
+  five_run (command.Query Rest) = refl
+  five_run (command.Query Order) = refl
+  five_run (command.Query Column) = refl
+  five_run (command.Query Row) = refl
+  five_run (command.Query Help) = refl
+
+  five_obeyed : (name : List ℕ) → obeyed l name (a ∷ b ∷ c ∷ d ∷ e ∷ []) ≡ obeyed l name (a ∷ b ∷ c ∷ d ∷ e ∷ more)
+  unfolding obeyed name_of
+  five_obeyed name = by (named name) refl
+    where
+      by : (found : Option Command) → named name ≡ found → obeyed l name (a ∷ b ∷ c ∷ d ∷ e ∷ []) ≡ obeyed l name (a ∷ b ∷ c ∷ d ∷ e ∷ more)
+      by None is = rw is refl
+      by (Some command) is = rw is (five_run command)
+
+pub first_six : (l : LayoutModel) (words : List (List ℕ)) → by_words l (take 6 words) ≡ by_words l words
+unfolding by_words
+first_six l [] = refl
+first_six l (name ∷ []) = refl
+first_six l (name ∷ a ∷ []) = refl
+first_six l (name ∷ a ∷ b ∷ []) = refl
+first_six l (name ∷ a ∷ b ∷ c ∷ []) = refl
+first_six l (name ∷ a ∷ b ∷ c ∷ d ∷ []) = refl
+first_six l (name ∷ a ∷ b ∷ c ∷ d ∷ e ∷ more) = rw (five_obeyed l a b c d e more name) refl
+
+-- what a line that is not too long is answered, by its first six words
+pub by_front : (l : LayoutModel) (long : Bool) (line : List ℕ) (front : List (List ℕ)) → long ≡ false → front ≡ take 6 (words line) → by_length l long line ≡ by_words l front
+by_front l long line front short first = rw (short, first) (sym (first_six l (words line)))
+
+-- a line that asks for memory is no blank line and no comment
+pub asked_has_text : (l : LayoutModel) (words : List (List ℕ)) → IsTrue (words_ask words) → (by_words l words).text ≢ []
+unfolding by_words
+asked_has_text l [] asks = absurd (cc)
+asked_has_text l (name ∷ words) asks = by_comment (begins_with 35 name) refl
+  where
+    ends : (told : Told Answered) → (in_line l told).text ≢ []
+    ends (Ok a) none = omega (arith, ap length none, length-append a.text (10 ∷ []))
+    ends (Err text) none = omega (arith, ap length none, length-append text (10 ∷ []))
+
+    by_comment : (comment : Bool) → begins_with 35 name ≡ comment → (by_words l (name ∷ words)).text ≢ []
+    by_comment true is = absurd (let no : false ≡ true = rw is at asks in cc)
+    by_comment false is = rw is (ends (obeyed l name words))
