@@ -8,7 +8,8 @@
 //! Of axes that stand separated as they are, or from the last on, the answer is found at sight.
 //!
 //! Nothing is allocated. A search looks at no more than 2^22 differences; an enumeration is of no
-//! more than 2^24 positions and asks for no more than 2^24 + 1 words.
+//! more than 2^24 positions and asks for no more than 2^24 + 1 words (`enough_words` in
+//! `JudgementClaims`).
 //!
 //! The calls judge a layout, axes that are lent, or two lists. Each promises the theorem: `means`
 //! says exactly when each answer is given (`Means`, in specs/Meaning.antt), and `judged` that
