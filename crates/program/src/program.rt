@@ -2,6 +2,7 @@
 ghost use Rattle.std.specs.Prelude.{◌≡◌, ◌≢◌, ◌≤◌, IfOk};
 ghost use Rattle.std.specs.Process.{exit_status};
 ghost use Rattle.clap.specs.Values.{kind_of};
+ghost use Rattle.lines.specs.declared.failure.Failure.TheVariants.{Memory};
 ghost use Rattle.clap.specs.declared.error.kind.ErrorKind.TheVariants.{OutOfMemory, DisplayHelp, DisplayVersion};
 
 use crate::status::status;
@@ -56,7 +57,9 @@ fn command_line<'a>(alloc: Global, name: &'a str, help: &'a str) -> Result<Comma
 }
 
 // What a buffer fails with that is not made.
-fn no_memory(_error: io::Error) -> Failure {
+fn no_memory(_error: io::Error) -> Failure
+    ensures { result ≡ Memory }
+{
     Failure::Memory
 }
 
