@@ -122,7 +122,12 @@ fn status_of_error(rt: &HostRuntime, name: &str, error: Error) -> ExitCode
         return ExitCode::from(NOT_UNDERSTOOD);
     }
     // what --help or --version asks for
-    status(rt, name, "the command line", printed.map_err(Failure::Write))
+    status(
+        rt,
+        name,
+        "the command line",
+        printed.map_err(Failure::Write),
+    )
 }
 
 /// Does what the command line asks for. Status 0 where the input has ended or the reader of the answers has closed the pipe, and
