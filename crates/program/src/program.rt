@@ -2,6 +2,7 @@
 ghost use Rattle.std.specs.Prelude.{◌≡◌, ◌≢◌, ◌≤◌, IfOk};
 ghost use Rattle.std.specs.Process.{exit_status};
 ghost use Rattle.clap.specs.Values.{kind_of};
+ghost use Rattle.lines.specs.declared.failure.Failure.TheVariants.{Memory};
 ghost use Rattle.clap.specs.declared.error.kind.ErrorKind.TheVariants.{OutOfMemory, DisplayHelp, DisplayVersion};
 
 use crate::status::status;
@@ -56,7 +57,9 @@ fn command_line<'a>(alloc: Global, name: &'a str, help: &'a str) -> Result<Comma
 }
 
 // What a buffer fails with that is not made.
-fn no_memory(_error: io::Error) -> Failure {
+fn no_memory(_error: io::Error) -> Failure
+    ensures { result ≡ Memory }
+{
     Failure::Memory
 }
 
@@ -119,7 +122,12 @@ fn status_of_error(rt: &HostRuntime, name: &str, error: Error) -> ExitCode
         return ExitCode::from(NOT_UNDERSTOOD);
     }
     // what --help or --version asks for
-    status(rt, name, "the command line", printed.map_err(Failure::Write))
+    status(
+        rt,
+        name,
+        "the command line",
+        printed.map_err(Failure::Write),
+    )
 }
 
 /// Does what the command line asks for. Status 0 where the input has ended or the reader of the answers has closed the pipe, and

@@ -2,6 +2,7 @@
 #![tactic(auto)]
 
 mod session;
+mod text;
 
-pub use session::answer_text;
 pub use session::run;
+pub use text::answer_text;

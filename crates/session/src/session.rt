@@ -1,5 +1,5 @@
 // Lines answered in order, each before the next is awaited.
-ghost use Rattle.std.specs.Prelude.{◌≡◌, ◌≢◌, ◌++◌, [], map, string_bytes, Some, OnOk, OnErr, IfOk, IfErr, IfSome, IsTrue};
+ghost use Rattle.std.specs.Prelude.{◌≡◌, ◌≢◌, [], map, string_bytes, OnOk, OnErr, IfOk, IfErr, IfSome, IsTrue};
 ghost use Rattle.std.specs.Io.KnownBytes.{Appends};
 ghost use Rattle.lines.specs.Lines.{AppendsFront};
 ghost use Rattle.view.specs.Model.{model_of};
@@ -140,15 +140,4 @@ pub fn run<R: BufRead, W: Write>(alloc: Global, input: &mut R, out: &mut W) -> R
         }
     }
     Err(Failure::Endless)
-}
-
-/// Puts what the lines of a text are answered behind what a list holds.
-pub fn answer_text(alloc: Global, text: &[u8], out: &mut Vec<u8>) -> Result<(), Failure>
-    ensures whole { OnOk result (out.new.items ≡ out.old.items ++ output_of text.now) }
-    ensures front { AppendsFront (Some out.old.items) (Some out.new.items) (output_of text.now) }
-    ensures answers { IfErr result (λ why.
-        Answers why (Some out.old.items) (Some out.new.items) text.now) }
-{
-    let mut input = text;
-    run(alloc, &mut input, out)
 }

@@ -9,6 +9,7 @@ use layouts::{
 };
 use lines::line::Line;
 use lines::write::write_front;
+use session::answer_text;
 use spelling::number::{read_signed, read_unsigned};
 use std::io::Write;
 use std::test::Fail;
@@ -137,7 +138,8 @@ fn lines_and_commands(rt: HostRuntime) -> Result<(), Fail> {
         return Err(Fail::new("a line that is not obeyed"));
     };
     write!(out, "{reply}")?;
-    write_front(&mut out, b".")?;
-    assert_eq!(rt; out.as_slice(), b"3,1.".as_slice());
+    write_front(&mut out, b".\n")?;
+    answer_text(alloc, b"column 2,3\n\nrow 2,3", &mut out)?;
+    assert_eq!(rt; out.as_slice(), b"3,1.\n1,2\n3,1\n".as_slice());
     Ok(())
 }
