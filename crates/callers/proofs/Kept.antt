@@ -1,18 +1,14 @@
 -- Both ways of the round trip for whoever writes and reads in one scratch, from what `calls_hold`, `records_hold` and `normal_forms_hold` promise.
-use Rattle.std.proofs.Common.{◌≡◌, refl, sym, ap, ◌∙◌, ℕ, ◌<◌, ◌≤◌, ◌⊎◌, inl, inr, List, [], ◌∷◌, length, take, Result, Ok, Err, IfOk, IfErr, IsOk, arith}
-use Rattle.std.proofs.lemmas.Bool.{cases_lt}
+use Rattle.std.proofs.Common.{◌≡◌, refl, ℕ, ◌≤◌, List, [], length, take, Result, Ok, Err, IfOk, IfErr, IsOk, arith}
 use Rattle.specification.specs.Outcome.{Outcome, done, refused}
 use Rattle.specification.specs.Layout.{LayoutModel, IsAccepted}
 use Rattle.specification.specs.Normal.{normal_of}
 use Rattle.specification.specs.NormalClaims.{SameOffsets, NormalClaims}
-use Rattle.specification.specs.Verdict.{Judged, judge, words_needed}
-use Rattle.specification.specs.VerdictClaims.{VerdictClaims}
-use Rattle.specification.specs.Record.{WasRead, read_of, layout_from, with_buffer, length_field, Writing}
+use Rattle.specification.specs.Record.{WasRead, read_of, with_buffer, length_field, Writing}
 use Rattle.specification.specs.RecordClaims.{Bytes, ReadRefused, ReaderClaims}
 use Rattle.specification.specs.RecordsAgree.{Side, RecordsAgreeClaim}
 use Rattle.specification.specs.Calls.{end_of}
 use Rattle.specification.proofs.OutcomeLaws.{done_inj}
-use Rattle.specification.proofs.ReaderLaws.{reads}
 use Rattle.view.specs.declared.layout.Layout.{Layout}
 use Rattle.view.specs.declared.layout.Refusal.{Refusal}
 use Rattle.view.specs.Answers.{number_of, values_of}
@@ -24,7 +20,7 @@ use Rattle.record.specs.Lent.{LentClaims}
 use Rattle.record.specs.Running.{RunningRoundTrip}
 use Rattle.record.proofs.SameLaws.{writing, accepted}
 use Rattle.callers.specs.Records.{HasRoom}
-use Rattle.callers.proofs.Records.{had_room, not_refused}
+use Rattle.callers.proofs.Records.{not_refused}
 
 -- ---- write, then read
 
@@ -46,10 +42,10 @@ unfolding with_buffer
 form_reads_same l n = let s = n.same l in record { as_many = s.as_many; alike = s.alike }
 
 -- the same of the answer of the call
-pub kept : (r : Result Layout Refusal) (l : LayoutModel) → NormalClaims → layout_outcome r ≡ done (with_buffer (normal_of l))
-    → IfOk r (λ read. model_of read ≡ with_buffer (normal_of l)) × IfOk r (λ read. SameOffsets (model_of read) l) × IsOk r
-kept (Ok read) l n e = let p = done_inj e in (p, rw p (form_reads_same l n), refl)
-kept (Err why) l n e = absurd cc
+pub kept : (r : Result Layout Refusal) (l : LayoutModel) (P : Refusal → Type 0) → NormalClaims → layout_outcome r ≡ done (with_buffer (normal_of l))
+    → IfOk r (λ read. model_of read ≡ with_buffer (normal_of l)) × IfOk r (λ read. SameOffsets (model_of read) l) × IsOk r × IfErr r P
+kept (Ok read) l P n e = let p = done_inj e in (p, rw p (form_reads_same l n), refl, tt)
+kept (Err why) l P n e = absurd cc
 
 pub write_answered : (l : Layout) (why : Refusal) (output scratch output-then scratch-then : List ℕ) → RecordsAgreeClaim → Wrote l output scratch (Err why) output-then scratch-then
     → IsAccepted (model_of l) → ¬ (HasRoom (model_of l) (length output) (length scratch))

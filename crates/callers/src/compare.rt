@@ -1,5 +1,5 @@
 //! Whether two views read the same cells in the same order, and what the verdict byte of a record says.
-ghost use Rattle.std.specs.Prelude.{◌↔◌, map, length, slice_index_or, IsTrue, IsOk, IfOk};
+ghost use Rattle.std.specs.Prelude.{◌↔◌, map, length, IsTrue, IsOk, IfOk};
 ghost use Rattle.specification.specs.Calls.{end_of};
 ghost use Rattle.specification.specs.NormalClaims.{SameOffsets};
 ghost use Rattle.specification.specs.RecordsAgree.{TrueByte};

@@ -1,9 +1,10 @@
 //! A layout kept as a record: what was written is read, and what was read is written.
-ghost use Rattle.std.specs.Prelude.{◌≡◌, ◌≢◌, ◌≤◌, length, take, IsOk, IfOk, IfErr};
+ghost use Rattle.std.specs.Prelude.{◌≡◌, ◌≤◌, length, take, IsOk, IfOk, IfErr};
 ghost use Rattle.specification.specs.Layout.{IsAccepted};
 ghost use Rattle.specification.specs.Normal.{normal_of};
 ghost use Rattle.specification.specs.NormalClaims.{SameOffsets};
-ghost use Rattle.specification.specs.Record.{with_buffer, length_field};
+ghost use Rattle.specification.specs.Record.{written, write_answer, with_buffer, length_field};
+ghost use Rattle.specification.specs.Outcome.{refused};
 ghost use Rattle.specification.specs.RecordClaims.{ReadRefused};
 ghost use Rattle.view.specs.Answers.{number_of, values_of};
 ghost use Rattle.view.specs.Model.{model_of};
@@ -17,7 +18,8 @@ use specification::normal_forms_hold;
 use view::layout::{Layout, Refusal};
 
 /// A layout written as a record and read back, in one scratch: its normal form, whose buffer ends at its highest offset. It reads
-/// the same cells in the same order. An accepted layout with room for its record is not refused.
+/// the same cells in the same order. An accepted layout with room for its record is not refused, and each refusal is the writer's: the
+/// reader refuses nothing that was written.
 pub fn written_back(
     layout: &Layout,
     output: &mut [u8],
@@ -27,6 +29,8 @@ pub fn written_back(
     ensures same { IfOk result (λ read. SameOffsets (model_of read) (model_of layout.now)) }
     ensures answered { IsAccepted (model_of layout.now)
         → HasRoom (model_of layout.now) (length output.old) (length scratch.old) → IsOk result }
+    ensures by_writer { IfErr result (λ why. refused (number_of why) (values_of why)
+        ≡ write_answer (written (model_of layout.now) (length output.old) (length scratch.old))) }
 {
     calls_hold();
     normal_forms_hold();

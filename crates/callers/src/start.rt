@@ -1,7 +1,6 @@
 //! A sheet as a caller is told of it, and its check-in.
 ghost use Rattle.std.specs.Prelude.{◌≡◌, IsOk, IfOk};
 ghost use Rattle.specification.specs.Layout.{IsAccepted};
-ghost use Rattle.specification.specs.CheckInClaims.{IsCheckedIn};
 ghost use Rattle.view.specs.Model.{model_of};
 ghost use Rattle.callers.specs.Sheets.{sheet_of, IsFit};
 

@@ -1,10 +1,9 @@
 //! Views made one by one, each answer kept, and two such chains compared by their records.
-ghost use Rattle.std.specs.Prelude.{◌≡◌, ◌↔◌, [], ◌∷◌, length, IsTrue, IsOk, IfOk};
+ghost use Rattle.std.specs.Prelude.{◌↔◌, [], ◌∷◌, length, IsTrue, IsOk, IfOk};
 ghost use Rattle.specification.specs.Calls.{end_of};
 ghost use Rattle.specification.specs.NormalClaims.{SameOffsets};
 ghost use Rattle.specification.specs.RecordsAgree.{Run};
 ghost use Rattle.view.specs.Answers.{outcome_of};
-ghost use Rattle.view.specs.Model.{model_of};
 ghost use Rattle.record.specs.Calls.{call_in};
 ghost use Rattle.record.specs.Chain.{Chain};
 ghost use Rattle.callers.specs.Records.{HasRoom};
