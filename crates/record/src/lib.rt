@@ -19,6 +19,14 @@ pub mod same;
 pub mod step;
 pub mod writer;
 
+pub use calls::{Call, after, fuse_by_numbers, make_in_place, run};
+pub use fields::BytePlace;
+pub use normal::normal_form;
+pub use read::read_record;
+pub use same::same_readings;
+pub use step::step_over;
+pub use writer::write_record;
+
 /// Does nothing, and promises what the definitions of the record say: its bytes, digit by digit,
 /// what the writer frees, what the reader takes for a record, both ways of the round trip, and
 /// stepping over.

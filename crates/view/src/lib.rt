@@ -20,6 +20,13 @@ pub mod permute;
 pub mod printed;
 pub mod values;
 
+pub use bounds::{Reach, validate_bounds};
+pub use count::checked_element_count;
+pub use diagonal::AxisPair;
+pub use layout::{Layout, MOST_AXES, ReadingOffset, Refusal, Viewed};
+pub use parts::{Extents, Strides};
+pub use values::Values;
+
 /// Does nothing, and promises what the reach, the number of positions and the offset of an index vector say of a layout: the
 /// check wants the proof of each.
 #[tactic(auto, using(crate::proofs::AnswersClaimed::reach_answer_claims, crate::proofs::AnswersClaimed::element_count_claims, specification::proofs::OffsetLaws::offset_claims))]
