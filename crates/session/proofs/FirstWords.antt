@@ -1,5 +1,5 @@
 -- The first six words of a line decide what it is answered.
-use Rattle.std.proofs.Common.{◌≡◌, ℕ, List, [], ◌∷◌, take, Bool, true, false, Option, Some, None, Ok, Err, IsTrue, ◌≢◌, ◌++◌, length, length-append, arith, ap, refl, sym}
+use Rattle.std.proofs.Common.{◌≡◌, ℕ, List, [], ◌∷◌, take, Bool, true, false, Option, Some, None, Ok, Err, IsTrue, ◌≢◌, length, length-append, arith, ap, refl, sym}
 use Rattle.specification.specs.Layout.{LayoutModel}
 use Rattle.words.specs.Words.{Told, words, no_word, one_word, two_words, four_words, up_to_one_word, one_or_two_words, two_or_three_words}
 use Rattle.commands.specs.declared.command.Command.{Command}
