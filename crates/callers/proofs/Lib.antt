@@ -1,5 +1,6 @@
 pub mod Chained
 pub mod Compared
+pub mod Counted
 pub mod Kept
 pub mod Records
 pub mod Sheets

@@ -1,16 +1,19 @@
--- What a judgement says of axes, out of what the calls of the verdict promise (`Means`, `MeansOfLists`).
-use Rattle.std.proofs.Common.{◌≡◌, ◌↔◌, ℕ, ◌<◌, ◌≤◌, List, [], ◌∷◌, length, Ok, Err, inl, inr, refl, arith}
-use mathlib.Core.Logic.{◌⊎◌}
+-- What a judgement says of axes, out of what the calls of the verdict promise (`Means`, `MeansOfLists`); and what a verdict byte says of a
+-- layout, out of what the writer promises (`TrueByte`).
+use Rattle.std.proofs.Common.{ℕ, ◌<◌, List, [], ◌∷◌, length, Ok, Err, refl, arith}
 use lib.IntN.{ℤ}
 use Rattle.std.proofs.lemmas.Int.{ints}
-use Rattle.specification.specs.Axis.{Axis, axes_of_lists, SharesOffset}
+use Rattle.specification.specs.Axis.{Axis, axes_of_lists}
+use Rattle.specification.specs.Layout.{LayoutModel}
+use Rattle.specification.specs.Normal.{normal_of}
 use Rattle.specification.specs.Verdict.{BothBudgetsPassed}
+use Rattle.specification.specs.RecordsAgree.{TrueByte}
 use Rattle.view.specs.declared.layout.Refusal.{Refusal}
 use Rattle.view.specs.declared.layout.Refusal.TheVariants.{TooManyAxes, LengthsDiffer, OutOfRange, WrongLength, BadAxis, BadExtent, BadIndex, TooManyPositions, ShortScratch, ShortOutput, NotARecord}
 use Rattle.injectivity.specs.declared.Judgement.{Judgement}
 use Rattle.injectivity.specs.declared.Judgement.TheVariants.{Distinct, Repeated, Undecided}
 use Rattle.injectivity.specs.Meaning.{NoneDue, IsFitting, Means, MeansOfLists}
-use Rattle.callers.specs.Verdicts.{IsTrueOf}
+use Rattle.callers.specs.Verdicts.{IsTrueOf, ByteTells}
 
 pub told_true : (axes : List Axis) (before after : List ℕ) (j : Judgement) → Means axes before after (Ok j) → IsTrueOf axes j
 unfolding Means
@@ -48,3 +51,17 @@ pub lists_answered : (extents : List ℕ) (strides : List ℤ) (before after : L
     → IsFitting extents strides → ¬ (NoneDue (axes_of_lists extents strides) (length before))
 unfolding MeansOfLists
 lists_answered extents strides before after why m f = answered (axes_of_lists extents strides) before after why (m.fitting f)
+
+-- ---- the byte
+
+-- a byte below 3 is of axes for which the budgets are not both passed
+small_byte : (x : LayoutModel) (byte : ℕ) → TrueByte x byte → byte < 3 → ¬ (BothBudgetsPassed (normal_of x).axes)
+small_byte x byte t h b = let e = t.undecided.1 b in omega (arith, h)
+
+pub byte_tells : (x : LayoutModel) (byte : ℕ) → TrueByte x byte → ByteTells x byte
+byte_tells x byte t =
+    record {
+      undecided = t.undecided;
+      distinct = (λ e. let n = small_byte x byte t (omega (arith, e)) in (n, (t.distinct n).0 e), λ d. (t.distinct d.0).1 d.1);
+      repeated = (λ e. let n = small_byte x byte t (omega (arith, e)) in (n, (t.repeated n).0 e), λ d. (t.repeated d.0).1 d.1);
+    }

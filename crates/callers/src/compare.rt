@@ -2,10 +2,10 @@
 ghost use Rattle.std.specs.Prelude.{◌↔◌, map, length, IsTrue, IsOk, IfOk};
 ghost use Rattle.specification.specs.Calls.{end_of};
 ghost use Rattle.specification.specs.NormalClaims.{SameOffsets};
-ghost use Rattle.specification.specs.RecordsAgree.{TrueByte};
 ghost use Rattle.record.specs.Calls.{call_in};
 ghost use Rattle.callers.specs.Sheets.{sheet_of, IsFit};
 ghost use Rattle.callers.specs.Records.{HasRoom};
+ghost use Rattle.callers.specs.Verdicts.{ByteTells};
 
 use crate::start::Sheet;
 use record::calls::Call;
@@ -13,7 +13,8 @@ use record::same::same_readings;
 use view::layout::Refusal;
 
 /// Whether the views of two sheets, each after a list of calls, read the same cells in the same order; and the verdict byte of the
-/// first view's record, which is true of that view. The records are left in the two outputs.
+/// first view's record: 1 if no two positions of that view share a cell, 2 if two do, 3 if both budgets are passed for its normal
+/// form. The records are left in the two outputs.
 pub fn same_cells(
     first: Sheet<'_>,
     calls: &[Call<'_>],
@@ -27,7 +28,7 @@ pub fn same_cells(
         ↔ SameOffsets (end_of (sheet_of first.entry) (map call_in calls.now))
         (end_of (sheet_of second.entry) (map call_in other_calls.now))) }
     ensures byte { IfOk result (λ answer.
-        TrueByte (end_of (sheet_of first.entry) (map call_in calls.now)) answer.1) }
+        ByteTells (end_of (sheet_of first.entry) (map call_in calls.now)) answer.1) }
     ensures answered { IsFit first.entry → IsFit second.entry
         → HasRoom (end_of (sheet_of first.entry) (map call_in calls.now))
         (length output.old) (length scratch.old)

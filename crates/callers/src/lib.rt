@@ -3,6 +3,7 @@
 #![tactic(auto)]
 
 pub mod compare;
+pub mod count;
 pub mod keep;
 pub mod start;
 pub mod steps;

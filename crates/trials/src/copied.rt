@@ -1,10 +1,11 @@
 // Each caller to copy, where it succeeds.
 use callers::compare::same_cells;
+use callers::count::verdict_with_count;
 use callers::keep::{written_again, written_back};
 use callers::start::Sheet;
 use callers::steps::{Steps, same_after_steps};
 use callers::write::{may_write, stand_apart};
-use layouts::{BytePlace, Call, Judgement, ReadingOffset};
+use layouts::{Axis, BytePlace, Call, Judgement, ReadingOffset};
 use std::test::Fail;
 
 const SHEET: Sheet<'static> = Sheet {
@@ -21,6 +22,27 @@ fn may_be_written(rt: HostRuntime) -> Result<(), Fail> {
     assert_eq!(rt; judgement, Judgement::Distinct(0));
     assert!(rt; stand_apart(&[2, 3], &[1, 2], &mut [])?);
     assert!(rt; !stand_apart(&[2, 3], &[1, 1], &mut [])?);
+    Ok(())
+}
+
+#[test]
+fn counted(rt: HostRuntime) -> Result<(), Fail> {
+    let axes = [
+        Axis {
+            extent: 2,
+            stride: 2,
+        },
+        Axis {
+            extent: 2,
+            stride: 3,
+        },
+        Axis {
+            extent: 2,
+            stride: 5,
+        },
+    ];
+    let judgement = verdict_with_count(&axes, &mut [])?;
+    assert_eq!(rt; judgement, Judgement::Repeated(1));
     Ok(())
 }
 
