@@ -1,7 +1,7 @@
+pub mod ByDigits
 pub mod Chained
 pub mod Compared
 pub mod Counted
-pub mod ByDigits
 pub mod Kept
 pub mod Records
 pub mod Sheets
