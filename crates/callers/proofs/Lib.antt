@@ -1,3 +1,4 @@
+pub mod ByDigits
 pub mod Chained
 pub mod Compared
 pub mod Counted

@@ -1,4 +1,5 @@
 pub mod Counts
+pub mod Digits
 pub mod Records
 pub mod Sheets
 pub mod Steps

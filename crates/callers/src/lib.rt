@@ -4,6 +4,7 @@
 
 pub mod compare;
 pub mod count;
+pub mod digits;
 pub mod keep;
 pub mod start;
 pub mod steps;

@@ -1,6 +1,7 @@
 // Each caller to copy, where it succeeds.
 use callers::compare::same_cells;
 use callers::count::verdict_with_count;
+use callers::digits::written_by_digits;
 use callers::keep::{written_again, written_back};
 use callers::start::Sheet;
 use callers::steps::{Steps, same_after_steps};
@@ -89,6 +90,8 @@ fn kept(rt: HostRuntime) -> Result<(), Fail> {
     assert_eq!(rt; read.rank, 1);
     let end = written_again(&output, &mut other_output, &mut [])?;
     assert_eq!(rt; end, BytePlace(29));
+    assert_eq!(rt; output, other_output);
+    written_by_digits(&layout, &mut other_output, &mut [])?;
     assert_eq!(rt; output, other_output);
     Ok(())
 }
