@@ -1,5 +1,5 @@
 -- The bytes that a writer left, by their digits (`ByteClaims`).
-use Rattle.std.proofs.Common.{◌≡◌, ap, ◌∙◌, ℕ, List, length, take, Result, Ok, Err, IfOk}
+use Rattle.std.proofs.Common.{ap, ◌∙◌, ℕ, List, length, take, Result, Ok, Err, IfOk}
 use Rattle.specification.specs.Record.{Made}
 use Rattle.specification.specs.ByteClaims.{ByteClaims}
 use Rattle.specification.specs.Normal.{normal_of}

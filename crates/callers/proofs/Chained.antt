@@ -1,5 +1,5 @@
 -- Two chains and two records, from what `calls_hold` promises of every two chains (`ChainsAgreeClaim`).
-use Rattle.std.proofs.Common.{◌≡◌, ◌↔◌, refl, sym, ◌∙◌, ℕ, Bool, IsTrue, List, length, take, Result, Ok, Err}
+use Rattle.std.proofs.Common.{◌≡◌, ◌↔◌, refl, sym, ◌∙◌, ℕ, Bool, IsTrue, List, length, take, Ok, Err}
 use Rattle.specification.specs.Outcome.{Check}
 use Rattle.specification.specs.Layout.{IsAccepted}
 use Rattle.specification.specs.Calls.{Call, end_of}

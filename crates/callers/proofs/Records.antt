@@ -1,7 +1,7 @@
 -- A record and what it asks for: made exactly if there is room.
 use Rattle.std.proofs.Common.{◌≡◌, refl, ℕ, ◌<◌, ◌≤◌, ◌⊎◌, Bool, true, false, List, inl, inr}
 use Rattle.std.proofs.lemmas.Bool.{cases_lt}
-use Rattle.specification.specs.Outcome.{Outcome, done, refused}
+use Rattle.specification.specs.Outcome.{done, refused}
 use Rattle.specification.specs.Layout.{LayoutModel, rank}
 use Rattle.specification.specs.Normal.{normal_of, overfull}
 use Rattle.specification.specs.Verdict.{words_needed}

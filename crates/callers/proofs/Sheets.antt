@@ -1,7 +1,6 @@
 -- Check-in of a sheet: what passes is its layout, and accepted; a sheet that fits is not refused.
 use Rattle.std.proofs.Common.{◌≡◌, refl, sym, ℕ, List, Result, Ok, Err, IfOk, IsOk}
 use lib.IntN.{ℤ}
-use Rattle.specification.specs.Outcome.{Outcome, done, refused}
 use Rattle.specification.specs.Layout.{IsAccepted}
 use Rattle.specification.specs.CheckIn.{check_in}
 use Rattle.specification.specs.CheckInClaims.{layout_of, IsCheckedIn, CheckInClaims}
