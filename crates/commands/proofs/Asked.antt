@@ -1,5 +1,5 @@
 -- What was read before memory is asked for, and so which lines ask for it.
-use Rattle.std.proofs.Common.{◌≡◌, ℕ, List, [], ◌∷◌, Option, Some, None, Ok, Err, true, is_some, ◌&&◌, refl, sym, ap, ◌∙◌}
+use Rattle.std.proofs.Common.{◌≡◌, ℕ, List, [], ◌∷◌, Option, Some, None, Ok, true, is_some, ◌&&◌, refl, sym, ap, ◌∙◌}
 use Rattle.std.proofs.Math.Bool.{and-true}
 use Rattle.words.specs.declared.fault.Form.TheVariants.{Lent as lent_form}
 use Rattle.words.specs.declared.spelled.Lent.{Lent}

@@ -5,7 +5,7 @@ use Rattle.commands.specs.declared.command.Command.TheVariants as command
 use Rattle.commands.specs.declared.command.Change.{Change}
 use Rattle.commands.specs.declared.command.Change.TheVariants.{New, Set, Permute, Diagonal, Broadcast, Read}
 use Rattle.commands.specs.declared.command.Query.{Query}
-use Rattle.commands.specs.declared.command.Query.TheVariants.{Bounds, Show, Offset, Normal, Verdict, Injective, Record, Rest, Order, Column, Row, Help}
+use Rattle.commands.specs.declared.command.Query.TheVariants.{Bounds, Offset, Verdict, Injective, Record, Rest, Order, Column, Row}
 use Rattle.commands.specs.Commands.{named}
 use Rattle.words.specs.Spelled.{unsigned, signed, lent}
 use Rattle.words.specs.Words.{Numbered}
