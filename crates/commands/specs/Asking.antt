@@ -1,4 +1,4 @@
--- Which lines may ask for memory, by the words behind the name; of every other line the answer or the fault is told, whatever memory there is. Assumes nothing.
+-- Which lines may ask for memory, by the words behind the name; of every other line the answer or the fault is found, whatever memory there is (printing it is another matter). Assumes nothing.
 use Rattle.std.specs.Prelude.{ℕ, Bool, true, false, ◌&&◌, List, [], ◌∷◌, Option, Some, None, is_some}
 use Rattle.commands.specs.declared.command.Command.{Command}
 use Rattle.commands.specs.declared.command.Command.TheVariants as command
