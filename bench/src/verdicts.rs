@@ -118,7 +118,7 @@ pub fn enumerations() {
     for (case, extent, lower, top, scale) in [
         ("bitmap, 12 axes of 4", 4, 10, [(4, 3), (4, 4)], 1),
         ("bitmap, 15 axes of 3", 3, 13, [(3, 3), (3, 4)], 1),
-        ("bitmap, 15 axes of 3, span 30 times as wide", 3, 13, [(3, 3), (3, 4)], 20),
+        ("bitmap, 15 axes of 3, 30 times as wide", 3, 13, [(3, 3), (3, 4)], 20),
         ("list, 12 axes of 4", 4, 10, [(4, 3), (4, 4)], 100),
         ("list, 15 axes of 3", 3, 13, [(3, 3), (3, 4)], 1_000_003),
     ] {
