@@ -1,4 +1,4 @@
-//! Times our library beside the Rust: `bench`, tab-separated lines on standard output.
+//! Times our library beside strided-rs: `bench`, tab-separated lines on standard output.
 
 mod records;
 mod timing;

@@ -1,4 +1,4 @@
-//! The record, written and read: ours alone, the Rust has none.
+//! The record, written and read: ours alone, strided-rs has none.
 
 use crate::timing::line_alone;
 use harness::input;

@@ -45,7 +45,7 @@ pub fn line<A, B>(case: &str, mut ours: impl FnMut() -> A, mut rust: impl FnMut(
     println!("{case}\t{ours:.1}\t{rust:.1}\t{:.3}", ours / rust);
 }
 
-/// A call that the Rust does not have.
+/// A call that strided-rs does not have.
 pub fn line_alone<A>(case: &str, mut ours: impl FnMut() -> A) {
     let (ours, _) = both(&mut ours, &mut || std::thread::sleep(std::time::Duration::from_millis(1)));
     println!("{case}\t{ours:.1}\t-\t-");

@@ -28,7 +28,7 @@ fn verdict(case: &str, extents: &[u64], strides: &[i64]) {
     let axes: Vec<Axis> = axes(extents, strides).collect();
     let answer = ours(&axes, &mut scratch);
     let distinct = is_injective_layout(unsigned(extents), signed(strides));
-    assert_eq!(answer == 1, distinct, "{case}: ours {answer}, the Rust {distinct}");
+    assert_eq!(answer == 1, distinct, "{case}: ours {answer}, strided-rs {distinct}");
     // What is hidden from the compiler are thin pointers: a hidden slice goes through memory and stalls.
     let (extents, strides) = (extents.to_vec(), strides.to_vec());
     let words = ["?", "distinct", "repeated", "undecided"];

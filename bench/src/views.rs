@@ -1,4 +1,4 @@
-//! Check-in and the three views at ranks 2, 4 and 8. A view of ours starts from a copy of the layout, since the Rust's leave the
+//! Check-in and the three views at ranks 2, 4 and 8. A view of ours starts from a copy of the layout, since strided-rs's leave the
 //! old view as it was; check-in of ours writes into a layout that is there.
 
 use crate::timing::line;
@@ -27,7 +27,7 @@ fn checked_in(to: &mut ours::Layout, extents: &[u64], strides: &[i64]) -> u8 {
     number
 }
 
-/// The Rust's view stays where it was made.
+/// strided-rs's view stays where it was made.
 fn made(result: &Result<StridedView<'static, ()>>) -> bool {
     black_box(result).is_ok()
 }

@@ -1,4 +1,4 @@
-//! Each file of the Rust ends in `#[cfg(test)] mod tests;`. Setting `test` makes our `tests.rs` that child module, which sees the private functions.
+//! Each file of strided-rs ends in `#[cfg(test)] mod tests;`. Setting `test` makes our `tests.rs` that child module, which sees the private functions.
 
 fn main() {
     println!("cargo:rustc-cfg=test");

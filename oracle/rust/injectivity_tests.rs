@@ -3,7 +3,7 @@
 use crate::KernelDType;
 
 impl KernelDType {
-    /// The step that decides, each by the Rust's own function: 0 refused, 1 at most one position, 2 separated, 3 crowded, 4 two axes,
+    /// The step that decides, each by strided-rs's own function: 0 refused, 1 at most one position, 2 separated, 3 crowded, 4 two axes,
     /// 5 the difference search, 6 enumeration, 7 undecided; and whether the positions are distinct, where that step says so.
     pub fn step(dims: &[usize], strides: &[isize]) -> (u8, bool) {
         match super::validate_injective_layout_inputs(dims, strides) {
@@ -36,7 +36,7 @@ impl KernelDType {
         super::gcd_and_inverse(a, b)
     }
 
-    /// Place of the first difference that `collides`, in the Rust's own walk over (extent - 1, stride); 0 if none.
+    /// Place of the first difference that `collides`, in strided-rs's own walk over (extent - 1, stride); 0 if none.
     pub fn place(axes: &[(u64, u64)], collides: impl Fn(i128) -> bool) -> u64 {
         let mut walked: Vec<super::DifferenceAxis> =
             axes.iter().map(|&(bound, stride)| (0, bound as i128, stride as i128)).collect();

@@ -1,4 +1,4 @@
-//! The Rust, our library and a reference of our own, on the same inputs.
+//! strided-rs, our library and a reference of our own, on the same inputs.
 
 pub mod examples;
 pub mod input;

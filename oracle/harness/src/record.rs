@@ -1,4 +1,4 @@
-//! The calls that the Rust does not have, by docs/RULES.md: normal form, record, reading, stepping over.
+//! The calls that strided-rs does not have, by docs/RULES.md: normal form, record, reading, stepping over.
 
 use crate::input::Layout;
 use crate::reference::{accepted, judge, reach, Judged};
@@ -42,7 +42,7 @@ pub fn normal_form(layout: &Layout) -> Result<Layout, Refused> {
     Ok(Layout::of(layout.len, layout.offset, &extents, &strides))
 }
 
-/// The verdict byte with enough scratch, and the words that it needs. Whether an enumeration finds positions apart is asked of the Rust.
+/// The verdict byte with enough scratch, and the words that it needs. Whether an enumeration finds positions apart is asked of strided-rs.
 fn verdict(extents: &[u64], strides: &[i64]) -> (u8, u64) {
     match judge(extents, strides) {
         Judged::Distinct(_) => (1, 0),

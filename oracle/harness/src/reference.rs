@@ -1,4 +1,4 @@
-//! The rules (docs/RULES.md) once more, as plain Rust over 128-bit numbers: what the Rust has no answer for (the accepted test, refusal numbers, the count, words needed).
+//! The rules (docs/RULES.md) once more, as plain Rust over 128-bit numbers: what strided-rs has no answer for (the accepted test, refusal numbers, the count, words needed).
 
 use crate::input::Layout;
 use strided_view::KernelDType;
@@ -64,7 +64,7 @@ pub fn judge(extents: &[u64], strides: &[i64]) -> Judged {
     }
 }
 
-/// The search's answer once more, with the differences in the order of the Rust's own walk.
+/// The search's answer once more, with the differences in the order of strided-rs's own walk.
 pub fn judge_by_rust_walk(extents: &[u64], strides: &[i64]) -> Option<Judged> {
     let Plan::Search(two, others, half) = plan(extents, strides) else {
         return None;

@@ -1,5 +1,5 @@
-//! The Rust's answer to an input, each result, error and panic as a number and values of docs/RULES.md.
-//! Refusals that the Rust cannot give come first: 1, and 3 for a layout that no constructor of the Rust would have made.
+//! strided-rs's answer to an input, each result, error and panic as a number and values of docs/RULES.md.
+//! Refusals that strided-rs cannot give come first: 1, and 3 for a layout that no constructor of strided-rs would have made.
 
 use crate::input::{Answer, Given, Input, Layout, List};
 use crate::reference::{accepted, judge, Judged};
@@ -23,7 +23,7 @@ pub fn buffer(len: u64) -> &'static [()] {
     unsafe { std::slice::from_raw_parts(std::ptr::NonNull::dangling().as_ptr(), len as usize) }
 }
 
-/// A view of the Rust made without its check: an accepted layout that came of `broadcast` need not pass it.
+/// A view of strided-rs made without its check: an accepted layout that came of `broadcast` need not pass it.
 pub fn view(layout: &Layout) -> StridedView<'static, ()> {
     // SAFETY: every offset of an accepted layout lies within its buffer; an element has no bytes.
     unsafe { StridedView::new_unchecked(buffer(layout.len), unsigned(layout.extents()), signed(layout.strides()), layout.offset as isize) }
@@ -38,14 +38,14 @@ fn layout_of(view: &StridedView<'static, ()>) -> Layout {
     layout
 }
 
-/// 6 is not here: the Rust's error does not name the axis.
+/// 6 is not here: strided-rs's error does not name the axis.
 fn refusal(error: StridedError) -> Answer {
     match error {
         StridedError::StrideLengthMismatch => Answer::refused(2),
         StridedError::OffsetOverflow => Answer::refused(3),
         StridedError::RankMismatch(first, second) => Answer::with(4, first as u64, second as u64),
         StridedError::InvalidAxis { axis, rank } => Answer::with(5, axis as u64, rank as u64),
-        other => panic!("the Rust answers {other}, which the rules have no number for"),
+        other => panic!("strided-rs answers {other}, which the rules have no number for"),
     }
 }
 
@@ -96,16 +96,16 @@ fn panicked(message: &str, extents: &[u64], index: &[u64]) -> Answer {
         Answer::with(4, numbers[0], numbers[1])
     } else if message.contains("out of bounds for dim") {
         let axis = index.iter().zip(extents).position(|(index, extent)| index >= extent).expect("an index is out of bounds");
-        assert_eq!(numbers, [index[axis], extents[axis]], "the Rust speaks of another axis: {message}");
+        assert_eq!(numbers, [index[axis], extents[axis]], "strided-rs speaks of another axis: {message}");
         Answer::with(7, axis as u64, 0)
     } else if message.contains("index offset overflow") {
         Answer::refused(3)
     } else {
-        panic!("the Rust panics with {message}, which the rules have no number for")
+        panic!("strided-rs panics with {message}, which the rules have no number for")
     }
 }
 
-/// The Rust says distinct or not; number, count and the words that the enumeration needs are the reference's, which must agree with it.
+/// strided-rs says distinct or not; number, count and the words that the enumeration needs are the reference's, which must agree with it.
 fn injective(extents: &[u64], strides: &[i64], words: usize) -> Answer {
     let judged = judge(extents, strides);
     if judged == Judged::Refused(1) {
@@ -122,7 +122,7 @@ fn injective(extents: &[u64], strides: &[i64], words: usize) -> Answer {
         Judged::Enumerated(_) => true,
         _ => !distinct,
     };
-    assert!(agree, "the reference says {judged:?}, the Rust {distinct}: {extents:?} {strides:?}");
+    assert!(agree, "the reference says {judged:?}, strided-rs {distinct}: {extents:?} {strides:?}");
     match judged {
         Judged::Refused(number) => Answer::refused(number),
         Judged::Distinct(count) => Answer::done(Given::Verdict(1, count)),
@@ -188,7 +188,7 @@ pub fn answer(input: &Input) -> Answer {
     }
 }
 
-/// Whether the Rust itself was asked: refusals that it cannot give come before it.
+/// Whether strided-rs itself was asked: refusals that it cannot give come before it.
 pub fn asked(input: &Input) -> bool {
     match input {
         Input::Bounds { extents, strides, .. } | Input::New { extents, strides, .. } => extents.len <= 16 && strides.len <= 16,

@@ -1,4 +1,4 @@
-//! The calls that the Rust does not have, our library beside the reference: `added SECONDS SEED`.
+//! The calls that strided-rs does not have, our library beside the reference: `added SECONDS SEED`.
 
 use harness::input::{joined, Layout};
 use harness::ours::{self, strided_normal_form, strided_read, strided_step, strided_write, Values};

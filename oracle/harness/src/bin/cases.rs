@@ -1,4 +1,4 @@
-//! Writes a list of commands of the program `layout` and the Rust's answers to them. `cases SEED COMMANDS ANSWERS`
+//! Writes a list of commands of the program `layout` and strided-rs's answers to them. `cases SEED COMMANDS ANSWERS`
 //! A number of inputs for each call, answer and rank are kept out of many random ones, so that rare answers are there too.
 
 use harness::input::{joined, Answer, Given, Input, Layout};
@@ -74,7 +74,7 @@ impl Lists {
     }
 }
 
-/// The rank, and the step of the Rust that decides a verdict: inputs that differ in these are kept apart.
+/// The rank, and the step of strided-rs that decides a verdict: inputs that differ in these are kept apart.
 fn sort_of(input: &Input) -> (usize, u8) {
     match input {
         Input::Bounds { extents, .. } | Input::New { extents, .. } | Input::Column { extents } | Input::Row { extents } => (extents.len, 0),
@@ -96,7 +96,7 @@ fn quota(call: usize) -> u32 {
     }
 }
 
-/// Whether the program can take the input: even pairs, scratch and search within the limits, the Rust itself asked.
+/// Whether the program can take the input: even pairs, scratch and search within the limits, strided-rs itself asked.
 fn fits(input: &Input) -> bool {
     match input {
         Input::Diagonal { pairs, .. } if pairs.len % 2 == 1 => false,

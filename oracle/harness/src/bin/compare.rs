@@ -1,4 +1,4 @@
-//! Feeds random and edge inputs to the Rust and to our library and counts where they differ. `compare SECONDS SEED THREADS [broken]`
+//! Feeds random and edge inputs to strided-rs and to our library and counts where they differ. `compare SECONDS SEED THREADS [broken]`
 
 use harness::input::{Input, CALLS};
 use harness::lent::{Fault, Lent, WORDS};
@@ -23,7 +23,7 @@ struct Tally {
     printed: u64,
     /// By call and answer.
     answers: BTreeMap<(usize, String), u64>,
-    /// By the step of the Rust that decides, on a sample.
+    /// By the step of strided-rs that decides, on a sample.
     steps: [u64; 8],
 }
 
@@ -80,7 +80,7 @@ fn run(mut random: Random, end: Instant, broken: bool, total: &Mutex<Tally>) {
     add(&mut total.lock().expect("no thread failed"), tally);
 }
 
-/// The reference beside the Rust's private steps, and its count beside the Rust's own walk.
+/// The reference beside strided-rs's private steps, and its count beside strided-rs's own walk.
 fn sample(total: &Mutex<Tally>, tally: &mut Tally, input: &Input) {
     let Input::Injective { extents, strides, .. } = input else {
         return;
@@ -118,7 +118,7 @@ fn tell(total: &Mutex<Tally>, tally: &mut Tally, input: &Input, expected: &str, 
     let mut total = total.lock().expect("no thread failed");
     if total.printed < PRINTED {
         total.printed += 1;
-        println!("difference in {}: {}\n  the Rust: {expected}\n  ours:     {found}", CALLS[input.call()], input.text());
+        println!("difference in {}: {}\n  strided-rs: {expected}\n  ours:     {found}", CALLS[input.call()], input.text());
     }
 }
 
@@ -141,9 +141,9 @@ fn report(total: &Tally, broken: bool) {
         println!("  {} {answer}: {count}", CALLS[*call]);
     }
     let names = ["refused", "one position", "separated", "crowded", "two axes", "searched", "enumerated", "undecided"];
-    println!("of these verdicts, by the step of the Rust that decides:");
+    println!("of these verdicts, by the step of strided-rs that decides:");
     names.iter().zip(total.steps).for_each(|(name, count)| println!("  {name}: {count}"));
-    println!("the Rust was asked for {} inputs; before it come refusal 1 and refusal 3 of a layout handed in", total.asked);
+    println!("strided-rs was asked for {} inputs; before it come refusal 1 and refusal 3 of a layout handed in", total.asked);
     if broken {
         println!("{} answers were flipped", total.flipped);
     }
