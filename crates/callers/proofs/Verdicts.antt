@@ -21,7 +21,7 @@ told_true axes before after (Distinct count) m = let d = m.distinct.0 (count, re
 told_true axes before after (Repeated count) m = let d = m.repeated.0 (count, refl) in (d.1, d.2)
 told_true axes before after Undecided m = (m.undecided.0 (0, refl)).1
 
--- no refusal where none is due
+-- no refusal if none is due
 pub answered : (axes : List Axis) (before after : List ℕ) (why : Refusal) → Means axes before after (Err why) → ¬ (NoneDue axes (length before))
 unfolding Means
 answered axes before after TooManyAxes m d = let h = m.one.0 refl in omega (arith, d.few)

@@ -6,7 +6,7 @@ use Rattle.specification.specs.Outcome.{Outcome}
 use Rattle.dense.specs.declared.Major.{Major}
 use Rattle.dense.specs.declared.Major.TheVariants.{Column, Row}
 
--- the product of a step and an extent, where it and the extent are at most the largest step
+-- the product of a step and an extent, if it and the extent are at most the largest step
 abbrev pub fitting_step : ℕ → ℕ → Option ℕ
 fitting_step step extent =
     if nat_le (step * extent) most_signed && nat_le extent most_signed then Some (step * extent) else None

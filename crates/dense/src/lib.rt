@@ -47,7 +47,7 @@ enum Major {
 /// The largest step.
 const MOST_STEP: u64 = i64::MAX as u64;
 
-/// The product of a step and an extent, where it and the extent are at most the largest step.
+/// The product of a step and an extent, if it and the extent are at most the largest step.
 fn fitting_step(step: u64, extent: u64) -> Option<u64>
     ensures { result ≡ fitting_step step extent }
 {

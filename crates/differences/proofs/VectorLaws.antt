@@ -57,7 +57,7 @@ box-more ds j h =
     axes.box-more (axes_of ds) j (omega (arith, axes-length ds))
     ∙ ap (λ a. box_before ds j * (2 * a.extent - 1)) (axis-entry ds j)
 
--- no sum is above the span, where its part is below the extent
+-- no sum is above the span, if its part is below the extent
 pub sum-low : (part : AxisDifference → ℕ) → ((d : AxisDifference) → IsSmall d → part d < d.axis.extent)
     → (ds : List AxisDifference) → All IsSmall ds → sum_of part ds ≤ span_sum (axes_of ds)
 unfolding span_sum

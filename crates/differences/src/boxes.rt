@@ -4,7 +4,7 @@ ghost use Rattle.specification.specs.Search.{box, total};
 
 use axis::ActiveAxis;
 
-/// `vectors` times as many as an axis of this extent has differences, where that is at most `most`. The product can pass a word.
+/// `vectors` times as many as an axis of this extent has differences, if that is at most `most`. The product can pass a word.
 pub fn with_axis(vectors: u64, extent: u64, most: u64) -> Option<u64>
     requires vectors { 0 < vectors }
     requires some { 0 < extent }
@@ -17,7 +17,7 @@ pub fn with_axis(vectors: u64, extent: u64, most: u64) -> Option<u64>
     if more <= most { Some(more) } else { None }
 }
 
-/// How many difference vectors the axes have, where that is at most `most`. It stops at the first product above: the box itself
+/// How many difference vectors the axes have, if that is at most `most`. It stops at the first product above: the box itself
 /// can pass a word.
 #[tactic(auto, unfolding(specification::specs::Axis::product), using(crate::proofs::BoxLaws::box_next))]
 pub fn box_within(axes: &[ActiveAxis], most: u64) -> Option<u64>

@@ -6,7 +6,7 @@
 //! takes as many vectors as the parts have, and not as many as their product.
 //!
 //! A step changes the difference of the first axis alone, until that goes around: one addition for most vectors. The sum is kept
-//! in two parts, above 0 and below, which fit a word where the span does; the distance is how far they are apart.
+//! in two parts, above 0 and below, which fit a word if the span does; the distance is how far they are apart.
 //!
 //! That a walk tells each distance is the contract of `Differences::next`; that parts may be asked for the whole is the law
 //! `meets-same` in proofs/Meeting.antt, and `Meets` of specs/Differences.antt says what is asked. docs/WHY.md, "Enumeration",
@@ -73,7 +73,7 @@ impl AxisDifference {
     }
 }
 
-// The sum of the parts above 0, each times its stride, and that of the parts below. Both fit a word where the span does.
+// The sum of the parts above 0, each times its stride, and that of the parts below. Both fit a word if the span does.
 #[derive(Clone, Copy)]
 struct Sums {
     up: u64,

@@ -122,7 +122,7 @@ module _ (homes : ℕ) (words : List ℕ) (most n place : ℕ) (t : IsPlaced hom
           let f : home_of homes (at words i) ≡ home_of homes n = ap (home_of homes) e in
           grind (arith, f, r.from, r.taken place, p.missed i, p.reached.from)
 
-  -- where a word behind the homes is free, n is put into one
+  -- if a word behind the homes is free, n is put into one
   module _ (r : 0 < free_behind homes words) where
     home_below : home_of homes n < homes
     unfolding home_of

@@ -3,7 +3,7 @@ use Rattle.std.specs.Prelude.{Bool, true, false, [], ◌∷◌, ℕ, Result, Ok,
 use Rattle.specification.specs.Outcome.{Outcome, done, refused}
 use Rattle.specification.specs.Verdict.{Judged, Distinct, Repeated}
 
--- the answer as an outcome of the verdict, where so many words are needed: distinct sums or not, or the words that are wanted
+-- the answer as an outcome of the verdict, if so many words are needed: distinct sums or not, or the words that are wanted
 abbrev pub outcome_of : ℕ → Result Bool ℕ → Outcome Judged
 outcome_of need (Ok true) = done (record { answer = Distinct; count = 0; freed = need })
 outcome_of need (Ok false) = done (record { answer = Repeated; count = 0; freed = need })

@@ -47,8 +47,8 @@ fn has_equal_sums(block: &[ActiveAxis], words: &mut [u64]) -> bool
     meet(first, second, &mut words[..room])
 }
 
-/// The enumeration of a block of at most 16 axes with its total and its span: `Ok(true)` where no two positions have one sum,
-/// `Ok(false)` where two have. Only the words needed are lent on, so the others stay as they are; on `Err`, which has their
+/// The enumeration of a block of at most 16 axes with its total and its span: `Ok(true)` if no two positions have one sum,
+/// `Ok(false)` if two have. Only the words needed are lent on, so the others stay as they are; on `Err`, which has their
 /// number, all do.
 #[tactic(auto, using(crate::proofs::OutcomeLaws::outcomes), unfolding(specification::specs::Verdict::freed_by))]
 pub fn enumerate(

@@ -21,7 +21,7 @@ fn home(homes: u64, n: u64) -> u64
     again / 65536 % homes
 }
 
-// Where n stands; on `Err` the first free word from its home on, or the end of the words where there is none.
+// Where n stands; on `Err` the first free word from its home on, or the end of the words if there is none.
 fn find(words: &[u64], homes: u64, n: u64) -> Result<usize, usize>
     requires some { 0 < homes }
     requires within { homes ≤ length words.now }

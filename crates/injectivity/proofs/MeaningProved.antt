@@ -37,7 +37,7 @@ module _ (axes : List Axis) (before after : List ℕ) (r : Result Judgement Refu
     judged : axes_judged axes words ≡ judge axes words
     judged = few_axes axes words few
 
-    -- each refusal of the axes where it is due
+    -- each refusal of the axes if it is due
     eight : overfull axes ≡ true → judge axes words ≡ refused 8 []
     eight o = (verdict_claims.eight axes words []).1 (o, refl)
 

@@ -117,7 +117,7 @@ struct Front {
 }
 
 /// Of sorted axes, those up to the last that the ones before it reach: its absolute stride is at
-/// most the sum of their absolute spans. None, where every axis is separated.
+/// most the sum of their absolute spans. None, if every axis is separated.
 #[tactic(auto, using(crate::proofs::CoverLaws::passing, crate::proofs::CoverLaws::in_front))]
 pub fn interleaved_block(sorted: &[ActiveAxis]) -> Option<InterleavedBlock<'_>>
     requires searchable { IsSearchable sorted.now }

@@ -46,7 +46,7 @@ fn some_unfit(axes: &[Axis]) -> bool
     axes.iter().any(is_unfit)
 }
 
-/// Refusal 3. No span is out of range where the sums of the positive and of the negative spans are
+/// Refusal 3. No span is out of range if the sums of the positive and of the negative spans are
 /// in range.
 #[tactic(auto, using(crate::proofs::InputsLaws::out_is))]
 fn out_of_range(axes: &[Axis]) -> bool
@@ -55,7 +55,7 @@ fn out_of_range(axes: &[Axis]) -> bool
     some_unfit(axes) || sum_spans(axes, MOST_UP, MOST_DOWN).is_none()
 }
 
-/// What is answered before the block is looked for; nothing, where the block decides. The errors
+/// What is answered before the block is looked for; nothing, if the block decides. The errors
 /// are 8, more than 2^64 - 1 positions, and 3.
 #[tactic(auto, using(crate::proofs::PlanLaws::planning))]
 pub fn validate_injective_layout_inputs(axes: &[Axis]) -> Result<Option<Judgement>, Refusal>

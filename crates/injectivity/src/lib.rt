@@ -66,7 +66,7 @@ impl Judgement {
         }
     }
 
-    /// How many difference vectors were looked at; 0 where that is not told.
+    /// How many difference vectors were looked at; 0 if that is not told.
     pub fn count(self) -> u64
         ensures { result ≡ count_told self }
     {
@@ -171,7 +171,7 @@ fn judge_axes(axes: &[Axis], scratch: &mut [u64]) -> Result<Judgement, Refusal>
     }
 }
 
-/// The verdict where the block decides. No block is Distinct: every axis is separated.
+/// The verdict if the block decides. No block is Distinct: every axis is separated.
 #[tactic(auto, using(crate::proofs::ReadyLaws::sorted_axes), unfolding(specification::specs::Verdict::carry_out))]
 fn judge_active_axes(axes: &[Axis], scratch: &mut [u64]) -> Result<Judgement, Refusal>
     requires few { length axes.now ≤ 16 }

@@ -1,4 +1,4 @@
--- The equation u a + v b = c in naturals with u ≤ mu and v ≤ mv, decided (`solution?`). Where a and b are positive: divided by their
+-- The equation u a + v b = c in naturals with u ≤ mu and v ≤ mv, decided (`solution?`). If a and b are positive: divided by their
 -- greatest common divisor, u is known modulo b, and the least u of that class that keeps v ≤ mv is tested. Else by trying all.
 use Rattle.std.proofs.Common.{◌≡◌, ◌∙◌, ◌⊎◌, ◌↔◌, Bool, ◌&&◌, not, T, eqb, leb, ℕ, zero, suc, ◌%◌, ◌*◌, ◌+◌, ◌-◌, ◌/◌, ◌<◌, ◌≤◌, ap, arith, inl, inr, sym}
 use native.Mathlib.Decide.{ℕ_discrete}

@@ -6,7 +6,7 @@ use Rattle.integer.proofs.GcdLaws.{gcd-pos, left_back, right-back}
 pub use Rattle.integer.specs.Congruence.{IsCongruent}
 use Rattle.integer.specs.Gcd.{gcd, gcd_within}
 
--- Two numbers are congruent where their remainders are equal.
+-- Two numbers are congruent if their remainders are equal.
 pub congruent-of-mod : (b x y : ℕ) → x % b ≡ y % b → IsCongruent b x y
 congruent-of-mod b x y e = record { p = y / b; q = x / b; eq = omega (arith, div-add-mod' x b, div-add-mod' y b) }
 
@@ -33,7 +33,7 @@ congruent-trans {b} {x} {y} {z} c d = record { p = c.p + d.p; q = c.q + d.q; eq 
 pub congruent-mul : {b x y : ℕ} (k : ℕ) → IsCongruent b x y → IsCongruent b (x * k) (y * k)
 congruent-mul {b} {x} {y} k c = record { p = c.p * k; q = c.q * k; eq = omega (arith, ap (λ (z : ℕ). z * k) c.eq) }
 
--- A step of Euclid's with coefficients: where r₀ and r₁ are s₀ and s₁ times a, so is the remainder r₂ = r₀ - q r₁, with s₀ - q s₁.
+-- A step of Euclid's with coefficients: if r₀ and r₁ are s₀ and s₁ times a, so is the remainder r₂ = r₀ - q r₁, with s₀ - q s₁.
 euclid-step : (b a r₀ r₁ r₂ s₀ s₁ s₂ q : ℕ) → IsCongruent b r₀ (s₀ * a) → IsCongruent b r₁ (s₁ * a) → r₂ + q * r₁ ≡ r₀ → IsCongruent b (s₂ + q * s₁) s₀
     → IsCongruent b r₂ (s₂ * a)
 euclid-step b a r₀ r₁ r₂ s₀ s₁ s₂ q c₀ c₁ e d =
@@ -77,7 +77,7 @@ coefficient-is a b h =
     let m = congruent-mul a (mod-congruent b 1) in
     coefficient_within-is a b b a b (1 % b) 0 h (record { p = m.q; q = m.p; eq = omega (arith, m.eq) }) (record { p = 0; q = 1; eq = omega arith })
 
--- Where s times a is the greatest common divisor of a and b modulo b, s is an inverse of a / gcd modulo b / gcd.
+-- If s times a is the greatest common divisor of a and b modulo b, s is an inverse of a / gcd modulo b / gcd.
 pub inverse-divided : (a b s : ℕ) → 0 < a → IsCongruent b (gcd a b) (s * a) → IsCongruent (b / gcd a b) 1 (s * (a / gcd a b))
 inverse-divided a b s h c = divided (gcd a b) a b (a / gcd a b) (b / gcd a b) (gcd-pos a b h) (left_back a b) (right-back a b) c
   where

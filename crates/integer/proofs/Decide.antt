@@ -2,7 +2,7 @@
 use Rattle.std.proofs.Common.{◌≡◌, ◌⊎◌, Bool, T, false, not, true, ℕ, zero, suc, ◌<◌, arith, inl, inr}
 use native.Mathlib.Decide.{ℕ_discrete}
 
--- A test that decides, with what it says where it holds and where it does not.
+-- A test that decides, with what it says if it holds and if it does not.
 unfoldable pub by_test : {P : Type 0} → (t : Bool) → (T t → P) → (T (not t) → P → ⊥) → Dec P
 by_test true f g = yes (f tt)
 by_test false f g = no (λ p. g tt p)

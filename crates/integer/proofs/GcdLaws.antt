@@ -28,7 +28,7 @@ gcd-step a b = same_from_IsGcd a b _ _ (gcd-is a b) (IsGcd-from_mod a b _ (gcd-i
 
 pub ruleset euclid = (gcd-zero, gcd-step)
 
--- It divides both, and where a is not 0, it is not 0.
+-- It divides both, and if a is not 0, it is not 0.
 pub gcd-divides-left : (a b : ℕ) → gcd a b ∣ a
 gcd-divides-left a b = (gcd-is a b).0
 

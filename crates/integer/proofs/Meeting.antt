@@ -31,7 +31,7 @@ module _ (s₁ s₂ : ℕ) (h₁ : 0 < s₁) (h₂ : 0 < s₂) where
   abbrev b : ℕ
   b = s₂ / gcd s₁ s₂
 
-  -- Where x s₁ = y s₂, b divides x, and a divides y as often.
+  -- If x s₁ = y s₂, b divides x, and a divides y as often.
   pub common-multiple : (x y : ℕ) → x * s₁ ≡ y * s₂ → (x ≡ x / b * b) × (y ≡ x / b * a)
   common-multiple x y e =
       let times : (x * a) * gcd s₁ s₂ ≡ (y * b) * gcd s₁ s₂ = omega (arith, e, ap (λ (z : ℕ). x * z) (left_back s₁ s₂), ap (λ (z : ℕ). y * z) (right-back s₁ s₂)) in

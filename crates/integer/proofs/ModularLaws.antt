@@ -88,7 +88,7 @@ euclid-next a b r0 r1 t0 t1 positive h u =
       second = signed-multiple-next positive b a r0 r1 t0 t1 u.first u.second (r0 / r1) (r0 % r1) d;
     }
 
--- Where the second remainder is 0, the first is the greatest common divisor.
+-- If the second remainder is 0, the first is the greatest common divisor.
 pub euclid-ends : (a b r0 r1 t0 t1 : ℕ) (positive : Bool) → EuclidLoop a b r0 r1 t0 t1 positive → 0 < b → r1 ≡ 0
     → IsGcdInverse a b r0 (if positive then t0 % b else (b - t0) % b)
 euclid-ends a b r0 r1 t0 t1 true u h e = record {

@@ -30,7 +30,7 @@ pub ·-mul : (q n : ℕ) (s : ℤ) → q · (n · s) ≡ (q * n) · s
 pub ·-add : (a b : ℕ) (s : ℤ) → (a + b) · s ≡ a · s +ℤ b · s
 ·-add a b s = omega (arith, multiples)
 
--- The test for equal integers, where it holds and where it does not.
+-- The test for equal integers, if it holds and if it does not.
 pub int_eq-yes : (x y : ℤ) → T (int_eq x y) → x ≡ y
 int_eq-yes x y t = grind (arith, ints)
 

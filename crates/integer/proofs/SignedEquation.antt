@@ -26,7 +26,7 @@ pub parts-of-equation : (x y z : ℤ) (s t : ℕ) → (x *ℤ pos s +ℤ y *ℤ 
     → positive_part x * s + positive_part y * t + positive_part z ≡ negative_part x * s + negative_part y * t + negative_part z
 parts-of-equation x y z s t e = omega (arith, ints)
 
--- With c = m s + n t - z: the signed equation has a solution where u s + v t = c has one with u ≤ 2 m and v ≤ 2 n.
+-- With c = m s + n t - z: the signed equation has a solution if u s + v t = c has one with u ≤ 2 m and v ≤ 2 n.
 module _ (s t m n : ℕ) (z : ℤ) where
   pub signed-of-solution : (c u v : ℕ) → pos (m * s + n * t) -ℤ z ≡ pos c → u * s + v * t ≡ c
       → ((pos u -ℤ pos m) *ℤ pos s +ℤ (pos v -ℤ pos n) *ℤ pos t) +ℤ z ≡ pos 0
@@ -45,6 +45,6 @@ module _ (s t m n : ℕ) (z : ℤ) where
         sum = omega (arith, ints, ap (λ (k : ℕ). k * s) ex, ap (λ (k : ℕ). k * t) ey);
       }
 
-  -- and none where c would be negative
+  -- and none if c would be negative
   pub no-signed-above : (c : ℕ) (x y : ℤ) → pos (m * s + n * t) -ℤ z ≡ negsuc c → nat_abs x < suc m → nat_abs y < suc n → (x *ℤ pos s +ℤ y *ℤ pos t) +ℤ z ≡ pos 0 → ⊥
   no-signed-above c x y e hx hy q = omega (arith, ints, mul-le-mul_right s (negative_part-of-nat_abs x m hx), mul-le-mul_right t (negative_part-of-nat_abs y n hy))

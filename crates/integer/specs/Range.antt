@@ -14,6 +14,6 @@ most_unsigned = 2 ^ 64 - 1
 abbrev pub fits : ℤ → Bool
 fits z = le_z (negsuc most_signed) z && le_z z (pos most_signed)
 
--- The answer of an operation at 64 bits whose result is z: z itself, or `None` where z does not fit.
+-- The answer of an operation at 64 bits whose result is z: z itself, or `None` if z does not fit.
 abbrev pub checked_of : ℤ → Option ℤ
 checked_of z = if fits z then Some z else None

@@ -3,7 +3,7 @@
 //!
 //! `gcd` is Euclid's: it calls itself on the remainder, which falls. A quotient of 0 or 1, which most are, is taken by a
 //! subtraction in place of a division. `modular` never leaves 64 bits: a sum is compared with the modulus before it is
-//! taken; a product fits a word where the modulus is at most 2^32, and else costs one doubling for each bit of the
+//! taken; a product fits a word if the modulus is at most 2^32, and else costs one doubling for each bit of the
 //! smaller factor, 64 at most. `gcd_and_inverse` is Euclid's loop with one coefficient, whose sign turns at every step
 //! and whose size is kept apart. `checked_mul` multiplies magnitudes, so -2^63 needs no case of its own.
 //!

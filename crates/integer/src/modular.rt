@@ -62,7 +62,7 @@ pub fn mul_mod(x: u64, y: u64, m: u64) -> u64
 }
 
 /// The greatest common divisor of a and b, and an inverse of a modulo b.
-// Euclid's remainders of b and a, each as a multiple of a modulo b: r0 is t0 times a where `positive`, else minus that, and
+// Euclid's remainders of b and a, each as a multiple of a modulo b: r0 is t0 times a if `positive`, else minus that, and
 // r1 is t1 times a with the other sign. The magnitudes stay at most b, and the signs turn at every step.
 pub fn gcd_and_inverse(a: u64, b: u64) -> GcdInverse
     requires { 0 < b }

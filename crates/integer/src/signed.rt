@@ -1,9 +1,9 @@
-// A stride times an index, which std has not: an i64 times a u64, where the product is an i64 again.
+// A stride times an index, which std has not: an i64 times a u64, if the product is an i64 again.
 ghost use Rattle.std.specs.Prelude.{◌≡◌};
 ghost use Rattle.integer.specs.Multiple.{◌·◌};
 ghost use Rattle.integer.specs.Range.{checked_of};
 
-/// last times stride, where an i64 holds it.
+/// last times stride, if an i64 holds it.
 #[tactic(auto, using(crate::proofs::MultipleLaws::multiples))]
 pub fn checked_mul(stride: i64, last: u64) -> Option<i64>
     ensures { result ≡ checked_of (last · stride) }

@@ -21,7 +21,7 @@ pub fields_of_record : (l : LayoutModel) (v : Verdict) → record_bytes l v ≡ 
 unfolding record_bytes head_bytes
 fields_of_record l v = simp append_assoc
 
--- a normal form, where there is one, has at most 16 axes
+-- a normal form, if there is one, has at most 16 axes
 abbrev pub FewIfDone : Outcome LayoutModel → Type 0
 FewIfDone (done n) = rank n ≤ 16
 FewIfDone (refused number values) = Unit {0}

@@ -14,7 +14,7 @@ use Rattle.record.specs.Calls.{call_in, RunTo}
 abbrev pub CallMade : Layout → Call → Result (Unit {0}) Refusal → Layout → Type 0
 CallMade l c answer next = told answer next ≡ after_call (model_of l) c
 
--- calls made one after another, each on the layout that the one before handed back, also where that one was refused;
+-- calls made one after another, each on the layout that the one before handed back, also if that one was refused;
 -- with what each answered, in numbers and values, and the layout at the end
 pub data Chain : Layout → List Call → List Check → Layout → Type 0 where
   no_more : {l : Layout} → Chain l [] [] l
@@ -43,5 +43,5 @@ pub record ChainClaims : Type 0 where
   pub there : (start : Layout) (calls : List Call) → SomeChain start calls
   -- every list of calls is that of some calls of the code, number for number
   pub given : (calls : List Call) → (list : List code.Call) × (map call_in list ≡ calls)
-  -- and `run` comes to the layout that they come to where they are made one by one
+  -- and `run` comes to the layout that they come to if they are made one by one
   pub as_run : (start end ran : Layout) (calls : List code.Call) (answers : List Check) → RunTo start calls ran → Chain start (map call_in calls) answers end → model_of ran ≡ model_of end

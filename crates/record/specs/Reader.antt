@@ -12,11 +12,11 @@ use Rattle.record.specs.declared.reader.Front.{Front}
 
 -- ---- the fields
 
--- the number that the first 2 bytes hold, where there are so many
+-- the number that the first 2 bytes hold, if there are so many
 abbrev pub length_told : List ℕ → Option ℕ
 length_told bytes = if nat_lt (length bytes) 2 then None else Some (length_field bytes)
 
--- the verdict's byte and the rank, where every field is right
+-- the verdict's byte and the rank, if every field is right
 abbrev pub head_told : List ℕ → Option Head
 head_told bytes = if fields_right bytes then Some (record { verdict = verdict_field bytes; rank = rank_field bytes }) else None
 
@@ -34,7 +34,7 @@ fields_told offset axes = record { buffer = 0; offset = offset; axes = axes }
 abbrev pub in_range : LayoutModel → Bool
 in_range l = le_z (pos 0) (lowest l) && le_z (highest l) (pos most_signed)
 
--- one more than the highest offset, where that is so
+-- one more than the highest offset, if that is so
 abbrev pub length_to_highest : LayoutModel → Option ℕ
 length_to_highest l = if in_range l then Some (positive_part (highest l) + 1) else None
 
@@ -44,7 +44,7 @@ needed_length l = if is_normal_form l then Some (with_buffer l).buffer else None
 
 -- ---- both
 
--- the layout that the fields tell and the byte of its verdict, where a whole record of a normal form stands at the front
+-- the layout that the fields tell and the byte of its verdict, if a whole record of a normal form stands at the front
 abbrev pub front_told : List ℕ → Option (LayoutModel × ℕ)
 front_told bytes = if fields_right bytes && is_normal_form (layout_from bytes) then Some (layout_from bytes, verdict_field bytes) else None
 

@@ -34,6 +34,6 @@ module _ (a b : LayoutModel) (cs ds : List Call) where
   abbrev pub Compared : (output other scratch : List ℕ) → Outcome Bool → (output-then other-then scratch-then : List ℕ) → Type 0
   Compared = InTurn (Writing (end_of a cs)) (Writing (end_of b ds)) (end_of a cs) (end_of b ds)
 
-  -- what that means where the starts are accepted: each list runs as the rules say, and each writer answers and leaves what `Side` says
+  -- what that means if the starts are accepted: each list runs as the rules say, and each writer answers and leaves what `Side` says
   abbrev pub Means : (output other scratch : List ℕ) → Outcome Bool → (output-then other-then scratch-then : List ℕ) → Type 0
   Means = InTurn (Side a cs) (Side b ds) (end_of a cs) (end_of b ds)

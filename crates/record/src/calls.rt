@@ -19,7 +19,7 @@ pub enum Call<'a> {
     Broadcast(&'a [u64]),
 }
 
-/// What a call answers, and the layout after it: as it was where the call is refused.
+/// What a call answers, and the layout after it: as it was if the call is refused.
 #[tactic(auto, using(crate::proofs::ChainLaws::chain_claims))]
 pub fn after(layout: Layout, call: Call<'_>) -> Viewed
     ensures { CallMade layout (call_in call.entry) result.answer result.layout }

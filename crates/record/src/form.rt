@@ -40,7 +40,7 @@ fn is_overfull(axes: &[Axis]) -> bool
     element_count(axes).is_err()
 }
 
-/// The highest offset and 1, where no offset is below 0 or above 2^63 - 1; a zero extent counts
+/// The highest offset and 1, if no offset is below 0 or above 2^63 - 1; a zero extent counts
 /// as 1.
 fn length_to_highest(offset: ReadingOffset, axes: &[Axis]) -> Option<u64>
     ensures { result ≡ length_to_highest (fields_told offset.0 axes.now) }
@@ -55,7 +55,7 @@ fn length_to_highest(offset: ReadingOffset, axes: &[Axis]) -> Option<u64>
 
 /// The buffer length, in readings, that an offset and axes need, if they are a normal form of at
 /// most 2^64 - 1 positions with no offset below 0 or above 2^63 - 1: the highest offset + 1, or 0
-/// where there is no position.
+/// if there is no position.
 #[tactic(auto, using(crate::proofs::FormLaws::needed_by_parts))]
 pub(crate) fn buffer_length(offset: ReadingOffset, axes: &[Axis]) -> Option<u64>
     requires { length axes.now ≤ 16 }

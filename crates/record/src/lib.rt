@@ -41,7 +41,7 @@ pub fn records_hold()
 
 /// Does nothing, and promises what calls made one after another come to: every chain of calls is
 /// the definition's list; the records behind two chains, and behind two runs of lists, are equal
-/// exactly where the end layouts have the same offsets; what was written is read back, and what was
+/// exactly if the end layouts have the same offsets; what was written is read back, and what was
 /// read is written back; and how many words are enough for a second call.
 #[tactic(auto, using(crate::proofs::ChainLaws::chain_claims, crate::proofs::RunningLaws::running_round_trip, crate::proofs::LentLaws::lent_claims))]
 pub fn calls_hold()

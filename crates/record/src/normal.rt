@@ -42,7 +42,7 @@ fn append(form: &mut Layout, axis: Axis)
     }
 }
 
-/// The normal form where there is a position: one pass from the left.
+/// The normal form if there is a position: one pass from the left.
 #[tactic(auto, using(crate::proofs::MergeLaws::passed))]
 fn merged(layout: &Layout) -> Layout
     requires few { layout.now.rank ≤ 16 }
@@ -58,7 +58,7 @@ fn merged(layout: &Layout) -> Layout
     form
 }
 
-/// The normal form where there is no position: one axis, extent 0, stride 0, offset 0; the buffer
+/// The normal form if there is no position: one axis, extent 0, stride 0, offset 0; the buffer
 /// length stays.
 #[tactic(auto, using(crate::proofs::MergeLaws::no_position), unfolding(view::specs::Table::table))]
 fn empty_form(layout: &Layout) -> Layout

@@ -28,7 +28,7 @@ pub struct Front {
     pub verdict: u8,
 }
 
-/// The head, where the front bytes hold every field: length, version, verdict, rank, and as many
+/// The head, if the front bytes hold every field: length, version, verdict, rank, and as many
 /// bytes as these ask for.
 #[tactic(auto, unfolding(specification::specs::Record::fields_right))]
 pub fn read_head(bytes: &[u8]) -> Option<Head>
@@ -93,7 +93,7 @@ fn axes_at_front(bytes: &[u8], rank: usize) -> [Axis; MOST_AXES]
     axes
 }
 
-/// The layout of a whole record at the front, and the verdict that it claims; none, where the bytes
+/// The layout of a whole record at the front, and the verdict that it claims; none, if the bytes
 /// are no record of a normal form.
 #[tactic(auto, using(view::proofs::AxesLaws::first_axes_take, crate::proofs::FrontLaws::fronts))]
 pub fn read_front(bytes: &[u8]) -> Option<Front>

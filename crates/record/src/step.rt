@@ -5,7 +5,7 @@ ghost use Rattle.record.specs.Reader.{length_told};
 
 use crate::fields::HEAD_BYTES;
 
-/// The length field: the number that the first 2 bytes hold, where there are so many.
+/// The length field: the number that the first 2 bytes hold, if there are so many.
 #[tactic(auto, unfolding(specification::specs::Record::length_field))]
 pub(crate) fn length_field(bytes: &[u8]) -> Option<usize>
     ensures { result ≡ length_told bytes.now }

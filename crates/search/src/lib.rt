@@ -1,6 +1,6 @@
-//! Do two positions of a block have one sum, where the block has two active axes, or three and more?
+//! Do two positions of a block have one sum, if the block has two active axes, or three and more?
 //!
-//! Two axes collide exactly where the smallest solution of x times s1 = y times s2 is in reach of both: a greatest common divisor
+//! Two axes collide exactly if the smallest solution of x times s1 = y times s2 is in reach of both: a greatest common divisor
 //! and two divisions (docs/WHY.md, section 6).
 //!
 //! Of three and more the two longest are set apart, and the difference vectors of the others are walked (crate `walk`): some
@@ -61,7 +61,7 @@ pub fn two_axis_block_is_injective(a: ActiveAxis, b: ActiveAxis) -> bool
     apart_by_quotients(a, b, g)
 }
 
-// Half, where it is within the budget.
+// Half, if it is within the budget.
 #[tactic(auto, using(crate::proofs::Coupling::halves))]
 fn half_within(others: &[ActiveAxis]) -> Option<u64>
     requires { All IsCountable others.now }

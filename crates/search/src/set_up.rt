@@ -9,7 +9,7 @@ use axis::ActiveAxis;
 use walk::TwoAxes;
 
 // Which of two axes of extents d1 and d2 the walk solves for: one whose differences stay below the other's stride over g.
-// Where both do, the one with the fewer differences to that quotient: its window is narrower, and rules out more vectors.
+// If both do, the one with the fewer differences to that quotient: its window is narrower, and rules out more vectors.
 fn solves_first(d1: u64, s2g: u64, d2: u64, s1g: u64) -> bool
     requires one_fits { (d1 ≤ s2g) ⊎ (d2 ≤ s1g) }
     requires first_long { 1 < d1 }

@@ -18,11 +18,11 @@ pub record Answers (c : Check) (P : Type 0) (R : ℕ → List ℕ → Type 0) : 
   pub passes : (c ≡ pass) ↔ P
   pub refuses : (n : ℕ) (vs : List ℕ) → (c ≡ refused n vs) ↔ R n vs
 
--- one refusal only, and that where P fails
+-- one refusal only, and that if P fails
 pub data Only (number : ℕ) (values : List ℕ) (P : Type 0) : ℕ → List ℕ → Type 0 where
   only : ¬ P → Only number values P number values
 
--- refused by the first check, or by the second where the first passes
+-- refused by the first check, or by the second if the first passes
 pub data InOrder (P : Type 0) (R S : ℕ → List ℕ → Type 0) (n : ℕ) (vs : List ℕ) : Type 0 where
   sooner : R n vs → InOrder P R S n vs
   later : P → S n vs → InOrder P R S n vs
@@ -43,7 +43,7 @@ pub some-refusal : (c : Check) {P : Type 0} {R : ℕ → List ℕ → Type 0} �
 some-refusal (done u) a f = absurd (f (a.passes.0 refl))
 some-refusal (refused n vs) a f = (n, vs, (a.refuses n vs).0 refl)
 
--- a test refuses where it holds, so it is enough to say when it does not
+-- a test refuses if it holds, so it is enough to say when it does not
 pub test-answers : (t : Bool) (number : ℕ) (values : List ℕ) {P : Type 0} → ((t ≡ false) ↔ P) → Answers (refuse_if t number values) P (Only number values P)
 unfolding refuse_if
 test-answers true number values h = record {
@@ -84,14 +84,14 @@ answer_is old new (refused n vs) = refl
 pub of-answer : (old new : LayoutModel) {c : Check} {P : Type 0} {R : ℕ → List ℕ → Type 0} → Answers c P R → Answers (unless_refused old c new).answer P R
 of-answer old new {c} a = rw (answer_is old new c) a
 
--- and leaves the old layout where it is refused
+-- and leaves the old layout if it is refused
 pub left-old : (old new : LayoutModel) (c : Check) {n : ℕ} {vs : List ℕ} → (unless_refused old c new).answer ≡ refused n vs → (unless_refused old c new).layout ≡ old
 unfolding unless_refused
 left-old old new c e = grind (arith, ints)
 
 -- ---- one check after another
 
--- the second check is asked only where the first passes
+-- the second check is asked only if the first passes
 pub then-answers : (c d : Check) {P Q : Type 0} {R S : ℕ → List ℕ → Type 0} → Answers c P R → (P → Answers d Q S) → Answers (c >> d) (P × Q) (InOrder P R S)
 unfolding ◌>>◌
 then-answers c d a b = grind (arith, ints)
@@ -101,7 +101,7 @@ unfolding ◌>>◌
 then-assoc (done u) d o = refl
 then-assoc (refused n vs) d o = refl
 
--- what is done where a check passes is refused as the check is
+-- what is done if a check passes is refused as the check is
 pub done-after : {B : Type 0} (c : Check) (x : B) (n : ℕ) (vs : List ℕ) → (c >> done x ≡ refused n vs) ↔ (c ≡ refused n vs)
 unfolding ◌>>◌
 done-after c x n vs = grind (arith, ints)

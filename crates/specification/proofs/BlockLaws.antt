@@ -114,7 +114,7 @@ last-pair before (a ∷ r) p (PositiveExtents.more h t) f = pair-carry (carry-pe
 
 -- ---- the active axes
 
--- where there are no axes
+-- if there are no axes
 no-axes : Carry [] []
 no-axes = carry-perm nil
 

@@ -71,7 +71,7 @@ module _ (l : LayoutModel) where
       of-case (too_low h) = inl (inr h)
       of-case (past_buffer h) = inr h
 
-  -- the bounds alone: 3 exactly where the layout is not empty and in one of the five cases
+  -- the bounds alone: 3 exactly if the layout is not empty and in one of the five cases
   pub data BoundsOut : ℕ → List ℕ → Type 0 where
     out : is_empty l.axes ≡ false → IsOutOfBounds l → BoundsOut 3 []
 
@@ -104,7 +104,7 @@ module _ (l : LayoutModel) where
           from : {n : ℕ} {vs : List ℕ} → BoundsOut n vs → Only 3 [] (¬ (IsOutOfBounds l)) n vs
           from (out f o) = only (λ g. g o)
 
--- ---- what is done where a check passes
+-- ---- what is done if a check passes
 
 done-passes : {B : Type 0} (c : Check) (x y : B) → (c >> done x ≡ done y) ↔ ((c ≡ pass) × (x ≡ y))
 unfolding ◌>>◌

@@ -1,4 +1,4 @@
--- Two index vectors of one sum, and what they come to: found on the block they are two positions of one offset, and where none are there all positions are distinct.
+-- Two index vectors of one sum, and what they come to: found on the block they are two positions of one offset, and if none are there all positions are distinct.
 -- Beside it the search both ways, and the axes that no search needs: of extent 1, and of stride 0.
 use mathlib.Core.Path.{◌≡◌, sym, ap, ap₂, ◌∙◌}
 use mathlib.Core.Logic.{◌⊎◌, inl, inr}

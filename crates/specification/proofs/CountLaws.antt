@@ -1,4 +1,4 @@
--- Where the search is due, answer and count are those of the first difference vector that completes; elsewhere the count is 0.
+-- If the search is due, answer and count are those of the first difference vector that completes; elsewhere the count is 0.
 use mathlib.Core.Path.{◌≡◌, refl, sym, ap, subst, ◌∙◌}
 use mathlib.Core.Logic.{◌↔◌}
 use mathlib.Core.List.{List, ◌∷◌}
@@ -20,7 +20,7 @@ use Rattle.specification.proofs.AxisNumbers.{two-before-others}
 use Rattle.specification.proofs.VerdictTruth.{apart-perm}
 use Rattle.std.proofs.lemmas.Int.{ints}
 
--- ---- where the search is due
+-- ---- if the search is due
 
 searching-plan : {block : List ActiveAxis} {p : Plan} {a b : ActiveAxis} {more : List ActiveAxis} → SearchCase block p → half (others_of block) ≤ 4194304 → sort_by longer block ≡ a ∷ b ∷ more → p ≡ searched a b (others_of block)
 searching-plan c s q = grind (arith, ints)

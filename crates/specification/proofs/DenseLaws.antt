@@ -1,5 +1,5 @@
 -- Dense strides: each step is the product of the extents before it while products and extents fit (`Stepped`), and a shape that is not empty
--- is refused where one does not (`Stopped`). So position k stands at offset k, and the last product, which is the largest, is the number of positions.
+-- is refused if one does not (`Stopped`). So position k stands at offset k, and the last product, which is the largest, is the number of positions.
 use Rattle.std.specs.List.{list_any}
 use Rattle.std.specs.Prelude.{if◌then◌else◌}
 use mathlib.Core.Path.{◌≡◌, refl, sym, ap, ◌∙◌}

@@ -1,4 +1,4 @@
--- What each view answers with where it passes: the claims on the new layout.
+-- What each view answers with if it passes: the claims on the new layout.
 use Rattle.std.specs.Prelude.{if◌then◌else◌}
 use mathlib.Core.List.{List, [], ◌∷◌, map}
 use mathlib.Core.Path.{◌≡◌, refl, ap, ap₂, ◌∙◌}

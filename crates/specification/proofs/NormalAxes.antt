@@ -1,4 +1,4 @@
--- The normal form of axes reads like the axes: as many positions, and the same sum at each (`ReadsAlike`). Where no extent is 0 it is normal:
+-- The normal form of axes reads like the axes: as many positions, and the same sum at each (`ReadsAlike`). If no extent is 0 it is normal:
 -- no extent is 1, and no axis continues the one before it. Both by induction from the right, on what `normal_axes` does with one more axis in front.
 use Rattle.std.specs.Prelude.{if◌then◌else◌}
 use mathlib.Core.Path.{◌≡◌, refl, sym, ap, ◌∙◌}

@@ -1,5 +1,5 @@
 -- Axes that read alike have equal normal forms, and any order of dropping and merging ends in the normal form:
--- each step keeps what is read, and where no step is left the list is normal.
+-- each step keeps what is read, and if no step is left the list is normal.
 use mathlib.Core.Path.{◌≡◌, sym, ◌∙◌}
 use mathlib.Core.List.{List, [], ◌∷◌}
 use Prim.Native.Nat.{ℕ, ◌<◌}

@@ -1,4 +1,4 @@
--- Indexed offset: its rules are checks of one axis after another, so it passes where each index is good and is refused at the first that is not.
+-- Indexed offset: its rules are checks of one axis after another, so it passes if each index is good and is refused at the first that is not.
 -- In an accepted layout that is not empty the running sum stays from 0 to 2^63 - 1 whatever the indices to come are (`Room`), so no product and no sum leaves 64 bits.
 use mathlib.Core.Path.{◌≡◌, refl, sym, ap, ◌∙◌}
 use mathlib.Core.Bool.{Bool, true, false, not, ◌||◌}

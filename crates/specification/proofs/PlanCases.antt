@@ -146,7 +146,7 @@ contrary p q = absurd (false≢true (sym p ∙ q))
 not-small : {block : List ActiveAxis} {v : Verdict} → SmallCase block v → 3 ≤ length block → total block - 1 ≤ span_sum block → ⊥
 not-small c n h = grind (arith, ints)
 
--- where the block is large, a plan is one of search and enumeration
+-- if the block is large, a plan is one of search and enumeration
 pub plan-of-large : {axes : List Axis} {p : Plan} → PlanCase axes (done p) → is_empty axes ≡ false → list_any still axes ≡ false
     → 3 ≤ length (block_of axes) → total (block_of axes) - 1 ≤ span_sum (block_of axes) → SearchCase (block_of axes) p
 plan-of-large (when_empty q) e s n h = contrary e q
@@ -159,7 +159,7 @@ plan-of-large (by_block t (large m k c)) e s n h = c
 pub comes-to-search : {axes : List Axis} → ToBlock axes → 3 ≤ length (block_of axes) → total (block_of axes) - 1 ≤ span_sum (block_of axes) → ComesToSearch axes
 comes-to-search t n h = grind (arith, ints)
 
--- and where nothing is refused there is such a plan
+-- and if nothing is refused there is such a plan
 pub search-planned : (axes : List Axis) → ComesToSearch axes → (p : Plan) × (plan_of axes ≡ done p) × SearchCase (block_of axes) p
 search-planned axes c = go (plan_of axes) refl (plan-case axes)
   where
@@ -170,7 +170,7 @@ search-planned axes c = go (plan_of axes) refl (plan-case axes)
 
 -- ---- carried out
 
--- what a plan comes to where the words are enough
+-- what a plan comes to if the words are enough
 abbrev pub judged_as : Plan → Judged
 judged_as (answered v c) = record { answer = v; count = c; freed = 0 }
 judged_as (enumerated block) = record { answer = if is_yes (same_sum? block) then Repeated else Distinct; count = 0; freed = words_for (total block) (span_sum block) }

@@ -65,7 +65,7 @@ module _ (l : LayoutModel) (entries : ℕ) where
 
 -- ---- check-in
 
--- where the spans together fit, each fits
+-- if the spans together fit, each fits
 spans-within : (axes : List Axis) → upward axes + downward axes ≤ most_signed → list_any (λ a. not (fits (span a))) axes ≡ false
 unfolding upward downward
 spans-within [] h = refl

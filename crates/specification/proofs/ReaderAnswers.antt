@@ -1,4 +1,4 @@
--- What the reader answers: 11 where the front bytes hold no whole record, else 9 for want of words, else 11 for a false verdict, else the layout.
+-- What the reader answers: 11 if the front bytes hold no whole record, else 9 for want of words, else 11 for a false verdict, else the layout.
 use mathlib.Core.Path.{◌≡◌, refl, sym, ap, subst, ◌∙◌}
 use mathlib.Core.Bool.{Bool, true, false, not, ◌&&◌}
 use mathlib.Core.List.{List, [], ◌∷◌}

@@ -109,7 +109,7 @@ module _ (l : LayoutModel) where
       go true e = absurd (omega (arith, empty-none l.axes e))
       go false e = omega (arith, ints, ((reach_of l e).between k h).1, buffer-full e)
 
-  -- where none is below 0, one of them is just below it
+  -- if none is below 0, one of them is just below it
   buffer-to-highest : ((k : ℕ) → k < positions l.axes → pos 0 ≤ℤ offset_at l k) → BufferToHighest (with_buffer l)
   unfolding with_buffer
   buffer-to-highest low = record { empty = no_buffer (is_empty l.axes) refl; reached = by (is_empty l.axes) refl; none_above = below-buffer }

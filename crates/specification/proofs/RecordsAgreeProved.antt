@@ -91,7 +91,7 @@ unchanged-of : (o : Outcome Made) (number : ℕ) (values output scratch scratch-
 unfolding write_answer write_frees
 unchanged-of o number values output scratch scratch-then e s = grind (arith, ints)
 
--- where the answer is a length, a record was made and stands in the output
+-- if the answer is a length, a record was made and stands in the output
 record Wrote (x : LayoutModel) (output scratch output-then scratch-then : List ℕ) : Type 0 where
   made : Made
   writes_it : Writes x (length output) (length scratch) made

@@ -25,7 +25,7 @@ module _ (x : LayoutModel) where
   shared_back : SharesOffset x.axes → SharesOffset (normal_of x).axes
   shared_back = shared-by-same (same-sym (normal-same x))
 
-  -- an answer that is true of the normal form, and Undecided where both budgets are passed
+  -- an answer that is true of the normal form, and Undecided if both budgets are passed
   byte-of-answer : (v : Verdict) → Says v (normal_of x).axes → (BothBudgetsPassed (normal_of x).axes → v ≡ Undecided) → TrueByte x (verdict_byte v)
   byte-of-answer Distinct s u = record {
     undecided = (λ e. absurd (omega arith), λ b. absurd (omega (arith, ap verdict_byte (u b))));

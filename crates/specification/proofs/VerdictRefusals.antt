@@ -1,4 +1,4 @@
--- The verdict is refused 8, 3 or 9 and nothing else, each exactly where the rules have it.
+-- The verdict is refused 8, 3 or 9 and nothing else, each exactly if the rules have it.
 use Rattle.std.specs.List.{list_any}
 use Rattle.std.specs.Prelude.{if◌then◌else◌}
 use mathlib.Core.Path.{◌≡◌, refl, ap, subst₂, ◌∙◌}

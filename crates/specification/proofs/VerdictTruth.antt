@@ -1,4 +1,4 @@
--- Each answer of the verdict is true of the positions; where both budgets are passed it is Undecided.
+-- Each answer of the verdict is true of the positions; if both budgets are passed it is Undecided.
 use Rattle.std.specs.Prelude.{if◌then◌else◌}
 use mathlib.Core.Path.{◌≡◌, refl, sym, ap, subst, ◌∙◌}
 use mathlib.Core.Bool.{true, false}

@@ -1,4 +1,4 @@
--- The words that the verdict needs: the rules' number where a block is enumerated, none elsewhere; just these are free afterwards.
+-- The words that the verdict needs: the rules' number if a block is enumerated, none elsewhere; just these are free afterwards.
 use mathlib.Core.Path.{◌≡◌, refl, sym, ap, ◌∙◌}
 use mathlib.Core.List.{List}
 use Prim.Native.Nat.{ℕ, ◌+◌, ◌/◌, ◌<◌, ◌≤◌}
@@ -13,7 +13,7 @@ use Rattle.specification.proofs.SearchLaws.{SearchEnd, collided, completed, exha
 use Rattle.specification.proofs.PlanCases.{SearchCase, searching, enumerating, past_both, small, large, PlanCase, when_empty, when_overfull, when_one, when_still, when_out, by_block, plan-case, comes-to-search, search-planned, judged_as, judged-by}
 use Rattle.std.proofs.lemmas.Int.{ints}
 
--- ---- where a block is enumerated
+-- ---- if a block is enumerated
 
 enumerating-plan : {block : List ActiveAxis} {p : Plan} → SearchCase block p → 4194304 < half (others_of block) → total block ≤ 16777216 → p ≡ enumerated block
 enumerating-plan c s t = grind (arith, ints)

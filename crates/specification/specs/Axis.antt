@@ -64,16 +64,16 @@ is_empty = list_any (λ a. a.extent == 0)
 abbrev pub active : Axis → Bool
 active a = nat_lt 1 a.extent
 
--- stride × (extent - 1); it is 0 where the axis is not active
+-- stride × (extent - 1); it is 0 if the axis is not active
 abbrev pub span : Axis → ℤ
 span a = (a.extent - 1) · a.stride
 
--- the sum of the positive spans (`positive_part z` is z where z is above 0, else 0)
+-- the sum of the positive spans (`positive_part z` is z if z is above 0, else 0)
 unfoldable pub upward : List Axis → ℕ
 upward [] = 0
 upward (a ∷ rest) = positive_part (span a) + upward rest
 
--- the sum of the negative spans, without their sign (`negative_part z` is -z where z is below 0, else 0)
+-- the sum of the negative spans, without their sign (`negative_part z` is -z if z is below 0, else 0)
 unfoldable pub downward : List Axis → ℕ
 downward [] = 0
 downward (a ∷ rest) = negative_part (span a) + downward rest

@@ -63,7 +63,7 @@ order_after (refused number values) before = before
 -- ---- indexed offset
 
 -- axis by axis: 7 for an index that is not below its extent; then 3 for an index of 2^63 or more,
--- or where the product or the sum with it does not fit 64 bits signed
+-- or if the product or the sum with it does not fit 64 bits signed
 unfoldable pub sum_indexed : ℕ → ℤ → List Axis → List ℕ → Outcome ℤ
 sum_indexed i sum [] index = done sum
 sum_indexed i sum (a ∷ rest) [] = done sum

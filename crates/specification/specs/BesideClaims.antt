@@ -13,7 +13,7 @@ use Rattle.specification.specs.Beside.{col_major, row_major, order_among, index_
 
 -- ---- dense strides
 
--- the refusals: 1, then 3 where the positions do not fit 63 bits; a shape with a zero extent has no positions, so it is never refused 3
+-- the refusals: 1, then 3 if the positions do not fit 63 bits; a shape with a zero extent has no positions, so it is never refused 3
 pub data DenseRefused (extents : List ℕ) : ℕ → List ℕ → Type 0 where
   too_many : 16 < length extents → DenseRefused extents 1 []
   too_large : length extents ≤ 16 → most_signed < product extents → DenseRefused extents 3 []
@@ -22,7 +22,7 @@ pub data DenseRefused (extents : List ℕ) : ℕ → List ℕ → Type 0 where
 abbrev pub FitsBefore : List ℕ → ℕ → Type 0
 FitsBefore extents i = (j : ℕ) → j < i → (product (take (suc j) extents) ≤ most_signed) × (slice_index extents j ≤ most_signed)
 
--- the strides by column: each the product of the extents before it; where that or an extent does not fit 63 bits the stride is 2^63 - 1,
+-- the strides by column: each the product of the extents before it; if that or an extent does not fit 63 bits the stride is 2^63 - 1,
 -- and the next goes on from there
 pub record RunningProducts (extents : List ℕ) (strides : List ℤ) : Type 0 where
   pub as_long : length strides ≡ length extents

@@ -22,7 +22,7 @@ unfoldable pub answers_of : LayoutModel → List Call → List Check
 answers_of l [] = []
 answers_of l (c ∷ calls) = (after_call l c).answer ∷ answers_of (after_call l c).layout calls
 
--- the end layout: what the last call hands on, also where it is refused; with no calls, the start
+-- the end layout: what the last call hands on, also if it is refused; with no calls, the start
 unfoldable pub end_of : LayoutModel → List Call → LayoutModel
 end_of l [] = l
 end_of l (c ∷ calls) = end_of (after_call l c).layout calls

@@ -46,7 +46,7 @@ pub record CountClaims : Type 0 where
   -- Distinct with half: exactly if none completes
   pub all_passed : (axes : List Axis) (a b : ActiveAxis) (words : ℕ) → Searches axes → IsSetApart axes a b → ¬ (TwoCollide a b)
       → (judge axes words ≡ judged Distinct (half (others_of (block_of axes)))) ↔ ((d : ℕ) → d < half (others_of (block_of axes)) → ¬ (CompletesAt a b (others_of (block_of axes)) (suc d)))
-  -- where the search is due there are two to set apart
+  -- if the search is due there are two to set apart
   pub two_there : (axes : List Axis) → Searches axes → (a : ActiveAxis) × (b : ActiveAxis) × IsSetApart axes a b
   -- no other axis of the block has a larger extent, and of equal extents the lower axis goes first
   pub two_largest : (axes : List Axis) (a b : ActiveAxis) → IsSetApart axes a b

@@ -1,5 +1,5 @@
 -- That the two questions of search and enumeration can be decided. The types of `completes?` and `same_sum?` say what is decided; the rest need not be read.
--- `completes?` goes by a closed form where both strides are above 0, so it computes at numbers of any size.
+-- `completes?` goes by a closed form if both strides are above 0, so it computes at numbers of any size.
 -- RULES, "The verdict: search", "The verdict: enumeration".
 use Rattle.std.specs.Prelude.{Bool, true, false, not, List, ◌⊎◌, ◌≡◌, refl, ℕ, ◌+◌, ◌-◌, ◌*◌, ◌<◌, ◌≤◌, T, nat_lt, ℤ, pos, negsuc, ◌-ℤ◌}
 use Rattle.std.proofs.Common.{inl, inr, arith, ltb→lt, nltb→le}

@@ -166,7 +166,7 @@ read_of bytes words = do
   refuse_if (not (verdict_byte j.answer == verdict_field bytes)) 11 []
   done (record { layout = l; answer = j.answer })
 
--- how many of the first scratch words are free to hold anything afterwards, also where the verdict was false
+-- how many of the first scratch words are free to hold anything afterwards, also if the verdict was false
 unfoldable pub read_frees : List ℕ → ℕ → ℕ
 read_frees bytes words = if fields_right bytes && is_normal_form (layout_from bytes) then freed_by (judge (layout_from bytes).axes words) else 0
 

@@ -13,7 +13,7 @@ use Rattle.specification.specs.NormalClaims.{SameForm}
 -- the writer's refusals before those of `AnsweredExactly`, and what it leaves in the scratch
 pub record WriterClaims : Type 0 where
   pub handed_in : (l : LayoutModel) (room words number : ℕ) (values : List ℕ) → HandedRefused l 0 number values → written l room words ≡ refused number values
-  -- the words needed for the normal form are free afterwards where a record gets made; a refusal frees none
+  -- the words needed for the normal form are free afterwards if a record gets made; a refusal frees none
   pub frees : (l : LayoutModel) (room words : ℕ) (m : Made) → IsAccepted l → written l room words ≡ done m → write_frees (written l room words) ≡ words_needed (normal_of l).axes
   pub frees_none : (l : LayoutModel) (room words number : ℕ) (values : List ℕ) → written l room words ≡ refused number values → write_frees (written l room words) ≡ 0
 
@@ -62,7 +62,7 @@ pub record ReaderClaims : Type 0 where
   -- the verdict that is read is the one judged of that layout, and the byte says it
   pub verdict_read : (bytes : List ℕ) (words : ℕ) (w : WasRead) → read_of bytes words ≡ done w
       → (j : Judged) × (judge w.layout.axes words ≡ done j) × (w.answer ≡ j.answer) × (verdict_byte w.answer ≡ slice_index bytes 3)
-  -- the words needed are free afterwards where the verdict was judged, also if it was false; else none
+  -- the words needed are free afterwards if the verdict was judged, also if it was false; else none
   pub frees : (bytes : List ℕ) (words : ℕ) → WholeRecord bytes → words_needed (layout_from bytes).axes ≤ words → read_frees bytes words ≡ words_needed (layout_from bytes).axes
   pub frees_none : (bytes : List ℕ) (words : ℕ) → (¬ (WholeRecord bytes)) ⊎ (words < words_needed (layout_from bytes).axes) → read_frees bytes words ≡ 0
 

@@ -22,7 +22,7 @@ pub data Run : LayoutModel → List Call → List Check → LayoutModel → Type
 abbrev pub record_in : List ℕ → List ℕ
 record_in output = take (length_field output) output
 
--- the writer's answer on the end layout x: refused 8, then 10, then 9, each exactly where it is due; else the length of the record
+-- the writer's answer on the end layout x: refused 8, then 10, then 9, each exactly if it is due; else the length of the record
 pub record AnsweredExactly (x : LayoutModel) (room words : ℕ) (answer : Outcome ℕ) : Type 0 where
   pub eight : overfull x.axes ≡ true → answer ≡ refused 8 []
   pub ten : overfull x.axes ≡ false → room < record_length (rank (normal_of x)) → answer ≡ refused 10 (record_length (rank (normal_of x)) ∷ [])

@@ -1,4 +1,4 @@
--- Claims on the verdict: each answer is true of the positions, Undecided exactly where both budgets are passed, each refusal exactly where it is due.
+-- Claims on the verdict: each answer is true of the positions, Undecided exactly if both budgets are passed, each refusal exactly if it is due.
 -- RULES, "The verdict: inputs", "The verdict: enumeration", "The verdict: budgets".
 use Rattle.std.specs.List.{list_any}
 use Rattle.std.specs.Prelude.{true, false, List, [], ◌∷◌, ◌≢◌, ◌⊎◌, ◌↔◌, ◌≡◌, ℕ, ◌+◌, ◌-◌, ◌/◌, ◌<◌, ◌≤◌, ℤ, length}
@@ -29,7 +29,7 @@ pub record Enumerates (axes : List Axis) : Type 0 where
   pub past_search : 4194304 < half (others_of (block_of axes))
   pub within : total (block_of axes) ≤ 16777216
 
--- the words needed where a block is enumerated: a bit for each sum up to span, or a word for each position; elsewhere none
+-- the words needed if a block is enumerated: a bit for each sum up to span, or a word for each position; elsewhere none
 pub record WordsClaims : Type 0 where
   pub bitmap : (axes : List Axis) → Enumerates axes → span_sum (block_of axes) / 64 ≤ total (block_of axes) → words_needed axes ≡ span_sum (block_of axes) / 64 + 1
   pub list : (axes : List Axis) → Enumerates axes → total (block_of axes) < span_sum (block_of axes) / 64 → words_needed axes ≡ total (block_of axes)
@@ -38,14 +38,14 @@ pub record WordsClaims : Type 0 where
 -- the verdict of axes
 pub record VerdictClaims : Type 0 where
   pub true_answer : (axes : List Axis) (words : ℕ) (j : Judged) → judge axes words ≡ done j → Says j.answer axes
-  -- both budgets passed: Undecided, where it is not refused
+  -- both budgets passed: Undecided, if it is not refused
   pub only_undecided : (axes : List Axis) (words : ℕ) (j : Judged) → judge axes words ≡ done j → BothBudgetsPassed axes → j.answer ≡ Undecided
-  -- 8 exactly where the axes are overfull
+  -- 8 exactly if the axes are overfull
   pub eight : (axes : List Axis) (words : ℕ) (values : List ℕ) → (judge axes words ≡ refused 8 values) ↔ (overfull axes ≡ true) × (values ≡ [])
-  -- 3 exactly where nothing before settles it and something is out of range
+  -- 3 exactly if nothing before settles it and something is out of range
   pub three : (axes : List Axis) (words : ℕ) (values : List ℕ) → (judge axes words ≡ refused 3 values)
       ↔ (is_empty axes ≡ false) × (overfull axes ≡ false) × (list_any still axes ≡ false) × (is_out_of_range axes ≡ true) × (values ≡ [])
-  -- 9 exactly where the words are too few
+  -- 9 exactly if the words are too few
   pub needed : (axes : List Axis) (words : ℕ) (values : List ℕ) → (judge axes words ≡ refused 9 values) ↔ (words < words_needed axes) × (values ≡ words_needed axes ∷ [])
   -- no other refusal
   pub no_other : (axes : List Axis) (words number : ℕ) (values : List ℕ) → judge axes words ≡ refused number values → (number ≡ 8) ⊎ ((number ≡ 3) ⊎ (number ≡ 9))

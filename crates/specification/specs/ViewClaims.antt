@@ -75,7 +75,7 @@ pub record Diagonal (l : LayoutModel) (pairs : List (ℕ × ℕ)) (new : LayoutM
   pub rank_is : rank new ≡ length (kept pairs (rank l))
   pub class_is : (a : ℕ) → a < rank l → ((b : ℕ) → b < a → ¬ (IsTied pairs a b)) → (place_of pairs (rank l) a < rank new) × FusedAxis l pairs a (axis_at new.axes (place_of pairs (rank l) a))
 
--- what each view answers with where it passes
+-- what each view answers with if it passes
 pub record NewLayoutClaims : Type 0 where
   pub permuted : (l : LayoutModel) (order : List ℕ) → Permutes l order → IsPermuted l order (permute l order).layout
   pub diagonal_is : (l : LayoutModel) (pairs : List (ℕ × ℕ)) → Fuses l pairs → Diagonal l pairs (diagonal_view l pairs).layout

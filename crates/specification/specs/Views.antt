@@ -81,7 +81,7 @@ unfoldable pub stride_sum : ℤ → List Axis → ℤ
 stride_sum sum [] = sum
 stride_sum sum (a ∷ rest) = stride_sum (sum +ℤ a.stride) rest
 
--- 3 where a partial sum of them does not fit 64 bits signed, also if the whole sum would
+-- 3 if a partial sum of them does not fit 64 bits signed, also if the whole sum would
 unfoldable pub stride_fault : ℤ → List Axis → Check
 stride_fault sum [] = pass
 stride_fault sum (a ∷ rest) = refuse_if (not (fits (sum +ℤ a.stride))) 3 [] >> stride_fault (sum +ℤ a.stride) rest
@@ -102,7 +102,7 @@ place_of pairs rank a = length (filter (λ b. nat_lt b a) (kept pairs rank))
 unfoldable pub diagonal_axes : LayoutModel → List (ℕ × ℕ) → List Axis
 diagonal_axes l pairs = map (fused l pairs) (kept pairs (rank l))
 
--- 3 where a partial sum of one of these classes does not fit
+-- 3 if a partial sum of one of these classes does not fit
 unfoldable pub sum_faults : LayoutModel → List (ℕ × ℕ) → List ℕ → Check
 sum_faults l pairs [] = pass
 sum_faults l pairs (a ∷ rest) = stride_fault (pos 0) (members l pairs a) >> sum_faults l pairs rest

@@ -14,7 +14,7 @@ fn are_digits(text: &[u8]) -> bool
     text.iter().all(|byte| byte.is_ascii_digit())
 }
 
-/// The number that the bytes spell, where they are digits, at least one, and a u64 holds it.
+/// The number that the bytes spell, if they are digits, at least one, and a u64 holds it.
 #[tactic(auto, using(crate::proofs::NumberLaws::spelled_on, crate::proofs::NumberLaws::spelled_end, crate::proofs::NumberLaws::unsigned_over), unfolding(crate::specs::Number::unsigned_of))]
 pub fn read_unsigned(text: &[u8]) -> Option<u64>
     ensures { result ≡ unsigned_of text.now }
@@ -31,7 +31,7 @@ pub fn read_unsigned(text: &[u8]) -> Option<u64>
     Some(number)
 }
 
-/// The number that a text of digits spells, with `-` in front of a negative one, where an i64 holds it; `None` for any other text.
+/// The number that a text of digits spells, with `-` in front of a negative one, if an i64 holds it; `None` for any other text.
 #[tactic(auto, unfolding(crate::specs::Number::signed_of))]
 pub fn read_signed(text: &[u8]) -> Option<i64>
     ensures { result ≡ signed_of text.now }

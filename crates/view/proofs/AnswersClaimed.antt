@@ -20,12 +20,12 @@ use Rattle.std.proofs.lemmas.Int.{ints}
 
 -- ---- reach
 
--- where the layout is accepted
+-- if the layout is accepted
 reach-done : (l : LayoutModel) → handed l 0 ≡ pass → reach_of l ≡ done (if is_empty l.axes then none else ends (lowest l) (highest l))
 unfolding reach_of ◌>>◌
 reach-done l e = rw e
 
--- where it is not
+-- if it is not
 reach-refused : (l : LayoutModel) {number : ℕ} → handed l 0 ≡ refused number [] → reach_of l ≡ refused number []
 unfolding reach_of ◌>>◌
 reach-refused l e = rw e

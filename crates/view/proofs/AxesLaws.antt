@@ -61,7 +61,7 @@ axes_of_lists-more es ss i h k = rw add-one (axes_of_lists-suc es ss i h k)
 pub any-list_any : {A : Type 0} (test : A → Bool) (l : List A) → list_any test l ≡ list_any test l
 any-list_any test l = grind (arith, ints)
 
--- no extent is wide where no axis is
+-- no extent is wide if no axis is
 pub none-wide : (axes : List Axis) → none_wide (extents axes) ≡ not (list_any is_too_wide axes)
 none-wide [] = refl
 none-wide (a ∷ axes) = let rest = none-wide axes in grind (arith, ints)

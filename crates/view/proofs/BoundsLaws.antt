@@ -101,7 +101,7 @@ module _ (l : LayoutModel) where
       unfolding reach_of handed is_in_reach refuse_if ◌>>◌
       reach_between n = grind (arith, ints, empty_extents l.axes)
 
--- the ends, where the layout is accepted
+-- the ends, if the layout is accepted
 pub within-ends : (l : LayoutModel) {e : Ends} → reach_of l ≡ done e → (handed l 0 ≡ pass) × (e ≡ (if is_empty l.axes then none else ends (lowest l) (highest l)))
 unfolding reach_of
 within-ends l q = let p = passed-check (handed l 0) q in (p.0, sym (done_inj p.1))

@@ -46,7 +46,7 @@ unfolding product
 product-above [] e = omega arith
 product-above (n ∷ es) e = let rest = product-above es in grind (arith, ints, mul-pos)
 
--- a factor on the way is at most the whole product, where that is not 0
+-- a factor on the way is at most the whole product, if that is not 0
 pub factor-below : (factor rest whole most : ℕ) → factor * rest ≡ whole → 0 < whole → most < factor → most < whole
 factor-below factor zero whole most e h k = omega (arith, mul-zero factor)
 factor-below factor (suc rest) whole most e h k = omega (arith, mul-suc factor rest)

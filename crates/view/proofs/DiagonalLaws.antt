@@ -41,7 +41,7 @@ module _ (l : LayoutModel) (pairs : List (ℕ × ℕ)) (few : rank l ≤ 16) (no
       (map-passing (is_root roots) (fused l pairs) (fused_at l.axes roots) (rank l) (λ r h e.
       ap (λ (m : List Axis). record { extent = least_extent m; stride = stride_sum (pos 0) m }) (members-are r (eqb-true (root_at roots r) r e))))
 
-  -- where neither the layout nor a pair is refused
+  -- if neither the layout nor a pair is refused
   pub by-roots : handed l 0 ≡ pass → fused_view l roots ≡ diagonal_view l pairs
   unfolding fused_view diagonal_view ◌>>◌
   by-roots first = rw (first, none, sums-are, axes-are)

@@ -1,4 +1,4 @@
--- The rule that precedes in every call: what it answers, and what is known where it lets pass; and the reach, which begins with it.
+-- The rule that precedes in every call: what it answers, and what is known if it lets pass; and the reach, which begins with it.
 use Rattle.std.specs.Prelude.{None, Option, Some}
 use mathlib.Core.Path.{◌≡◌, sym, ap, ◌∙◌}
 use mathlib.Core.Bool.{Bool, true, false, not}

@@ -85,7 +85,7 @@ table-passing test f g (suc n) h =
     let ih = table-passing test f g n (λ k l. h k (omega arith)) in
     rw e (grind (arith, ints, count_yes test n, count_no test n, passing-yes test n, passing-no test n, map-append g (passing test n) (n ∷ []), table-suc f (count test n), h n))
 
--- functions that agree where the test passes
+-- functions that agree if the test passes
 pub map-passing : {A : Type 0} (test : ℕ → Bool) (f g : ℕ → A) (n : ℕ) → ((k : ℕ) → k < n → test k ≡ true → f k ≡ g k) → map f (passing test n) ≡ map g (passing test n)
 map-passing test f g zero h = rw (passing-zero test)
 map-passing test f g (suc n) h =

@@ -71,7 +71,7 @@ tied-wider {ps} qs (pair p m) = pair p (among-left p ps qs m)
 tied-wider qs (turned t) = turned (tied-wider qs t)
 tied-wider qs (chain t u) = chain (tied-wider qs t) (tied-wider qs u)
 
--- where the axes of each pair have one root, all tied axes have
+-- if the axes of each pair have one root, all tied axes have
 tied-alike : {ps : List (ℕ × ℕ)} {a b : ℕ} (roots : List ℕ) → ((q : ℕ × ℕ) → Among q ps → root_at roots q.0 ≡ root_at roots q.1) → IsTied ps a b → root_at roots a ≡ root_at roots b
 tied-alike roots each itself = refl
 tied-alike roots each (pair q m) = each q m

@@ -1,4 +1,4 @@
--- Claims on the reach and on the number of positions, as the code answers them: each case stands exactly where it is due.
+-- Claims on the reach and on the number of positions, as the code answers them: each case stands exactly if it is due.
 use Rattle.std.specs.Prelude.{List, [], ◌↔◌, ◌≡◌, ℕ, ◌<◌, ◌≤◌, ℤ, length, ◌≤ℤ◌}
 use Rattle.specification.specs.Axis.{Axis, extents, positions}
 use Rattle.specification.specs.Outcome.{done, refused}
@@ -21,7 +21,7 @@ pub record ReachAnswerClaims : Type 0 where
   pub one : (l : LayoutModel) → (reach_of l ≡ refused 1 []) ↔ (16 < rank l)
   -- up to 16 axes 3 exactly for a layout that is not accepted
   pub three : (l : LayoutModel) → rank l ≤ 16 → (reach_of l ≡ refused 3 []) ↔ ¬ (IsAccepted l)
-  -- and no ends exactly where there is no position
+  -- and no ends exactly if there is no position
   pub no_ends : (l : LayoutModel) → rank l ≤ 16 → (reach_of l ≡ done none) ↔ (positions l.axes ≡ 0)
   pub two_ends : (l : LayoutModel) (low high : ℤ) → reach_of l ≡ done (ends low high) → EndsReached l low high
 

@@ -7,7 +7,7 @@ use Rattle.specification.specs.Beside.{zero_among}
 use Rattle.specification.specs.Layout.{is_too_long}
 use Rattle.specification.specs.Normal.{overfull}
 
--- how many positions these extents have: 1 for more than 16 of them; 8 where none is 0 and there are more than 2^64 - 1 positions
+-- how many positions these extents have: 1 for more than 16 of them; 8 if none is 0 and there are more than 2^64 - 1 positions
 unfoldable pub element_count : List ℕ → Outcome ℕ
 element_count extents =
     refuse_if (is_too_long extents) 1 []

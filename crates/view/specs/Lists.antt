@@ -5,7 +5,7 @@ use Rattle.specification.specs.Layout.{is_too_long}
 use Rattle.specification.specs.Outcome.{Outcome, done, refuse_if, ◌>>◌}
 use Rattle.view.specs.declared.axes.Lists.{Lists}
 
--- 1 where either has more than 16 entries, 2 where their lengths differ; else the axes that they are
+-- 1 if either has more than 16 entries, 2 if their lengths differ; else the axes that they are
 unfoldable pub paired : List ℕ → List ℤ → Outcome (List Axis)
 paired extents strides =
     refuse_if (is_too_long extents || is_too_long strides) 1 []

@@ -18,7 +18,7 @@ use Rattle.view.specs.declared.bounds.Spans.{Spans}
 abbrev pub candidate_model : {A : Type 0} → (A → List Axis) → Candidate A → LayoutModel
 candidate_model axes_of c = model_from c.len c.offset.0 (axes_of c.axes)
 
--- the lowest and the highest offset, or none where there is no position
+-- the lowest and the highest offset, or none if there is no position
 pub data Ends : Type 0 where
   none : Ends
   ends : ℤ → ℤ → Ends
@@ -52,7 +52,7 @@ abbrev pub ends_told : Option (ReadingOffset × ReadingOffset) → Option Ends
 ends_told None = None
 ends_told (Some both) = Some (ends both.0.0 both.1.0)
 
--- the two ends, where they are accepted
+-- the two ends, if they are accepted
 abbrev pub accepted_ends : LayoutModel → Option Ends
 accepted_ends l = if within l then Some (ends (lowest l) (highest l)) else None
 
@@ -64,11 +64,11 @@ none_wide = list_all (λ n. nat_le n (2 ^ 63))
 abbrev pub widths_pass : Bool → List Axis → Bool
 widths_pass wide axes = wide || none_wide (extents axes)
 
--- both sums, where the widths pass
+-- both sums, if the widths pass
 abbrev pub spans_within : Bool → ℕ → ℕ → List Axis → Option Spans
 spans_within wide above below axes = if widths_pass wide axes then spans_up_to above below axes else None
 
--- both ends, where the widths pass
+-- both ends, if the widths pass
 abbrev pub ends_within : Bool → LayoutModel → Option Ends
 ends_within wide l = if widths_pass wide l.axes then accepted_ends l else None
 

@@ -26,7 +26,7 @@ pairs_in pairs = map pair_of pairs
 abbrev pub root_at : List ℕ → ℕ → ℕ
 root_at roots a = slice_index roots a
 
--- where no pair is tied each of the 16 axes is its own root
+-- if no pair is tied each of the 16 axes is its own root
 abbrev pub own_roots : List ℕ
 own_roots = range_with_len 0 16
 
@@ -54,7 +54,7 @@ pub record IsRooted (n : ℕ) (roots : List ℕ) : Type 0 where
 abbrev pub is_root : List ℕ → ℕ → Bool
 is_root roots a = root_at roots a == a
 
--- bit a is set where axis a is a root, for the axes below n
+-- bit a is set if axis a is a root, for the axes below n
 unfoldable pub mask_of : List ℕ → ℕ → ℕ
 mask_of roots zero = 0
 mask_of roots (suc n) = (if is_root roots n then 1 else 0) * 2 ^ n + mask_of roots n
@@ -77,7 +77,7 @@ fused_at axes roots r = record { extent = least_extent (rooted_at axes roots r);
 abbrev pub fused_axes : List Axis → List ℕ → List Axis
 fused_axes axes roots = map (fused_at axes roots) (roots_below roots (length axes))
 
--- 3 where a partial sum of strides at one of these roots does not fit 64 bits signed
+-- 3 if a partial sum of strides at one of these roots does not fit 64 bits signed
 unfoldable pub fused_fault : List Axis → List ℕ → List ℕ → Check
 fused_fault axes roots [] = pass
 fused_fault axes roots (r ∷ rest) = stride_fault (pos 0) (rooted_at axes roots r) >> fused_fault axes roots rest

@@ -30,14 +30,14 @@ pub struct Spans {
     pub down: u64,
 }
 
-/// The sums of the positive and of the negative spans, where each is at most its limit.
+/// The sums of the positive and of the negative spans, if each is at most its limit.
 pub fn sum_spans<A: Axes>(axes: A, above: u64, below: u64) -> Option<Spans>
     ensures { result ≡ spans_up_to above below (A.axes_of axes) }
 {
     spans_within(axes, above, below, true)
 }
 
-/// As `sum_spans`; where wide extents do not pass, no extent minus 1 is above 2^63 - 1 either.
+/// As `sum_spans`; if wide extents do not pass, no extent minus 1 is above 2^63 - 1 either.
 fn spans_within<A: Axes>(axes: A, above: u64, below: u64, wide_passes: bool) -> Option<Spans>
     ensures { result ≡ spans_within wide_passes above below (A.axes_of axes) }
 {
@@ -74,7 +74,7 @@ pub struct Candidate<A> {
 }
 
 impl<A: Axes> Candidate<A> {
-    /// The lowest and the highest offset, where a zero extent counts as 1, if both are accepted; and no extent is wide, unless
+    /// The lowest and the highest offset (a zero extent counts as 1), if both are accepted; and no extent is wide, unless
     /// wide ones pass.
     fn accepted_ends(&self, wide_passes: bool) -> Option<(ReadingOffset, ReadingOffset)>
         ensures { ends_told result
@@ -112,7 +112,7 @@ impl<A: Axes> Candidate<A> {
 
     // Both are inlined: a candidate then never stands in memory.
 
-    /// Whether check-in lets pass: where the offsets are within, each span fits, so only a wide extent is left to test.
+    /// Whether check-in lets pass: if the offsets are within, each span fits, so only a wide extent is left to test.
     #[inline(always)]
     fn is_in_bounds(&self) -> bool
         ensures { result ≡ in_bounds (candidate_model A.axes_of self.now) }
@@ -120,7 +120,7 @@ impl<A: Axes> Candidate<A> {
         self.accepted_ends(false).is_some() || has_no_position(self.axes.entries())
     }
 
-    /// Check-in's refusal 3: an offset outside 0 to 2^63 - 1 or not below the length, or a wide extent, where no extent is 0.
+    /// Check-in's refusal 3: an offset outside 0 to 2^63 - 1 or not below the length, or a wide extent, if no extent is 0.
     #[inline(always)]
     #[tactic(auto, using(crate::proofs::BoundsLaws::bounds_passed, crate::proofs::BoundsLaws::bounds_refused))]
     pub fn bounds_refusal(&self) -> Result<(), Refusal>

@@ -83,7 +83,7 @@ impl Ties {
     }
 }
 
-/// Bit a is set where axis a is a root.
+/// Bit a is set if axis a is a root.
 #[tactic(auto, using(crate::proofs::RootLaws::mask_none, crate::proofs::RootLaws::mask_set, crate::proofs::RootLaws::mask_clear))]
 fn root_mask(roots: &[u8; 16], rank: usize) -> u16
     requires { rank ≤ 16 }

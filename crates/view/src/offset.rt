@@ -21,7 +21,7 @@ fn add_indexed(sum: ReadingOffset, index: u64, stride: i64) -> Result<ReadingOff
 }
 
 impl Layout {
-    /// The sum over the axes of an index vector, from the offset on: 7 where an index is not below its extent, else 3.
+    /// The sum over the axes of an index vector, from the offset on: 7 if an index is not below its extent, else 3.
     fn sum_indexed(&self, index: &[u64]) -> Result<ReadingOffset, Refusal>
         requires few { self.now.rank ≤ 16 }
         requires one_length { length index.now ≡ self.now.rank }

@@ -81,7 +81,7 @@ module _ (t : TwoAxes) where
         to_zero = omega (arith, ints, n.sum, parts, ap (λ (k : ℕ). k * t.first.stride) (shifted n.p n.p'), ap (λ (k : ℕ). k * t.second.stride) (shifted n.q n.q'));
       }
 
-    -- a residue of the sum times c, where c times the second's stride is 0, is that of the first's part of it
+    -- a residue of the sum times c, if c times the second's stride is 0, is that of the first's part of it
     balance-residue : (n : Balance t up down) (m c e r w : ℕ) → IsCongruent m (c * t.first.stride) e → IsCongruent m (c * t.second.stride) 0
         → IsCongruent m (r + down * c) (up * c + w) → IsCongruent m (r + n.p * e) (n.p' * e + w)
     balance-residue n m c e r w i o k =
@@ -147,7 +147,7 @@ module _ (t : TwoAxes) where
         let below = mul-le-mul_right t.second.stride b.second_below in
         (omega (arith, e, m), omega (arith, a, f, g, b.sum, above, below), omega (arith, a, f, g, b.sum, above, below))
 
-    -- and back, where the common divisor divides up - down
+    -- and back, if the common divisor divides up - down
     near-balance : IsCongruent t.g up down → Near up down k → Balance t up down
     near-balance divides h =
         let i = inverts in

@@ -6,7 +6,7 @@
 //!
 //! Two residues of r go along: that of r times the inverse, moved up by the window, and that of r modulo g. Either alone rules
 //! most vectors out, so a vector costs two additions and a comparison, and a step over an axis end two more. No sum is kept: it
-//! is added up from the digits where neither residue rules the vector out.
+//! is added up from the digits if neither residue rules the vector out.
 //!
 //! `Walk::run_to` says that it is right: what it finds is the definitions' `first_of` of `hit`, and where it stands is as many
 //! vectors on. A walk can be gone on with. docs/WHY.md explains it in section 7.

@@ -61,8 +61,8 @@ fn near(two: TwoAxes, up: u64, down: u64, k: u64, span: u64) -> bool
     k <= two.window && up.abs_diff(down + k * two.part) <= span
 }
 
-// Whether some difference of each completes up - down to 0, where k is up - down times the inverse modulo b. That of the first is
-// -k / g or (b - k) / g: no other one within its reach leaves a multiple of b, which the second has where it is within its span.
+// Whether some difference of each completes up - down to 0, if k is up - down times the inverse modulo b. That of the first is
+// -k / g or (b - k) / g: no other one within its reach leaves a multiple of b, which the second has if it is within its span.
 #[tactic(auto, using(crate::proofs::Completing::window_part))]
 pub(crate) fn completes(two: TwoAxes, up: u64, down: u64, k: u64) -> bool
     requires low { k < two.second.stride }

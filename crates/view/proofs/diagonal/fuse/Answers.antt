@@ -30,7 +30,7 @@ in_range z f = grind (arith, ints)
 abbrev back : ℤ → ℤ
 back z = to_z w64 (of_z w64 z)
 
--- what the machine's sum of two strides tells of the sum itself, where it is one and where it is none
+-- what the machine's sum of two strides tells of the sum itself, if it is one and if it is none
 module _ {sum : Option ℤ} (x y : ℤ) (f : SFits w64 x) (g : SFits w64 y) (told : SomeIff sum (SFits w64 (back x +ℤ back y)) (back x +ℤ back y)) where
   sum-over : sum ≡ None → fits (x +ℤ y) ≡ false
   sum-over e = grind (arith, ints)
