@@ -1,0 +1,199 @@
+"""Compares the module's answers with NumPy's on random arrays: beside_numpy.py [ARRAYS [SEED]]
+
+These answers are compared for each array:
+- The verdict of `overlap`. Two positions share memory exactly if some axis can be cut so that
+  `shares_memory` finds memory that both parts share. If `may_share_memory` denies it for every
+  cut, no two positions do. NumPy's test of a single array, `internal_overlap`, and the bytes at
+  which all elements stand are compared too.
+- The views of `permute`, `broadcast` and `diagonal`, with those of `transpose`, `broadcast_to`
+  and `einsum`.
+- The offset of each position, in the layout, in its normal form and in its record.
+If a stride is no multiple of the item size, `overlap` has to raise UnevenStride, and `judge` is
+asked of bytes instead. The last line is `N arrays, Q answers compared, D differences`; the status
+is 0 if D is 0.
+"""
+import collections
+import itertools
+import random
+import sys
+
+import numpy
+
+from strided import Layout, UnevenStride, Verdict, judge, overlap
+
+try:
+    from numpy._core import _multiarray_tests
+except ImportError:  # before NumPy 2
+    from numpy.core import _multiarray_tests
+
+# Elements of 1 to 24 bytes; in a packed record the strides of a field are no multiple of its size.
+PACKED = numpy.dtype([("flag", "i1"), ("reading", "f4"), ("place", "i2", (3,))])
+TYPES = [numpy.dtype(name) for name in ("i1", "i2", "f4", "f8", "c16", "S3", "U2", "M8[s]", "O")] + [PACKED]
+POSITIONS = 1500
+BUFFER = numpy.zeros(2**16, "i1")
+
+
+def extents_of(draw, most=POSITIONS):
+    """Extents of up to 6 axes with few positions; now and then one of them is 0."""
+    extents = []
+    for _ in range(draw.randint(0, 6)):
+        extents.append(min(draw.choice([1, 2, 2, 3, 3, 4, 5, 7, 11]), max(1, most)))
+        most //= extents[-1]
+    if extents and draw.random() < 0.03:
+        extents[draw.randrange(len(extents))] = 0
+    return extents
+
+
+def dense(draw):
+    """An array by row, by column, or with its axes in any order."""
+    extents = extents_of(draw)
+    array = numpy.zeros(extents, draw.choice(TYPES), order=draw.choice("CF"))
+    return array.transpose(draw.sample(range(len(extents)), len(extents)))
+
+
+def sliced(draw):
+    """A part of a dense array, along each axis with a step of either sign."""
+    array = dense(draw)
+    steps = [slice(None, None, draw.choice([1, 1, 2, 3, -1, -2])) for _ in array.shape]
+    return array[(*steps, ...)]
+
+
+def stretched(draw):
+    """A broadcast array."""
+    array = dense(draw)
+    extents = [draw.choice([1, 2, 3]) if extent == 1 else extent for extent in array.shape]
+    return numpy.broadcast_to(array, [*(draw.choice([1, 2]) for _ in range(draw.randint(0, 1))), *extents])
+
+
+def windows(draw):
+    """Windows that slide over an array, all or every second or third of them."""
+    size, width, hop = draw.randint(2, 30), draw.randint(1, 5), draw.randint(1, 6)
+    array = numpy.zeros((draw.randint(1, 4), size + width), draw.choice(TYPES))
+    return numpy.lib.stride_tricks.sliding_window_view(array, width, axis=1)[:, ::hop]
+
+
+def field(draw):
+    """A field of packed records."""
+    array = numpy.zeros(extents_of(draw, POSITIONS // 3), PACKED)
+    return array[draw.choice(PACKED.names)]
+
+
+def strided(draw):
+    """Any extents and strides; those of one array in eight are any numbers of bytes."""
+    kind, extents = draw.choice(TYPES[:7]), extents_of(draw)
+    unit = kind.itemsize if draw.random() < 0.875 else 1
+    most = draw.choice([3, 12, 60, 200])
+    strides = [unit * draw.randint(-most, most) for _ in extents]
+    below = -sum(stride * (extent - 1) for extent, stride in zip(extents, strides) if stride < 0)
+    above = sum(stride * (extent - 1) for extent, stride in zip(extents, strides) if stride > 0)
+    if 0 in extents or below + above + kind.itemsize > len(BUFFER):
+        return strided(draw)
+    whole = BUFFER[below:][:kind.itemsize].view(kind)
+    return numpy.lib.stride_tricks.as_strided(whole, [*extents, 1], [*strides, 1])[..., 0]
+
+
+KINDS = [dense, sliced, stretched, windows, field, strided, strided, strided]
+
+
+def offsets(array):
+    """The byte at which each position stands, counted from the array's first; axis 0 changes fastest."""
+    places = [0]
+    for extent, stride in zip(array.shape, array.strides):
+        places = [place + index * stride for index in range(extent) for place in places]
+    return places
+
+
+def cuts(array):
+    """The two parts of an array, for each way to cut one of its axes in two."""
+    for axis, extent in enumerate(array.shape):
+        line = numpy.moveaxis(array, axis, 0)
+        yield from ((line[:at], line[at:]) for at in range(1, extent))
+
+
+class Comparison:
+    """How many answers were compared, how many of them differed, and how often each verdict came."""
+
+    def __init__(self):
+        self.compared = self.differences = 0
+        self.verdicts = collections.Counter()
+
+    def same(self, what, array, ours, theirs):
+        self.compared += 1
+        if ours != theirs:
+            self.differences += 1
+            print(f"{what}: {ours!r}, NumPy {theirs!r}: {array.shape} {array.strides} {array.dtype}")
+
+    def verdict(self, array):
+        """Compares the verdict; answers whether it was one of bytes, as the strides are uneven."""
+        axes = [*zip(array.shape, array.strides)]
+        try:
+            verdict, uneven = overlap(array), False
+        except UnevenStride:
+            verdict, uneven = judge([*axes, (array.itemsize, 1)])[0], True
+        self.verdicts[verdict.name.lower(), uneven] += 1
+        active = [stride for extent, stride in axes if extent > 1 and array.size]
+        self.same("uneven", array, uneven, any(stride % array.itemsize for stride in active))
+        repeated = {Verdict.REPEATED: True, Verdict.DISTINCT: False}.get(verdict, verdict)
+        parts = list(cuts(array))
+        self.same("shares_memory", array, repeated, any(numpy.shares_memory(*two) for two in parts))
+        if not any(numpy.may_share_memory(*two) for two in parts):
+            self.same("may_share_memory", array, repeated, False)
+        self.same("internal_overlap", array, repeated, bool(_multiarray_tests.internal_overlap(array, -1)))
+        places = sorted(offsets(array))
+        near = any(after - before < array.itemsize for before, after in zip(places, places[1:]))
+        self.same("offsets", array, repeated, near)
+        return uneven
+
+    def cells(self, draw, array):
+        """Compares where the elements of an array and of its views stand, counted in elements."""
+        layout = Layout.of(array)
+        if 0 in array.shape:
+            self.same("empty", array, layout.verdict(), Verdict.DISTINCT)
+            return
+        lowest = min(offsets(array))
+        places = [(place - lowest) // array.itemsize for place in offsets(array)]
+        positions = itertools.product(*(range(extent) for extent in array.shape[::-1]))
+        self.same("offset_at", array, [layout.offset_at(index[::-1]) for index in positions], places)
+        self.same("length", array, layout.length, max(places) + 1)
+        again = Layout.read(layout.record())
+        for name, form in ("normal_form", layout.normal_form()), ("record", again):
+            start = numpy.array([form.offset])
+            for extent, stride in form.axes:
+                start = (numpy.arange(extent)[:, None] * stride + start).reshape(-1)
+            self.same(name, array, start.tolist(), places)
+        order = draw.sample(range(array.ndim), array.ndim)
+        self.same("permute", array, layout.permute(order), Layout.of(array.transpose(order)))
+        targets = [draw.randint(1, 3) if extent == 1 else extent for extent in array.shape]
+        self.same("broadcast", array, layout.broadcast(targets), Layout.of(numpy.broadcast_to(array, targets)))
+        self.diagonal(draw, array, layout)
+
+    def diagonal(self, draw, array, layout):
+        """Compares the view that ties two axes; `einsum` makes it of numbers and equal extents."""
+        pairs = itertools.combinations(range(array.ndim), 2)
+        equal = [pair for pair in pairs if array.shape[pair[0]] == array.shape[pair[1]]]
+        if not equal or array.dtype.kind not in "ifc":
+            return
+        one, other = draw.choice(equal)
+        names = [one if axis == other else axis for axis in range(array.ndim)]
+        tied = numpy.einsum(array, names, [axis for axis in range(array.ndim) if axis != other])
+        ours = layout.diagonal([(other, one)])
+        self.same("diagonal", array, (ours.offset, ours.extents), (layout.offset, tied.shape))
+        self.same("diagonal", array, ours.axes, Layout.of(tied).axes)
+
+
+def main(arrays=3000, seed=20261127):
+    draw, comparison = random.Random(seed), Comparison()
+    for number in range(arrays):
+        array = KINDS[number % len(KINDS)](draw)
+        if not comparison.verdict(array):
+            comparison.cells(draw, array)
+    print(f"NumPy {numpy.__version__}, seed {seed}")
+    for (verdict, uneven), times in sorted(comparison.verdicts.items()):
+        print(f"{times} {verdict}" + (", asked of bytes" if uneven else ""))
+    compared, differences = comparison.compared, comparison.differences
+    print(f"{arrays} arrays, {compared} answers compared, {differences} differences")
+    return 1 if comparison.differences else 0
+
+
+if __name__ == "__main__":
+    sys.exit(main(*map(int, sys.argv[1:])))
