@@ -1,4 +1,4 @@
-"""Arrays of other libraries: what they say of their elements is enough to ask whether two of them share memory."""
+"""Arrays of other libraries: whether two of their elements share memory."""
 from array import array
 
 from strided import UnevenStride, Verdict, overlap
@@ -11,11 +11,15 @@ if overlap(readings[::-2]) is Verdict.DISTINCT:
 
 
 class Windows:
-    """Windows of three readings of 4 bytes, so many bytes apart. NumPy's arrays have this attribute too."""
+    """Two windows of three readings of 4 bytes, described as NumPy describes an array."""
 
     def __init__(self, apart):
         self.__array_interface__ = {
-            "version": 3, "shape": (2, 3), "strides": (apart, 4), "typestr": "<i4", "data": (0, True),
+            "version": 3,
+            "shape": (2, 3),
+            "strides": (apart, 4),
+            "typestr": "<i4",
+            "data": (0, True),
         }
 
 

@@ -1,4 +1,7 @@
-"""A file of records, read by stepping from each to the next; one of them is damaged, and the others are still found."""
+"""A file of records, read by stepping from each to the next.
+
+One of them is damaged; the others are still found.
+"""
 from pathlib import Path
 from tempfile import TemporaryDirectory
 
@@ -13,7 +16,7 @@ with TemporaryDirectory() as folder:
     file.write_bytes(b"".join(layout.record() for layout in (whole, half, turned)))
     data = bytearray(file.read_bytes())
 
-data[29 + 3] = 2  # the second record begins at byte 29: its verdict is now Repeated, which is false
+data[29 + 3] = 2  # the verdict of the second record is now Repeated, which is false
 rest = memoryview(data)
 while rest:
     behind = step_over(rest)

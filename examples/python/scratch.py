@@ -1,8 +1,8 @@
-"""The verdict's scratch: a call lends as many words as are needed, unless the caller bounds them."""
+"""Scratch: a call lends as many words as the verdict needs, unless the caller sets a bound."""
 from strided import Layout, Refusal
 
-STRIDES = [2, 6, 18, 54, 162, 486, 1458, 4374, 13122, 39366, 118098, 177147]
-layout = Layout(708587, 0, [3] * 12, STRIDES)
+strides = [2, 6, 18, 54, 162, 486, 1458, 4374, 13122, 39366, 118098, 177147]
+layout = Layout(708587, 0, [3] * 12, strides)
 
 try:
     layout.verdict(scratch_words=1000)
@@ -10,4 +10,4 @@ except Refusal as refusal:
     print(refusal)
     (words,) = refusal.values
     print(f"with {words} words:", layout.verdict(scratch_words=words).name.lower())
-print("unbounded:", layout.verdict().name.lower())
+print("with no bound:", layout.verdict().name.lower())

@@ -9,8 +9,8 @@ def ask(name, extents, strides):
     print(f"{name}: {layout.rank} axes, {ours}; normal form: {form.rank} axes, {of_form}")
 
 
-# Axis 1 goes on where axis 0 ends, and axis 3 where axis 2 ends. The normal form has two axes, and the
-# verdict of two axes is always found. It holds for the layout: both have the same offsets in the same order.
+# Axis 1 goes on where axis 0 ends, and axis 3 where axis 2 ends. The normal form has two axes, and
+# the verdict of two axes is always found. It holds for the layout too: both have the same offsets.
 ask("tiles", [2000] * 4, [4000003, 8000006000, 4000007, 8000014000])
-# Nothing merges here. A caller who gets Undecided does not know whether two positions share a cell, and does not write.
+# Nothing merges here. After Undecided nobody knows whether two positions share a cell: no write.
 ask("apart", [1449] * 4, [10000000000, 10000000001, 10000000002, 10000000003])

@@ -1,4 +1,4 @@
-"""Checks before a write: readings are written through a layout only if no two positions share a cell."""
+"""Checks before a write: writes through a layout only if no two positions share a cell."""
 from array import array
 
 from strided import Layout, Refusal, Verdict
@@ -19,7 +19,7 @@ def try_rows(apart):
     print(f"rows {apart} apart:", *buffer)
 
 
-# 4: one row behind the other; 3: a slip, the rows overlap; 5: the last row would end past the buffer
+# 4: one row behind the other. 3: a slip, the rows overlap. 5: the last row would end too late.
 for apart in (4, 3, 5):
     try:
         try_rows(apart)

@@ -28,7 +28,8 @@ except ImportError:  # before NumPy 2
 
 # Elements of 1 to 24 bytes; in a packed record the strides of a field are no multiple of its size.
 PACKED = numpy.dtype([("flag", "i1"), ("reading", "f4"), ("place", "i2", (3,))])
-TYPES = [numpy.dtype(name) for name in ("i1", "i2", "f4", "f8", "c16", "S3", "U2", "M8[s]", "O")] + [PACKED]
+NAMES = ["i1", "i2", "f4", "f8", "c16", "S3", "U2", "M8[s]", "O"]
+TYPES = [*map(numpy.dtype, NAMES), PACKED]
 POSITIONS = 1500
 BUFFER = numpy.zeros(2**16, "i1")
 
@@ -62,7 +63,8 @@ def stretched(draw):
     """A broadcast array."""
     array = dense(draw)
     extents = [draw.choice([1, 2, 3]) if extent == 1 else extent for extent in array.shape]
-    return numpy.broadcast_to(array, [*(draw.choice([1, 2]) for _ in range(draw.randint(0, 1))), *extents])
+    more = [draw.choice([1, 2]) for _ in range(draw.randint(0, 1))]
+    return numpy.broadcast_to(array, [*more, *extents])
 
 
 def windows(draw):
@@ -96,7 +98,7 @@ KINDS = [dense, sliced, stretched, windows, field, strided, strided, strided]
 
 
 def offsets(array):
-    """The byte at which each position stands, counted from the array's first; axis 0 changes fastest."""
+    """The byte of each position, counted from that of the first; axis 0 changes fastest."""
     places = [0]
     for extent, stride in zip(array.shape, array.strides):
         places = [place + index * stride for index in range(extent) for place in places]
@@ -111,7 +113,7 @@ def cuts(array):
 
 
 class Comparison:
-    """How many answers were compared, how many of them differed, and how often each verdict came."""
+    """How many answers were compared and how many differed; how often each verdict came."""
 
     def __init__(self):
         self.compared = self.differences = 0
@@ -121,7 +123,7 @@ class Comparison:
         self.compared += 1
         if ours != theirs:
             self.differences += 1
-            print(f"{what}: {ours!r}, NumPy {theirs!r}: {array.shape} {array.strides} {array.dtype}")
+            print(f"{what}: {ours!r}, NumPy {theirs!r}:", array.shape, array.strides, array.dtype)
 
     def verdict(self, array):
         """Compares the verdict; answers whether it was one of bytes, as the strides are uneven."""
@@ -135,10 +137,12 @@ class Comparison:
         self.same("uneven", array, uneven, any(stride % array.itemsize for stride in active))
         repeated = {Verdict.REPEATED: True, Verdict.DISTINCT: False}.get(verdict, verdict)
         parts = list(cuts(array))
-        self.same("shares_memory", array, repeated, any(numpy.shares_memory(*two) for two in parts))
+        shared = any(numpy.shares_memory(*two) for two in parts)
+        self.same("shares_memory", array, repeated, shared)
         if not any(numpy.may_share_memory(*two) for two in parts):
             self.same("may_share_memory", array, repeated, False)
-        self.same("internal_overlap", array, repeated, bool(_multiarray_tests.internal_overlap(array, -1)))
+        solved = bool(_multiarray_tests.internal_overlap(array, -1))
+        self.same("internal_overlap", array, repeated, solved)
         places = sorted(offsets(array))
         near = any(after - before < array.itemsize for before, after in zip(places, places[1:]))
         self.same("offsets", array, repeated, near)
@@ -153,7 +157,8 @@ class Comparison:
         lowest = min(offsets(array))
         places = [(place - lowest) // array.itemsize for place in offsets(array)]
         positions = itertools.product(*(range(extent) for extent in array.shape[::-1]))
-        self.same("offset_at", array, [layout.offset_at(index[::-1]) for index in positions], places)
+        found = [layout.offset_at(index[::-1]) for index in positions]
+        self.same("offset_at", array, found, places)
         self.same("length", array, layout.length, max(places) + 1)
         again = Layout.read(layout.record())
         for name, form in ("normal_form", layout.normal_form()), ("record", again):
@@ -164,7 +169,8 @@ class Comparison:
         order = draw.sample(range(array.ndim), array.ndim)
         self.same("permute", array, layout.permute(order), Layout.of(array.transpose(order)))
         targets = [draw.randint(1, 3) if extent == 1 else extent for extent in array.shape]
-        self.same("broadcast", array, layout.broadcast(targets), Layout.of(numpy.broadcast_to(array, targets)))
+        stretched_array = numpy.broadcast_to(array, targets)
+        self.same("broadcast", array, layout.broadcast(targets), Layout.of(stretched_array))
         self.diagonal(draw, array, layout)
 
     def diagonal(self, draw, array, layout):

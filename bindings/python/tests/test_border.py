@@ -1,4 +1,4 @@
-"""What the module repeats is held to the files that say it first: the C header and the library's sources."""
+"""What the module repeats is held to the C header and to the library's sources."""
 import ctypes
 import re
 import unittest
@@ -28,7 +28,8 @@ KINDS = {
 
 def kind_of(written):
     """The ctypes type of a declaration in C, without its name."""
-    words = re.fullmatch(r"(?:const )?(\w+) ?(\*?) ?(\w+)(?:\[(\w+)\])?", " ".join(written.split()))
+    form = r"(?:const )?(\w+) ?(\*?) ?(\w+)(?:\[(\w+)\])?"
+    words = re.fullmatch(form, " ".join(written.split()))
     kind = KINDS[words[1]]
     if words[4]:
         kind *= number_of(words[4])
@@ -43,8 +44,9 @@ def number_of(name):
 class Border(unittest.TestCase):
     def test_calls_are_those_of_the_header(self):
         declared = {}
-        for result, name, parameters in re.findall(r"^(\w+) (strided_\w+)\(([^)]*)\);", CODE, re.M):
-            declared[name] = KINDS[result], [kind_of(one)[1] for one in parameters.split(",")]
+        for found in re.finditer(r"^(\w+) (strided_\w+)\(([^)]*)\);", CODE, re.M):
+            parameters = [kind_of(one)[1] for one in found[3].split(",")]
+            declared[found[2]] = KINDS[found[1]], parameters
         self.assertEqual(len(declared), 14)
         self.assertEqual(_library.CALLS, declared)
 
@@ -69,9 +71,10 @@ class Border(unittest.TestCase):
 
     def test_sentences_are_those_of_the_library(self):
         source = (ROOT / "crates/view/src/layout.rt").read_text(encoding="utf-8")
-        told = re.findall(r"/// (\d+): [^\n]*\n(?:\s*///[^\n]*\n)*\s*#\[error\(\"(.*?)\"\)\]\s*\w+(?:\(([^)]*)\))?", source)
-        self.assertEqual(SENTENCES, {int(number): sentence for number, sentence, _ in told})
-        for number, sentence, values in told:
+        form = r"/// (\d+): .*\n(?: *///.*\n)* *#\[error\(\"(.*)\"\)\]\n *\w+(?:\((.*)\))?,"
+        rows = re.findall(form, source)
+        self.assertEqual(SENTENCES, {int(number): sentence for number, sentence, _ in rows})
+        for number, sentence, values in rows:
             self.assertEqual(sentence.count("{"), len(values.split(",")) if values else 0, number)
 
     def test_version_is_that_of_the_header(self):

@@ -4,13 +4,12 @@ import dataclasses
 import pickle
 import unittest
 
-from strided import (
-    Axis, Layout, Refusal, Verdict, column_strides, index_order, judge, row_strides, step_over, validate_bounds,
-)
+from strided import Axis, Layout, Refusal, Verdict, judge, step_over, validate_bounds
+from strided import column_strides, index_order, row_strides
 
 SHEET = Layout(6, 0, [2, 3], [1, 2])
-# Twelve axes of extent 3: too many difference vectors for the search, few enough positions for the enumeration.
-TWELVE = [(3, stride) for stride in (2, 6, 18, 54, 162, 486, 1458, 4374, 13122, 39366, 118098, 177147)]
+# Twelve axes of extent 3: too many difference vectors for the search; the verdict needs scratch.
+TWELVE = [(3, 2 * 3**power) for power in range(11)] + [(3, 3**11)]
 APART = [(1449, 10**10 + more) for more in range(4)]
 
 
@@ -43,9 +42,15 @@ class CheckIn(Refused):
         self.assertIsNone(validate_bounds(6, 0, [2, 3], [1, 2]))
 
     def test_numbers_that_do_not_fit(self):
-        for arguments in [(-1, 0, [], []), (2**64, 0, [], []), (1, 2**63, [], []), (1, 0, [-1], [1]), (1, 0, [1], [-2**63 - 1])]:
-            with self.assertRaises(OverflowError):
-                Layout(*arguments)
+        for arguments in [
+            (-1, 0, [], []),
+            (2**64, 0, [], []),
+            (1, 2**63, [], []),
+            (1, 0, [-1], [1]),
+            (1, 0, [1], [-2**63 - 1]),
+        ]:
+            self.assertRaises(OverflowError, Layout, *arguments)
+            self.assertRaises(OverflowError, validate_bounds, *arguments)
         with self.assertRaises(OverflowError):
             SHEET.permute([-1, 0])
         with self.assertRaises(TypeError):
@@ -85,7 +90,8 @@ class Views(Refused):
 
     def test_diagonal(self):
         block = Layout(6000, 60, [3, 4, 5, 2, 6, 7], [1, 3, 12, -60, 120, 720])
-        self.assertEqual(block.diagonal([(0, 3), (4, 1), (3, 5)]), Layout(6000, 60, [2, 4, 5], [661, 123, 12]))
+        tied = block.diagonal([(0, 3), (4, 1), (3, 5)])
+        self.assertEqual(tied, Layout(6000, 60, [2, 4, 5], [661, 123, 12]))
         self.assertEqual(SHEET.diagonal([]), SHEET)
         self.refused(5, (6, 6), block.diagonal, [(0, 3), (6, 6)])
         with self.assertRaises(ValueError):
@@ -140,20 +146,23 @@ class Verdicts(Refused):
 
 class Records(Refused):
     def test_normal_form(self):
-        self.assertEqual(Layout(100, 0, [2, 1, 3], [4, 9, 8]).normal_form(), Layout(100, 0, [6], [4]))
+        form = Layout(100, 0, [2, 1, 3], [4, 9, 8]).normal_form()
+        self.assertEqual(form, Layout(100, 0, [6], [4]))
         wide = Layout(1, 0, [1, 1], [0, 0]).broadcast([2**32, 2**32])
         self.refused(8, (), wide.normal_form)
         self.refused(8, (), wide.record)
 
     def test_record(self):
         record = SHEET.record()
-        self.assertEqual(record.hex(), "001d010101000000000000000000000000000000060000000000000001")
+        fields = "001d", "01", "01", "01", f"{0:016x}", f"{6:016x}", f"{1:016x}"
+        self.assertEqual(record.hex(), "".join(fields))
         self.assertEqual(Layout.read(record), SHEET.normal_form())
         for data in (bytearray(record), memoryview(record + b"more")):
             self.assertEqual(Layout.read(data), SHEET.normal_form())
         longest = Layout(2**20, 0, [2] * 16, [3 * 2**axis for axis in range(16)][::-1]).record()
         self.assertEqual((len(longest), Layout.read(longest).rank), (269, 16))
-        self.assertIs(Layout.read(Layout(2**63 - 1, 0, *zip(*APART)).record()).verdict(), Verdict.UNDECIDED)
+        undecided = Layout(2**63 - 1, 0, *zip(*APART)).record()
+        self.assertIs(Layout.read(undecided).verdict(), Verdict.UNDECIDED)
 
     def test_no_record(self):
         record = SHEET.record()
