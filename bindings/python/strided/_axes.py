@@ -38,7 +38,9 @@ def judge(
     of 8 bytes. `scratch_words` bounds them; if more are needed, refusal 9 says how many. The
     other refusals are 1, 8, 3.
     """
-    structs = [CAxis(fitting(axis[0], c_uint64), fitting(axis[1], c_int64)) for axis in axes]
+    structs = [
+        CAxis(fitting(extent, c_uint64), fitting(stride, c_int64)) for extent, stride in axes
+    ]
     lent, found = ((CAxis * len(structs))(*structs), len(structs)), CFound()
     with_scratch(
         lambda *scratch, values: LIBRARY.strided_is_injective(*lent, *scratch, found, values),

@@ -9,8 +9,9 @@ These answers are compared for each array:
   and `einsum`.
 - The offset of each position, in the layout, in its normal form and in its record.
 If a stride is no multiple of the item size, `overlap` has to raise UnevenStride, and `judge` is
-asked of bytes instead. The last line is `N arrays, Q answers compared, D differences`; the status
-is 0 if D is 0.
+asked of bytes instead. One array in fifty more has twelve axes, and most of these need scratch;
+only their verdict is compared, with `internal_overlap`. The last line is
+`N arrays, Q answers compared, D differences`; the status is 0 if D is 0.
 """
 import collections
 import itertools
@@ -19,7 +20,7 @@ import sys
 
 import numpy
 
-from strided import Layout, UnevenStride, Verdict, judge, overlap
+from strided import Layout, Refusal, UnevenStride, Verdict, judge, overlap
 
 try:
     from numpy._core import _multiarray_tests
@@ -31,7 +32,9 @@ PACKED = numpy.dtype([("flag", "i1"), ("reading", "f4"), ("place", "i2", (3,))])
 NAMES = ["i1", "i2", "f4", "f8", "c16", "S3", "U2", "M8[s]", "O"]
 TYPES = [*map(numpy.dtype, NAMES), PACKED]
 POSITIONS = 1500
-BUFFER = numpy.zeros(2**16, "i1")
+BUFFER = numpy.zeros(2**20, "i1")
+# NumPy's solver looks at no more candidates than this for an array of twelve axes.
+CANDIDATES = 10**7
 
 
 def extents_of(draw, most=POSITIONS):
@@ -94,6 +97,13 @@ def strided(draw):
     return numpy.lib.stride_tricks.as_strided(whole, [*extents, 1], [*strides, 1])[..., 0]
 
 
+def twelve(draw):
+    """Twelve axes of three bytes: too many difference vectors to search, so most need scratch."""
+    strides = [2 * 3**power for power in range(11)] + [3**11]
+    strides = [stride + draw.choice([0, 0, 0, 0, 1, -1, 2]) for stride in strides]
+    return numpy.lib.stride_tricks.as_strided(BUFFER, [3] * 12, draw.sample(strides, 12))
+
+
 KINDS = [dense, sliced, stretched, windows, field, strided, strided, strided]
 
 
@@ -132,7 +142,7 @@ class Comparison:
             verdict, uneven = overlap(array), False
         except UnevenStride:
             verdict, uneven = judge([*axes, (array.itemsize, 1)])[0], True
-        self.verdicts[verdict.name.lower(), uneven] += 1
+        self.verdicts[verdict.name.lower() + (", asked of bytes" if uneven else "")] += 1
         active = [stride for extent, stride in axes if extent > 1 and array.size]
         self.same("uneven", array, uneven, any(stride % array.itemsize for stride in active))
         repeated = {Verdict.REPEATED: True, Verdict.DISTINCT: False}.get(verdict, verdict)
@@ -147,6 +157,22 @@ class Comparison:
         near = any(after - before < array.itemsize for before, after in zip(places, places[1:]))
         self.same("offsets", array, repeated, near)
         return uneven
+
+    def scratch(self, array):
+        """Compares a verdict that may need scratch."""
+        verdict, lent = overlap(array), ""
+        try:
+            overlap(array, scratch_words=0)
+        except Refusal as refusal:
+            lent = f", with scratch after refusal {refusal.number}"
+        self.verdicts[f"{verdict.name.lower()} of twelve axes{lent}"] += 1
+        try:
+            solved = bool(_multiarray_tests.internal_overlap(array, CANDIDATES))
+        except ValueError as error:
+            if "max_work" not in str(error):
+                raise
+        else:
+            self.same("scratch", array, verdict is Verdict.REPEATED, solved)
 
     def cells(self, draw, array):
         """Compares where the elements of an array and of its views stand, counted in elements."""
@@ -193,11 +219,14 @@ def main(arrays=3000, seed=20261127):
         array = KINDS[number % len(KINDS)](draw)
         if not comparison.verdict(array):
             comparison.cells(draw, array)
+    for _ in range(arrays // 50):
+        comparison.scratch(twelve(draw))
     print(f"NumPy {numpy.__version__}, seed {seed}")
-    for (verdict, uneven), times in sorted(comparison.verdicts.items()):
-        print(f"{times} {verdict}" + (", asked of bytes" if uneven else ""))
+    for verdict, times in sorted(comparison.verdicts.items()):
+        print(times, verdict)
     compared, differences = comparison.compared, comparison.differences
-    print(f"{arrays} arrays, {compared} answers compared, {differences} differences")
+    total = sum(comparison.verdicts.values())
+    print(f"{total} arrays, {compared} answers compared, {differences} differences")
     return 1 if comparison.differences else 0
 
 

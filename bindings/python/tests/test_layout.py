@@ -138,6 +138,7 @@ class Verdicts(Refused):
         self.refused(1, (), judge, [(1, 1)] * 17)
         self.refused(8, (), judge, [(2**32, 1), (2**32, 2**32)])
         self.refused(3, (), judge, [(2, -2**63)])
+        self.assertRaises(ValueError, judge, [(2, 1, 1)])
 
     def test_verdict_is_no_truth_value(self):
         for verdict in Verdict:
@@ -154,8 +155,7 @@ class Records(Refused):
 
     def test_record(self):
         record = SHEET.record()
-        fields = "001d", "01", "01", "01", f"{0:016x}", f"{6:016x}", f"{1:016x}"
-        self.assertEqual(record.hex(), "".join(fields))
+        self.assertEqual(record.hex(), "001d010101" + f"{0:016x}{6:016x}{1:016x}")
         self.assertEqual(Layout.read(record), SHEET.normal_form())
         for data in (bytearray(record), memoryview(record + b"more")):
             self.assertEqual(Layout.read(data), SHEET.normal_form())

@@ -69,6 +69,12 @@ class Interface(unittest.TestCase):
             found = overlap(Described(shape, strides, typestr))
             self.assertIs(found, verdict, (shape, strides, typestr))
 
+    def test_normal_form_of_the_transpose_may_be_decided(self):
+        strides = [8000014000, 4000007, 8000006000, 4000003]
+        self.assertIs(overlap(Described((2000,) * 4, strides)), Verdict.UNDECIDED)
+        transpose = Layout.of(Described((2000,) * 4, strides[::-1]))
+        self.assertIs(transpose.normal_form().verdict(), Verdict.DISTINCT)
+
     def test_item_sizes(self):
         for typestr, size in [
             ("|b1", 1),
