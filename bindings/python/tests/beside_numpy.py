@@ -100,7 +100,8 @@ def strided(draw):
 def twelve(draw):
     """Twelve axes of three bytes: too many difference vectors to search, so most need scratch."""
     strides = [2 * 3**power for power in range(11)] + [3**11]
-    strides = [stride + draw.choice([0, 0, 0, 0, 1, -1, 2]) for stride in strides]
+    off = draw.choice([[0], [0, 0, 0, 0, 1, -1, 2]])
+    strides = [stride + draw.choice(off) for stride in strides]
     return numpy.lib.stride_tricks.as_strided(BUFFER, [3] * 12, draw.sample(strides, 12))
 
 
