@@ -9,7 +9,7 @@ fn each_refusal_is_a_sentence(rt: HostRuntime) -> Result<(), Fail> {
         (Refusal::LengthsDiffer, "the lists differ in length"),
         (
             Refusal::OutOfRange,
-            "a reach, a stride or a span does not fit",
+            "an offset would lie outside the buffer, or a number does not fit 64 bits",
         ),
         (
             Refusal::WrongLength(1, 2),

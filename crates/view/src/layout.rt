@@ -52,7 +52,7 @@ pub enum Refusal {
     #[error("the lists differ in length")]
     LengthsDiffer,
     /// 3: an offset is not accepted, or a stride, a span or a sum leaves its range.
-    #[error("a reach, a stride or a span does not fit")]
+    #[error("an offset would lie outside the buffer, or a number does not fit 64 bits")]
     OutOfRange,
     /// 4: a list has not one entry an axis; both lengths, in the order that the call says.
     #[error("a list and the axes of the layout differ in number: {0} and {1}")]
