@@ -1,21 +1,35 @@
-/* Strided layouts over one buffer of readings: the static library's calls, for C99 and C++.
+/* Strided layouts over one buffer of readings: the calls of the static library libstrided.a, for C99 and C++.
  *
  * Every call but strided_step answers with one number:
- *   0         done
- *   1 to 11   a refusal, by its number (STRIDED_* below); but for `values`, all that was handed over is as it was,
- *             a layout in every field, also past its rank (where strided_read meets a false verdict, 11, the scratch
- *             words that the verdict needed may have changed)
- *   255       of the dense strides alone: there are fewer places than extents; nothing was written
+ *   0         the call is done
+ *   1 to 11   the call is refused; the number says why (STRIDED_* below)
+ *   255       the output is too short; only the two calls for dense strides answer it
+ * A call that is not done leaves everything as it was, except that a refusal may write its values. There is one more
+ * exception: if strided_read finds a false verdict (refusal 11), the scratch words that the verdict needs may change.
  *
- * Lengths of buffers, offsets and strides are counted in readings, scratch in words of 64 bits, records in bytes.
- * A slice is a pointer and a length; X_len is the length of X. What the calls assume of their caller: each pointer is true
- * for its length and aligned, none is null (also with length 0), and nothing that a call writes overlaps anything else
- * that is handed to it. Any numbers may stand in a layout: each has an answer. */
+ * Units: a buffer length, an offset and a stride count readings, never bytes. scratch_len counts scratch words of 64 bits.
+ * The output of strided_write and the bytes of a record are counted in bytes.
+ *
+ * A slice is a pointer and a length: X_len is how many entries X has. A slice of length 0 may have any pointer, also NULL.
+ * Any numbers may stand in a layout: every call has an answer to them. Two things are the caller's to keep true, and no
+ * call can test them:
+ *   - each pointer is aligned, and points to its struct, or to as many entries as its length says;
+ *   - what a call writes does not overlap anything else that the call is handed. */
 #ifndef STRIDED_H
 #define STRIDED_H
 
 #include <stddef.h>
 #include <stdint.h>
+
+/* The version of the library (CHANGELOG.md). */
+#define STRIDED_VERSION "0.2.0"
+#define STRIDED_VERSION_MAJOR 0
+#define STRIDED_VERSION_MINOR 2
+#define STRIDED_VERSION_PATCH 0
+
+#if SIZE_MAX != UINT64_MAX
+#error "the library needs a size_t of 64 bits"
+#endif
 
 #ifdef __cplusplus
 extern "C" {
@@ -24,17 +38,17 @@ extern "C" {
 enum {
     STRIDED_DONE = 0,
     STRIDED_TOO_MANY_AXES = 1,       /* more than 16 axes or entries */
-    STRIDED_LENGTHS_DIFFER = 2,      /* extents and strides (or the output) differ in length */
-    STRIDED_OUT_OF_RANGE = 3,        /* a reach, a stride or a span does not fit */
-    STRIDED_WRONG_LENGTH = 4,        /* a list's length is not the rank; values: both lengths */
-    STRIDED_BAD_AXIS = 5,            /* an axis outside the rank, or named twice; values: axis, rank */
-    STRIDED_BAD_EXTENT = 6,          /* an extent neither equal to the target nor 1; values: axis */
-    STRIDED_BAD_INDEX = 7,           /* an index not below its extent; values: axis */
-    STRIDED_TOO_MANY_POSITIONS = 8,  /* over 2^64-1 positions */
-    STRIDED_SHORT_SCRATCH = 9,       /* values: words needed */
-    STRIDED_SHORT_OUTPUT = 10,       /* values: bytes needed */
-    STRIDED_NOT_A_RECORD = 11,       /* bytes are not a record */
-    STRIDED_SHORT_BUFFER = 255       /* fewer places than extents */
+    STRIDED_LENGTHS_DIFFER = 2,      /* the lists, or a list and its output, differ in length */
+    STRIDED_OUT_OF_RANGE = 3,        /* an offset would lie outside the buffer, or a number does not fit 64 bits */
+    STRIDED_WRONG_LENGTH = 4,        /* the list's length is not the rank; values: both lengths */
+    STRIDED_BAD_AXIS = 5,            /* an axis is outside the rank, or is named twice; values: the axis, the rank */
+    STRIDED_BAD_EXTENT = 6,          /* an extent is neither its target nor 1; values: the axis */
+    STRIDED_BAD_INDEX = 7,           /* an index is not below its extent; values: the axis */
+    STRIDED_TOO_MANY_POSITIONS = 8,  /* there are more than 2^64-1 positions */
+    STRIDED_SHORT_SCRATCH = 9,       /* too few scratch words; values: how many are needed */
+    STRIDED_SHORT_OUTPUT = 10,       /* the output is too short; values: how many bytes are needed */
+    STRIDED_NOT_A_RECORD = 11,       /* the bytes do not begin with a record, or its verdict is false */
+    STRIDED_SHORT_BUFFER = 255       /* the output has fewer places than there are extents */
 };
 
 enum { STRIDED_DISTINCT = 1, STRIDED_REPEATED = 2, STRIDED_UNDECIDED = 3 };
@@ -42,27 +56,31 @@ enum { STRIDED_DISTINCT = 1, STRIDED_REPEATED = 2, STRIDED_UNDECIDED = 3 };
 /* The most axes of a layout, and the bytes of the longest record. */
 enum { STRIDED_AXES = 16, STRIDED_RECORD = 269 };
 
+/* The most scratch words that a verdict can need: 128 MiB and 8 bytes. */
+enum { STRIDED_SCRATCH = 16777217 };
+
 typedef struct {
     uint64_t extent;
-    int64_t stride;
+    int64_t stride; /* in readings */
 } strided_axis;
 
-/* A layout of a buffer of `len` readings. Only the first `rank` axes count; the places behind them may hold anything. */
+/* A layout of a buffer of `len` readings. The first `rank` axes count; the others may hold anything. */
 typedef struct {
     uint64_t len;
-    int64_t offset;
+    int64_t offset; /* in readings */
     size_t rank;
     strided_axis axes[STRIDED_AXES];
 } strided_layout;
 
-/* What a refusal returns: one value in the first place, two in both. A place that it does not use stays, and both stay
- * where a call succeeds, but for strided_write. */
+/* The values of a refusal. A refusal with one value writes `first`; a refusal with two writes both. A field without a value
+ * keeps what it held. A call that is done writes neither, except that strided_write writes `first`. */
 typedef struct {
     size_t first;
     size_t second;
 } strided_values;
 
-/* A verdict (STRIDED_DISTINCT ..), and how many difference vectors the search looked at: 0 where no search is told. */
+/* A verdict (STRIDED_DISTINCT, STRIDED_REPEATED or STRIDED_UNDECIDED), and how many difference vectors the search looked
+ * at: 0 if it looked at none. */
 typedef struct {
     uint8_t verdict;
     uint64_t count;
@@ -70,65 +88,183 @@ typedef struct {
 
 /* ---- check-in */
 
-/* Check-in of the length and the offset that stand in `layout` with these extents and strides: stores rank and axes, and
- * nothing else. Places past the rank stay. 1, 2, 3. */
+/* Checks a layout in. Set `len` and `offset` in the struct before the call; the call stores rank and axes. The axes past
+ * the rank keep what they held. Refusals: 1, 2, 3. */
 uint8_t strided_new(strided_layout *layout, const uint64_t *extents, size_t extents_len, const int64_t *strides,
                     size_t strides_len);
 
-/* Check-in's answer without the layout: 1, 2, 3. */
+/* Answers what check-in would answer, and stores nothing. `len` and `offset` are in readings. Refusals: 1, 2, 3. */
 uint8_t strided_validate_bounds(uint64_t len, int64_t offset, const uint64_t *extents, size_t extents_len,
                                 const int64_t *strides, size_t strides_len);
 
-/* ---- calls on a layout. Each refuses a layout of more than 16 axes, 1, and one whose offsets do not fit its buffer, 3.
- * A view changes `layout` into the layout after it; the places past its new rank stay. */
+/* ---- calls on a layout. Each refuses a layout with more than 16 axes (1) and a layout that is not accepted (3). The three
+ * views change `layout` in place; the axes past its new rank keep what they held. */
 
-/* The axes in the order of the list: 1, 3, 4 (entries, rank), 5. */
+/* Puts the axes in the order of the list. The values of refusal 4 are the list's length and the rank.
+ * Refusals: 1, 3, 4, 5. */
 uint8_t strided_permute(strided_layout *layout, const size_t *order, size_t order_len, strided_values *values);
 
-/* Tied axes as one axis; two numbers of `pairs` are a pair, and an odd last number is passed over: 1, 3, 5, then 3. */
+/* Makes one axis of the axes that are tied. Two numbers of `pairs` are a pair; an odd last number is passed over.
+ * Refusals: 1, 3, 5, 3. */
 uint8_t strided_diagonal_view(strided_layout *layout, const size_t *pairs, size_t pairs_len, strided_values *values);
 
-/* Stretched to the target extents: 1, 3, 4 (rank, targets), 6. */
+/* Stretches each axis of extent 1 to its target, with stride 0. An axis whose extent is its target stays. The values of
+ * refusal 4 are the rank and the number of targets. Refusals: 1, 3, 4, 6. */
 uint8_t strided_broadcast(strided_layout *layout, const uint64_t *targets, size_t targets_len, strided_values *values);
 
-/* The offset of an index vector: 1, 3, 4 (indices, rank), then axis by axis 7 or 3. */
+/* Stores the offset of an index vector, in readings. The values of refusal 4 are the number of indices and the rank. After
+ * that the call looks axis by axis for 7 and 3. Refusals: 1, 3, 4, 7 or 3. */
 uint8_t strided_indexed_offset(const strided_layout *layout, const uint64_t *index, size_t index_len, int64_t *offset,
                                strided_values *values);
 
-/* The normal form, in place; past its rank anything may then stand: 1, 3, 8. */
+/* Puts the layout into its normal form, in place. The axes past its new rank may then hold anything. Refusals: 1, 3, 8. */
 uint8_t strided_normal_form(strided_layout *layout);
 
 /* ---- the verdict */
 
-/* Whether no two positions of these axes share an offset: 1, 8, 3, 9. Of the scratch only the first words, those that the
- * verdict needs, may change. */
+/* Stores whether two positions of these axes share an offset. The first scratch words, as many as the verdict needs,
+ * may then hold anything. How many it needs: lend none, and if the answer is 9, lend `values->first` of them and call again.
+ * Refusals: 1, 8, 3, 9. */
 uint8_t strided_is_injective(const strided_axis *axes, size_t axes_len, uint64_t *scratch, size_t scratch_len,
                              strided_found *found, strided_values *values);
 
 /* ---- the record */
 
-/* The record of the normal form at the front of the output; values->first is then its length, at most STRIDED_RECORD, and
- * values->second and the output behind it stay. 1, 3, 8, 10, 9. Scratch as for the verdict. */
+/* Writes the record of the layout's normal form to the first bytes of the output, and how many bytes it has to
+ * `values->first`: at most STRIDED_RECORD. The bytes behind it keep what they held. Scratch is lent as for the verdict.
+ * Refusals: 1, 3, 8, 10, 9. */
 uint8_t strided_write(const strided_layout *layout, uint8_t *out, size_t out_len, uint64_t *scratch, size_t scratch_len,
                       strided_values *values);
 
-/* The layout of the record at the front of the bytes; past its rank anything may then stand: 11, 9, or 11 where the verdict
- * is false. Scratch as for the verdict. */
+/* Stores the layout of the record that the bytes begin with, in the shortest buffer that accepts it. The axes past its rank
+ * may then hold anything. Scratch is lent as for the verdict; the second 11 is a false verdict. Refusals: 11, 9, 11. */
 uint8_t strided_read(strided_layout *layout, const uint8_t *bytes, size_t bytes_len, uint64_t *scratch,
                      size_t scratch_len, strided_values *values);
 
-/* Where the rest begins: behind as many bytes as the length in the first two says; at the end, if that length is missing,
- * below 13 or past the end. No other field is looked at. */
+/* Answers at which byte the next record begins: behind as many bytes as the length in the first two says. It answers
+ * bytes_len if that length is missing, below 13 or past the end. It looks at nothing else. Refusals: none. */
 size_t strided_step(const uint8_t *bytes, size_t bytes_len);
 
 /* ---- strides */
 
-/* Each stride's number by absolute value: 1, 2. An out that is not as long as strides is 2, also a shorter one. */
+/* Stores a number for each stride: 1 for stride 0, and for any other 1 more than there are strides of smaller absolute value
+ * that are not 0. It refuses 2 if the output is not as long as the strides, also if it is longer. Refusals: 1, 2. */
 uint8_t strided_index_order(const int64_t *strides, size_t strides_len, size_t *out, size_t out_len);
 
-/* Dense strides, the first or the last axis the densest, into the first places; the others stay: 255, 1, 3, in this order. */
+/* Stores dense strides, in readings, in the first places of the output; the first axis is the densest. The places behind
+ * them keep what they held. Refusals: 255, 1, 3. */
 uint8_t strided_column_strides(const uint64_t *extents, size_t extents_len, int64_t *strides, size_t strides_len);
+
+/* The same; the last axis is the densest. Refusals: 255, 1, 3. */
 uint8_t strided_row_strides(const uint64_t *extents, size_t extents_len, int64_t *strides, size_t strides_len);
+
+/* ---- NULL with length 0. The library takes no null pointer. So a call with slices goes through an inline function, which
+ * replaces the pointer of a slice of length 0 by one to a variable of its own; nothing reads or writes it. A program that
+ * calls the library without this header has to do the same. */
+
+static inline uint8_t strided_new_inline(strided_layout *layout, const uint64_t *extents, size_t extents_len,
+                                         const int64_t *strides, size_t strides_len) {
+    const uint64_t no_extents = 0;
+    const int64_t no_strides = 0;
+    return strided_new(layout, extents_len ? extents : &no_extents, extents_len, strides_len ? strides : &no_strides,
+                       strides_len);
+}
+#define strided_new strided_new_inline
+
+static inline uint8_t strided_validate_bounds_inline(uint64_t len, int64_t offset, const uint64_t *extents,
+                                                     size_t extents_len, const int64_t *strides, size_t strides_len) {
+    const uint64_t no_extents = 0;
+    const int64_t no_strides = 0;
+    return strided_validate_bounds(len, offset, extents_len ? extents : &no_extents, extents_len,
+                                   strides_len ? strides : &no_strides, strides_len);
+}
+#define strided_validate_bounds strided_validate_bounds_inline
+
+static inline uint8_t strided_permute_inline(strided_layout *layout, const size_t *order, size_t order_len,
+                                             strided_values *values) {
+    const size_t no_order = 0;
+    return strided_permute(layout, order_len ? order : &no_order, order_len, values);
+}
+#define strided_permute strided_permute_inline
+
+static inline uint8_t strided_diagonal_view_inline(strided_layout *layout, const size_t *pairs, size_t pairs_len,
+                                                   strided_values *values) {
+    const size_t no_pairs = 0;
+    return strided_diagonal_view(layout, pairs_len ? pairs : &no_pairs, pairs_len, values);
+}
+#define strided_diagonal_view strided_diagonal_view_inline
+
+static inline uint8_t strided_broadcast_inline(strided_layout *layout, const uint64_t *targets, size_t targets_len,
+                                               strided_values *values) {
+    const uint64_t no_targets = 0;
+    return strided_broadcast(layout, targets_len ? targets : &no_targets, targets_len, values);
+}
+#define strided_broadcast strided_broadcast_inline
+
+static inline uint8_t strided_indexed_offset_inline(const strided_layout *layout, const uint64_t *index, size_t index_len,
+                                                    int64_t *offset, strided_values *values) {
+    const uint64_t no_index = 0;
+    return strided_indexed_offset(layout, index_len ? index : &no_index, index_len, offset, values);
+}
+#define strided_indexed_offset strided_indexed_offset_inline
+
+static inline uint8_t strided_is_injective_inline(const strided_axis *axes, size_t axes_len, uint64_t *scratch,
+                                                  size_t scratch_len, strided_found *found, strided_values *values) {
+    const strided_axis no_axes = {0, 0};
+    uint64_t no_scratch = 0;
+    return strided_is_injective(axes_len ? axes : &no_axes, axes_len, scratch_len ? scratch : &no_scratch, scratch_len,
+                                found, values);
+}
+#define strided_is_injective strided_is_injective_inline
+
+static inline uint8_t strided_write_inline(const strided_layout *layout, uint8_t *out, size_t out_len, uint64_t *scratch,
+                                           size_t scratch_len, strided_values *values) {
+    uint8_t no_out = 0;
+    uint64_t no_scratch = 0;
+    return strided_write(layout, out_len ? out : &no_out, out_len, scratch_len ? scratch : &no_scratch, scratch_len,
+                         values);
+}
+#define strided_write strided_write_inline
+
+static inline uint8_t strided_read_inline(strided_layout *layout, const uint8_t *bytes, size_t bytes_len, uint64_t *scratch,
+                                          size_t scratch_len, strided_values *values) {
+    const uint8_t no_bytes = 0;
+    uint64_t no_scratch = 0;
+    return strided_read(layout, bytes_len ? bytes : &no_bytes, bytes_len, scratch_len ? scratch : &no_scratch, scratch_len,
+                        values);
+}
+#define strided_read strided_read_inline
+
+static inline size_t strided_step_inline(const uint8_t *bytes, size_t bytes_len) {
+    const uint8_t no_bytes = 0;
+    return strided_step(bytes_len ? bytes : &no_bytes, bytes_len);
+}
+#define strided_step strided_step_inline
+
+static inline uint8_t strided_index_order_inline(const int64_t *strides, size_t strides_len, size_t *out, size_t out_len) {
+    const int64_t no_strides = 0;
+    size_t no_out = 0;
+    return strided_index_order(strides_len ? strides : &no_strides, strides_len, out_len ? out : &no_out, out_len);
+}
+#define strided_index_order strided_index_order_inline
+
+static inline uint8_t strided_column_strides_inline(const uint64_t *extents, size_t extents_len, int64_t *strides,
+                                                    size_t strides_len) {
+    const uint64_t no_extents = 0;
+    int64_t no_strides = 0;
+    return strided_column_strides(extents_len ? extents : &no_extents, extents_len, strides_len ? strides : &no_strides,
+                                  strides_len);
+}
+#define strided_column_strides strided_column_strides_inline
+
+static inline uint8_t strided_row_strides_inline(const uint64_t *extents, size_t extents_len, int64_t *strides,
+                                                 size_t strides_len) {
+    const uint64_t no_extents = 0;
+    int64_t no_strides = 0;
+    return strided_row_strides(extents_len ? extents : &no_extents, extents_len, strides_len ? strides : &no_strides,
+                               strides_len);
+}
+#define strided_row_strides strided_row_strides_inline
 
 #ifdef __cplusplus
 }

@@ -1,6 +1,10 @@
 //! Strided layouts over one buffer of readings: views, the verdict whether two positions share a cell, and the record.
 //!
-//! A safe wrapper of the static library `libstrided.a`, whose functions are proved against their contracts.
+//! A safe wrapper of the static library `libstrided.a`, whose functions are proved against their contracts. Nothing in it
+//! panics. A call that needs scratch memory asks for it itself.
+//!
+//! A *reading* is one element of the buffer, of any type. Buffer lengths, offsets and strides count readings, never bytes.
+//! What each call does is said in docs/RULES.md; a refusal has the number that it has there.
 //!
 //! ```
 //! use strided_layouts::{Axis, Layout, Verdict};
@@ -11,6 +15,8 @@
 //! assert_eq!(Layout::read(&turned.write()?)?.axes(), turned.axes());
 //! # Ok::<(), strided_layouts::Refusal>(())
 //! ```
+
+#![deny(missing_docs)]
 
 mod calls;
 mod refusal;
@@ -25,23 +31,39 @@ const MOST_AXES: usize = 16;
 /// The bytes of the longest record.
 const LONGEST_RECORD: usize = 13 + 16 * MOST_AXES;
 
-/// Whether no two positions of a layout share an offset.
+/// Whether two positions share an offset.
 #[derive(Clone, Copy, Debug, PartialEq, Eq)]
 pub enum Verdict {
+    /// No two positions share an offset.
     Distinct,
+    /// Two positions share an offset: do not write through the layout.
     Repeated,
+    /// It was not found out within the budgets of the verdict. The normal form may have another verdict.
     Undecided,
 }
 
-/// An extent, and a stride in readings.
+impl std::fmt::Display for Verdict {
+    fn fmt(&self, f: &mut std::fmt::Formatter<'_>) -> std::fmt::Result {
+        f.write_str(match self {
+            Verdict::Distinct => "distinct",
+            Verdict::Repeated => "repeated",
+            Verdict::Undecided => "undecided",
+        })
+    }
+}
+
+/// An extent and a stride.
 #[repr(C)]
 #[derive(Clone, Copy, Debug, PartialEq, Eq)]
 pub struct Axis {
+    /// How many indices the axis has.
     pub extent: u64,
+    /// How many readings lie from one index to the next.
     pub stride: i64,
 }
 
-/// The length of a buffer, an offset, and up to 16 axes. Each layout was checked in, read, or is a view of such a layout.
+/// The length of a buffer, an offset, and up to 16 axes. Each layout was checked in, read, or is a view or the normal form of
+/// such a layout.
 #[repr(C)]
 #[derive(Clone, Copy)]
 pub struct Layout {
@@ -52,7 +74,7 @@ pub struct Layout {
 }
 
 impl Layout {
-    /// Check-in of a buffer of `len` readings: refusals 1, 2, 3.
+    /// Checks in a layout of a buffer of `len` readings. Refusals: 1, 2, 3.
     pub fn new(len: u64, offset: i64, extents: &[u64], strides: &[i64]) -> Result<Layout, Refusal> {
         let mut made = Layout { len, offset, ..Layout::NONE };
         // SAFETY: each pointer is that of a slice of the length beside it or of a struct, and what is written is borrowed
@@ -81,7 +103,7 @@ impl Layout {
         self.rank
     }
 
-    /// The axes, as many as the rank says.
+    /// The axes.
     pub fn axes(&self) -> &[Axis] {
         self.axes.get(..self.rank).unwrap_or_default()
     }
@@ -96,18 +118,18 @@ impl Layout {
         self.axes().iter().map(|axis| axis.stride)
     }
 
-    /// The axes in the order of the list: refusals 1, 4, 5.
+    /// Puts the axes in the order of the list. Refusals: 1, 4, 5.
     pub fn permute(&self, order: &[usize]) -> Result<Layout, Refusal> {
         self.viewed(calls::strided_permute, order)
     }
 
-    /// Tied axes as one axis: refusals 3, 5.
+    /// Makes one axis of the axes that are tied by a chain of pairs. Refusals: 5, 3.
     pub fn diagonal_view(&self, pairs: &[(usize, usize)]) -> Result<Layout, Refusal> {
         let numbers: Vec<usize> = pairs.iter().flat_map(|&(one, other)| [one, other]).collect();
         self.viewed(calls::strided_diagonal_view, &numbers)
     }
 
-    /// Stretched to the target extents: refusals 1, 4, 6.
+    /// Stretches axes of extent 1 to their targets, with stride 0. Refusals: 1, 4, 6.
     pub fn broadcast(&self, targets: &[u64]) -> Result<Layout, Refusal> {
         self.viewed(calls::strided_broadcast, targets)
     }
@@ -121,7 +143,7 @@ impl Layout {
         Refusal::of(answer, values).map(|()| next)
     }
 
-    /// The offset of an index vector, in readings: refusals 1, 4, 7, 3.
+    /// The offset of an index vector, in readings. Refusals: 1, 4, 7 or 3.
     pub fn indexed_offset(&self, index: &[u64]) -> Result<i64, Refusal> {
         let mut offset = 0;
         let mut values = Values::default();
@@ -132,7 +154,7 @@ impl Layout {
         Refusal::of(answer, values).map(|()| offset)
     }
 
-    /// The normal form: refusal 8.
+    /// The normal form: it has equally many positions, and the same offset at each. Refusals: 8.
     pub fn normal_form(&self) -> Result<Layout, Refusal> {
         let mut next = *self;
         // SAFETY: as in `new`.
@@ -140,12 +162,13 @@ impl Layout {
         Refusal::of(answer, Values::default()).map(|()| next)
     }
 
-    /// The verdict of the layout's axes, with the number of difference vectors looked at: refusals 8, 3.
+    /// The verdict of the layout's axes, and how many difference vectors the search looked at: 0 if it looked at none.
+    /// Refusals: 8, 3, 9.
     pub fn verdict(&self) -> Result<(Verdict, u64), Refusal> {
         verdict_of(self.axes())
     }
 
-    /// The record of the layout's normal form: refusal 8.
+    /// The record of the layout's normal form. Refusals: 8, 9.
     pub fn write(&self) -> Result<Vec<u8>, Refusal> {
         let mut bytes = [0; LONGEST_RECORD];
         let mut values = Values::default();
@@ -161,7 +184,7 @@ impl Layout {
         Ok(bytes.into_iter().take(values.first).collect())
     }
 
-    /// The layout of the record at the front of the bytes: refusal 11.
+    /// The layout of the record that the bytes begin with, in the shortest buffer that accepts it. Refusals: 11, 9.
     pub fn read(bytes: &[u8]) -> Result<Layout, Refusal> {
         let mut made = Layout::NONE;
         let mut values = Values::default();
@@ -178,7 +201,7 @@ impl Layout {
     }
 }
 
-/// Layouts are equal by what they mean: places past the rank do not count.
+/// Two layouts are equal if buffer length, offset and axes are.
 impl PartialEq for Layout {
     fn eq(&self, other: &Layout) -> bool {
         (self.len, self.offset, self.axes()) == (other.len, other.offset, other.axes())
@@ -196,7 +219,7 @@ impl std::fmt::Debug for Layout {
 /// A call that takes a layout and a list.
 type View<T> = unsafe extern "C" fn(*mut Layout, *const T, usize, *mut Values) -> u8;
 
-/// A call tried without scratch, and once more with as many words as it asks for.
+/// Calls without scratch, and if that is refused 9, once more with as many scratch words as the refusal says.
 fn with_scratch(mut call: impl FnMut(&mut [u64]) -> Result<(), Refusal>) -> Result<(), Refusal> {
     let words = match call(&mut []) {
         Err(Refusal::ShortScratch { words }) => words,
@@ -208,7 +231,7 @@ fn with_scratch(mut call: impl FnMut(&mut [u64]) -> Result<(), Refusal>) -> Resu
     call(&mut scratch)
 }
 
-/// The verdict of some axes, and how many difference vectors the search looked at, 0 where no search is told: refusals 1, 8, 3.
+/// The verdict of axes, and how many difference vectors the search looked at: 0 if it looked at none. Refusals: 1, 8, 3, 9.
 pub fn verdict_of(axes: &[Axis]) -> Result<(Verdict, u64), Refusal> {
     let mut found = Found::default();
     let mut values = Values::default();
@@ -229,15 +252,15 @@ pub fn verdict_of(axes: &[Axis]) -> Result<(Verdict, u64), Refusal> {
     Ok((verdict, found.count))
 }
 
-/// The rest: what stands behind as many bytes as the length in the first two says; none, if that length is missing, below 13 or
-/// past the end. No other field is looked at.
+/// The bytes behind the first record: behind as many as the length in the first two says. There are none if that length is
+/// missing, below 13 or past the end. It looks at no other field.
 pub fn step(bytes: &[u8]) -> &[u8] {
     // SAFETY: the pointer is that of a slice of the length beside it, and nothing is written.
     let at = unsafe { calls::strided_step(bytes.as_ptr(), bytes.len()) };
     bytes.get(at..).unwrap_or_default()
 }
 
-/// Check-in's answer without the layout: refusals 1, 2, 3.
+/// Answers what check-in would answer, and makes no layout. Refusals: 1, 2, 3.
 pub fn validate_bounds(len: u64, offset: i64, extents: &[u64], strides: &[i64]) -> Result<(), Refusal> {
     // SAFETY: each pointer is that of a slice of the length beside it, and nothing is written.
     let answer = unsafe {
@@ -246,7 +269,8 @@ pub fn validate_bounds(len: u64, offset: i64, extents: &[u64], strides: &[i64]) 
     Refusal::of(answer, Values::default())
 }
 
-/// Each stride's number by absolute value: refusal 1.
+/// A number for each stride: 1 for stride 0, and for any other 1 more than there are strides of smaller absolute value that
+/// are not 0. Refusals: 1.
 pub fn index_order(strides: &[i64]) -> Result<Vec<usize>, Refusal> {
     if MOST_AXES < strides.len() {
         return Err(Refusal::TooManyAxes);
@@ -257,12 +281,12 @@ pub fn index_order(strides: &[i64]) -> Result<Vec<usize>, Refusal> {
     Refusal::of(answer, Values::default()).map(|()| order)
 }
 
-/// Dense strides, the first axis the densest: refusals 1, 3.
+/// Dense strides; the first axis is the densest. Refusals: 1, 3.
 pub fn column_strides(extents: &[u64]) -> Result<Vec<i64>, Refusal> {
     dense(calls::strided_column_strides, extents)
 }
 
-/// Dense strides, the last axis the densest: refusals 1, 3.
+/// Dense strides; the last axis is the densest. Refusals: 1, 3.
 pub fn row_strides(extents: &[u64]) -> Result<Vec<i64>, Refusal> {
     dense(calls::strided_row_strides, extents)
 }

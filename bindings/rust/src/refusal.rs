@@ -2,32 +2,50 @@
 
 use crate::calls::Values;
 
-/// One of the refusals of docs/RULES.md each, with the values that are returned. `number` is the refusal's number there.
+/// Why a call was refused, with the values that the refusal returns. It prints itself as a sentence; `number` is its number in
+/// docs/RULES.md, "Refusals, and which comes first".
 #[derive(Clone, Copy, Debug, PartialEq, Eq)]
 pub enum Refusal {
-    /// 1: more than 16 entries in a list, or more than 16 axes in a layout.
+    /// 1: a list has more than 16 entries, or a layout more than 16 axes.
     TooManyAxes,
-    /// 2: extents and strides differ in length.
+    /// 2: there are not as many strides as extents.
     LengthsDiffer,
-    /// 3: a reach, a stride or a span does not fit.
+    /// 3: an offset would lie outside the buffer, or a number does not fit 64 bits.
     OutOfRange,
-    /// 4: a list has not one entry an axis; both lengths, in the order of the call.
+    /// 4: a list has not one entry for each axis; both lengths, in the order of the call.
     WrongLength(usize, usize),
-    /// 5: an axis that is outside the rank, or was named before; the axis and the rank.
-    BadAxis { axis: usize, rank: usize },
-    /// 6: the first axis whose extent is neither its target nor 1.
-    BadExtent { axis: usize },
-    /// 7: the first axis whose index is not below its extent.
-    BadIndex { axis: usize },
-    /// 8: more than 2^64 - 1 positions.
+    /// 5: an axis is outside the rank, or was named before.
+    BadAxis {
+        /// The axis.
+        axis: usize,
+        /// The rank.
+        rank: usize,
+    },
+    /// 6: an extent is neither its target nor 1.
+    BadExtent {
+        /// The first such axis.
+        axis: usize,
+    },
+    /// 7: an index is not below its extent.
+    BadIndex {
+        /// The first such axis.
+        axis: usize,
+    },
+    /// 8: there are more than 2^64 - 1 positions.
     TooManyPositions,
-    /// 9: so many scratch words are needed, and could not be had.
-    ShortScratch { words: usize },
-    /// 10: so many bytes are needed.
-    ShortOutput { bytes: usize },
-    /// 11: the bytes are not a record.
+    /// 9: the verdict needs scratch, and the memory for it could not be had.
+    ShortScratch {
+        /// How many scratch words, of 64 bits, are needed.
+        words: usize,
+    },
+    /// 10: the output is too short. The calls of this crate lend enough.
+    ShortOutput {
+        /// How many bytes are needed.
+        bytes: usize,
+    },
+    /// 11: the bytes do not begin with a record, or its verdict is false.
     NotARecord,
-    /// 255: there were fewer places than extents. The calls of this crate hand over as many.
+    /// 255: there are fewer places than extents. The calls of this crate lend enough.
     ShortBuffer,
 }
 
@@ -71,9 +89,25 @@ impl Refusal {
     }
 }
 
+/// The sentences are those of the library in Rattle (`crates/view/src/layout.rt`).
 impl std::fmt::Display for Refusal {
     fn fmt(&self, f: &mut std::fmt::Formatter<'_>) -> std::fmt::Result {
-        write!(f, "refusal {}: {:?}", self.number(), self)
+        match self {
+            Refusal::TooManyAxes => write!(f, "more than 16 axes or entries"),
+            Refusal::LengthsDiffer => write!(f, "the lists differ in length"),
+            Refusal::OutOfRange => write!(f, "an offset would lie outside the buffer, or a number does not fit 64 bits"),
+            Refusal::WrongLength(first, second) => {
+                write!(f, "a list and the axes of the layout differ in number: {first} and {second}")
+            }
+            Refusal::BadAxis { axis, rank } => write!(f, "axis {axis} is outside the rank {rank}, or named twice"),
+            Refusal::BadExtent { axis } => write!(f, "the extent of axis {axis} is neither its target nor 1"),
+            Refusal::BadIndex { axis } => write!(f, "the index of axis {axis} is not below its extent"),
+            Refusal::TooManyPositions => write!(f, "more than 2^64 - 1 positions"),
+            Refusal::ShortScratch { words } => write!(f, "{words} words of scratch are needed"),
+            Refusal::ShortOutput { bytes } => write!(f, "{bytes} bytes of output are needed"),
+            Refusal::NotARecord => write!(f, "the bytes are not a record"),
+            Refusal::ShortBuffer => write!(f, "there are fewer places than extents"),
+        }
     }
 }
 

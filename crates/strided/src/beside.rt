@@ -13,13 +13,13 @@ use dense::{DenseStrides, checked_col_major_strides, checked_row_major_strides};
 use view::bounds::validate_bounds;
 use view::layout::{Layout, ReadingOffset, Refusal};
 
-/// The answer where the caller's array is too short; it comes before every refusal.
+/// The answer if the caller's array is too short. It comes before every refusal.
 const SHORT_BUFFER: u8 = 255;
 
 /// What check-in of this length and offset (both in readings) answers, with nothing stored.
 ///
 /// Refusals: 1 more than 16 entries; 2 the lists differ in length; 3 an extent, a span or an
-/// offset is out of range, or an offset is outside the length (never where some extent is 0).
+/// offset is out of range, or an offset is outside the length (never if some extent is 0).
 #[unsafe(no_mangle)]
 pub extern "C" fn strided_validate_bounds(
     len: u64,
@@ -98,7 +98,7 @@ fn answer_dense(dense: Result<DenseStrides, Refusal>, strides: &mut [i64]) -> u8
 /// Dense strides by column, where the first axis is the densest: 0, and they stand in the first
 /// places of `strides`; those past them stay.
 ///
-/// 255 where `strides` is shorter than `extents`. Refusals: 1 more than 16 extents; 3 more than
+/// 255 if `strides` is shorter than `extents`. Refusals: 1 more than 16 extents; 3 more than
 /// 2^63 - 1 positions. After each of them `strides` is as it was.
 #[unsafe(no_mangle)]
 pub extern "C" fn strided_column_strides(extents: &[u64], strides: &mut [i64]) -> u8
@@ -116,7 +116,7 @@ pub extern "C" fn strided_column_strides(extents: &[u64], strides: &mut [i64]) -
 /// Dense strides by row, where the last axis is the densest: 0, and they stand in the first places
 /// of `strides`; those past them stay.
 ///
-/// 255 where `strides` is shorter than `extents`. Refusals: 1 more than 16 extents; 3 more than
+/// 255 if `strides` is shorter than `extents`. Refusals: 1 more than 16 extents; 3 more than
 /// 2^63 - 1 positions. After each of them `strides` is as it was.
 #[unsafe(no_mangle)]
 pub extern "C" fn strided_row_strides(extents: &[u64], strides: &mut [i64]) -> u8

@@ -22,7 +22,7 @@ pub struct Values {
 pub struct Found {
     /// 1 Distinct, 2 Repeated, 3 Undecided.
     pub verdict: u8,
-    /// How many difference vectors were looked at; 0 where that is not told.
+    /// How many difference vectors the search looked at.
     pub count: u64,
 }
 

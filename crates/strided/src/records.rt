@@ -28,8 +28,8 @@ fn answer_wrote(wrote: Result<BytePlace, Refusal>, values: &mut Values) -> u8
     }
 }
 
-/// The record of the layout's normal form, with its verdict, at the front of the output: 0, and in
-/// `values.first` how many bytes it has. The bytes behind it stay, and so does `values.second`.
+/// The record of the layout's normal form, with its verdict, in the first bytes of the output: 0, and
+/// in `values.first` how many bytes it has. The bytes behind it stay, and so does `values.second`.
 ///
 /// Refusals: 1, 3 and 8 as of the normal form; 10, with the bytes that are needed, a shorter
 /// output; 9, with the words that are needed, a shorter scratch. After a refusal output and scratch
@@ -56,8 +56,8 @@ pub extern "C" fn strided_write(
     answer_wrote(write_record(layout, out, scratch), values)
 }
 
-/// The layout of the record at the front of the bytes, whose verdict is judged afresh: 0, and the
-/// layout is it, with its highest offset + 1 as its length in readings (0 where it is empty).
+/// The layout of the record that the bytes begin with, whose verdict is judged afresh: 0, and the
+/// layout is it, with its highest offset + 1 as its length in readings (0 if it is empty).
 ///
 /// Refusals: 11 the bytes hold no record; 9, with the words that are needed, a shorter scratch;
 /// 11 the verdict is false. After a refusal the layout is as it was, and its values stand in the

@@ -26,7 +26,7 @@ fn answer_view(answer: Result<(), Refusal>, values: &mut Values) -> u8
 /// axes of two lists: 0, and rank and axes stand in it too.
 ///
 /// Refusals: 1 more than 16 entries; 2 the lists differ in length; 3 an extent, a span or an
-/// offset is out of range, or an offset is outside the length (never where some extent is 0).
+/// offset is out of range, or an offset is outside the length (never if some extent is 0).
 /// After a refusal the layout is as it was. Places past the rank always stay.
 #[unsafe(no_mangle)]
 pub extern "C" fn strided_new(layout: &mut Layout, extents: &[u64], strides: &[i64]) -> u8
@@ -104,7 +104,7 @@ pub extern "C" fn strided_broadcast(layout: &mut Layout, targets: &[u64], values
 }
 
 /// The normal form, with axes of extent 1 dropped and neighbours merged, and one axis of extent 0
-/// where there is no position: 0, and the layout is it; its length stays.
+/// if there is no position: 0, and the layout is it; its length stays.
 ///
 /// Refusals: 1 more than 16 axes; 3 the layout is not accepted; 8 more than 2^64 - 1 positions.
 /// After a refusal the layout is as it was.
