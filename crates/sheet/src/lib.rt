@@ -1,40 +1,24 @@
-//! A caller to copy: a sheet of six readings, on which no call is refused.
+//! A caller to copy: may a program write through a sheet of readings? What each call answers is proved.
 #![tactic(auto)]
 
-ghost use Rattle.std.specs.Prelude.{◌≡◌, [], ◌∷◌, pos, IsOk, IfOk, IsTrue};
-ghost use Rattle.specification.specs.WorkedExamples.{ax};
-ghost use Rattle.view.specs.Model.{model_of, model_from};
+ghost use Rattle.std.specs.Prelude.{◌≡◌, Ok};
+ghost use Rattle.injectivity.specs.declared.Judgement.TheVariants.{Distinct, Repeated};
 
-use record::calls::Call;
-use record::same::same_readings;
-use view::diagonal::AxisPair;
-use view::layout::{Layout, ReadingOffset, Refusal};
+use layouts::{Judgement, Layout, ReadingOffset, Refusal, judge_layout};
 
-/// The diagonal of the sheet, and whether two exchanges of its axes leave its readings.
-#[tactic(auto, using(crate::proofs::Steps::checked, crate::proofs::Steps::exchanged, crate::proofs::Steps::fused, crate::proofs::Steps::same))]
-pub fn example() -> Result<(Layout, bool), Refusal>
-    ensures never_refused { IsOk result }
-    ensures tied { IfOk result (λ answer. model_of answer.0
-        ≡ model_from 6 (pos 0) (ax 2 (pos 3) ∷ [])) }
-    ensures same { IfOk result (λ answer. IsTrue answer.1) }
+pub mod turned;
+
+/// The verdict of a sheet, and of the same sheet with a slip.
+#[tactic(auto, using(crate::proofs::Steps::checked, crate::proofs::Steps::slipped, crate::proofs::Steps::apart, crate::proofs::Steps::shared))]
+pub fn may_write() -> Result<(Judgement, Judgement), Refusal>
+    ensures { result ≡ Ok (Distinct 0, Repeated 0) }
 {
-    // six readings as two columns of three
-    let mut sheet = Layout::new(6, ReadingOffset(0), &[2, 3], &[1, 2])?;
-    // the same readings, rows first
-    sheet.permute_in_place(&[1, 0])?;
-    // both axes moved as one: extent 2, stride 3
-    let tied = sheet.diagonal_view(&[AxisPair(0, 1)]).accepted()?;
-    // exchanged and back again reads the same as the sheet, as two records tell
-    let turns = [Call::Permute(&[1, 0]); 2];
-    let (mut record, mut other_record) = ([0; 64], [0; 64]);
-    let same = same_readings(
-        sheet,
-        &turns,
-        sheet,
-        &[],
-        &mut record,
-        &mut other_record,
-        &mut [],
-    )?;
-    Ok((tied, same))
+    // 24 readings as six rows of four
+    let sheet = Layout::new(24, ReadingOffset(0), &[4, 6], &[1, 4])?;
+    // a slip: the rows stand three apart
+    let slipped = Layout::new(24, ReadingOffset(0), &[4, 6], &[1, 3])?;
+    Ok((
+        judge_layout(&sheet, &mut [])?,
+        judge_layout(&slipped, &mut [])?,
+    ))
 }
