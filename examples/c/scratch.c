@@ -25,10 +25,11 @@ int main(void) {
     uint8_t answer = strided_new(&layout, extents, 12, strides, 12);
     if (answer != STRIDED_DONE) return answer;
     answer = strided_is_injective(layout.axes, layout.rank, NULL, 0, &found, &values);
-    printf("with no scratch: refused %d, %zu scratch words are needed\n", answer, values.first);
+    printf("refused %d: %zu words of scratch are needed\n", answer, values.first);
+    size_t words = values.first;
 
     answer = judge(&layout, &found, &values);
     if (answer != STRIDED_DONE) return answer;
-    printf("with so many: %s\n", found.verdict == STRIDED_DISTINCT ? "distinct" : "not distinct");
+    printf("with %zu words: %s\n", words, found.verdict == STRIDED_DISTINCT ? "distinct" : "not distinct");
     return 0;
 }
