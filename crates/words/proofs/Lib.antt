@@ -1,2 +1,3 @@
 pub mod Listed
 mod FirstWords
+pub mod Counted

@@ -48,7 +48,7 @@ unfoldable pub is_number : List ℕ → Bool
 is_number text = not (length (without_minus text) == 0) && list_all is_ascii_digit (without_minus text)
 
 -- what is wrong with a text that does not spell what should stand there, by whether it is a number
-abbrev pub misfit : Form → Bool → List ℕ
+unfoldable pub misfit : Form → Bool → List ℕ
 misfit Unsigned true = codes " is outside the range from 0 to 18446744073709551615"
 misfit Unsigned false = codes " is no number: write digits, as 24"
 misfit Signed true = codes " is outside the range from -9223372036854775808 to 9223372036854775807"
@@ -58,7 +58,7 @@ misfit Lent true = codes " is outside the range from 0 to 65536"
 misfit Lent false = codes " is no number: write digits, as 24"
 
 -- an entry that is no number may be several that have no commas between them
-abbrev pub commas : Bool → List ℕ
+unfoldable pub commas : Bool → List ℕ
 commas true = []
 commas false = codes ", and commas between the entries"
 
@@ -75,13 +75,13 @@ unfoldable pub long_line : List ℕ
 long_line = codes "error: the line is longer than 4096 bytes"
 
 -- the words with which other programs end
-abbrev pub is_farewell : List ℕ → Bool
+unfoldable pub is_farewell : List ℕ → Bool
 is_farewell name =
     pointwise nat_eq (codes "exit") name || pointwise nat_eq (codes "quit") name
     || pointwise nat_eq (codes "end") name || pointwise nat_eq (codes "bye") name
 
 -- where to go on from a name of no command, by whether it is one of these words
-abbrev pub way_on : Bool → List ℕ
+unfoldable pub way_on : Bool → List ℕ
 way_on true = codes "to end, end the input (Ctrl-D at a terminal)"
 way_on false = codes "help lists the commands"
 

@@ -1,6 +1,6 @@
 // Why a line is not obeyed: its words are no command, or the library refuses it.
 ghost use Rattle.std.specs.Prelude.{◌≡◌};
-ghost use Rattle.words.specs.Texts.{is_number, misfit, commas, is_farewell, way_on};
+ghost use Rattle.words.specs.Texts.{without_minus, is_number, misfit, commas, is_farewell, way_on};
 ghost use Rattle.words.specs.declared.fault.Fault.TheVariants.{Refused};
 ghost use Rattle.words.specs.declared.fault.Problem.TheVariants.{Memory, Told};
 
@@ -94,19 +94,27 @@ impl<'a, T: Drop> From<AllocFailed<T>> for Problem<'a> {
     }
 }
 
+// A text without the sign of a negative number.
+fn without_minus(text: &[u8]) -> &[u8]
+    ensures { result.now ≡ without_minus text.now }
+{
+    match text {
+        [b'-', digits @ ..] => digits,
+        [..] => text,
+    }
+}
+
 // Whether a text is a number, however large.
 #[tactic(auto, unfolding(crate::specs::Texts::is_number))]
 fn is_number(text: &[u8]) -> bool
     ensures { result ≡ is_number text.now }
 {
-    let digits = match text {
-        [b'-', digits @ ..] => digits,
-        [..] => text,
-    };
+    let digits = without_minus(text);
     !digits.is_empty() && digits.iter().all(|byte| byte.is_ascii_digit())
 }
 
 // What is wrong with a text that is not of a form, by whether it is a number.
+#[tactic(auto, unfolding(crate::specs::Texts::misfit))]
 fn misfit(form: Form, is_number: bool) -> &'static str
     ensures { result.now ≡ misfit form is_number }
 {
@@ -123,6 +131,7 @@ fn misfit(form: Form, is_number: bool) -> &'static str
 }
 
 // What an error says of commas behind an entry.
+#[tactic(auto, unfolding(crate::specs::Texts::commas))]
 fn commas(is_number: bool) -> &'static str
     ensures { result.now ≡ commas is_number }
 {
@@ -130,6 +139,7 @@ fn commas(is_number: bool) -> &'static str
 }
 
 // Whether a name is a word with which other programs end.
+#[tactic(auto, unfolding(crate::specs::Texts::is_farewell))]
 fn is_farewell(name: &[u8]) -> bool
     ensures { result ≡ is_farewell name.now }
 {
@@ -140,6 +150,7 @@ fn is_farewell(name: &[u8]) -> bool
 }
 
 // Where to go on from a name of no command.
+#[tactic(auto, unfolding(crate::specs::Texts::way_on))]
 fn way_on(name: &[u8]) -> &'static str
     ensures { result.now ≡ way_on (is_farewell name.now) }
 {
@@ -184,7 +195,7 @@ impl fmt::Display for Found {
         let Miscount { most, given, .. } = self.0;
         let no_space = if 0 < most && most < given { " (no space within a list)" } else { "" };
         if COUNTED_MOST < given {
-            write!(f, "more than {COUNTED_MOST} given{no_space}")
+            write!(f, "more than 4 given{no_space}")
         } else {
             write!(f, "{given} given{no_space}")
         }

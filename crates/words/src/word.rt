@@ -126,7 +126,7 @@ impl<'a> Words<'a> {
     }
 
     /// One word, which may be left out.
-    #[tactic(auto, unfolding(crate::specs::Words::up_to_one_word))]
+    #[tactic(auto, using(crate::proofs::Counted::past_one), unfolding(crate::specs::Words::up_to_one_word))]
     pub fn up_to_one(self) -> Result<Option<Word<'a>>, Fault<'a>>
         ensures { Tells numbered_if result
             (up_to_one_word self.entry.usage.now (map (λ text. text.now) self.entry.texts.now)) }
@@ -139,7 +139,7 @@ impl<'a> Words<'a> {
     }
 
     /// Two words, of which the second may be left out.
-    #[tactic(auto, unfolding(crate::specs::Words::one_or_two_words))]
+    #[tactic(auto, using(crate::proofs::Counted::not_one_or_two), unfolding(crate::specs::Words::one_or_two_words))]
     pub fn one_or_two(self) -> Result<(Word<'a>, Option<Word<'a>>), Fault<'a>>
         ensures { Tells (λ w. (numbered w.0, numbered_if w.1)) result
             (one_or_two_words self.entry.usage.now (map (λ text. text.now) self.entry.texts.now)) }
