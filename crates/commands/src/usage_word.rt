@@ -94,10 +94,7 @@ impl UsageWord {
                 "ROOM",
                 "how many bytes of output to lend, a number from 0 to 65536, as 64",
             ),
-            UsageWord::Command => (
-                "COMMAND",
-                "the name of a command, as new",
-            ),
+            UsageWord::Command => ("COMMAND", "the name of a command, as new"),
             UsageWord::Topic => (
                 "TOPIC",
                 "what help tells of: a command, as new; a word of a usage, as LIST; words; refused; or a number from 1 to 11",

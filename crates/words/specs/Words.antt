@@ -85,12 +85,12 @@ four_words usage other = Err (word_count usage 4 4 (length other))
 unfoldable pub up_to_one_word : List ℕ → List (List ℕ) → Told (Option Numbered)
 up_to_one_word usage [] = Ok None
 up_to_one_word usage (a ∷ []) = Ok (Some (2, a))
-up_to_one_word usage other = Err (word_count usage 1 1 (length other))
+up_to_one_word usage other = Err (word_count usage 0 1 (length other))
 
 unfoldable pub one_or_two_words : List ℕ → List (List ℕ) → Told (Numbered × Option Numbered)
 one_or_two_words usage (a ∷ []) = Ok ((2, a), None)
 one_or_two_words usage (a ∷ b ∷ []) = Ok ((2, a), Some (3, b))
-one_or_two_words usage other = Err (word_count usage 2 2 (length other))
+one_or_two_words usage other = Err (word_count usage 1 2 (length other))
 
 unfoldable pub two_or_three_words : List ℕ → List (List ℕ) → Told (Numbered × Numbered × Option Numbered)
 two_or_three_words usage (a ∷ b ∷ []) = Ok ((2, a), (3, b), None)

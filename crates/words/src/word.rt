@@ -6,7 +6,8 @@ ghost use Rattle.hex.specs.Hex.{is_hex_digit};
 ghost use Rattle.words.specs.Texts.{fault_text, word_count};
 ghost use Rattle.words.specs.Words.{Tells, Gives, is_space, words, numbered, numbered_if, no_word, one_word, two_words, four_words, up_to_one_word, one_or_two_words, two_or_three_words, is_none, entries, one_of, list_of, listed, bytes_of};
 
-use crate::fault::{Fault, Miscount, Problem};
+use crate::fault::{Fault, Problem};
+use crate::phrase::Miscount;
 use crate::place::{Place, Word};
 use crate::spelled::Spelled;
 use arrayvec::ArrayVec;
@@ -126,7 +127,7 @@ impl<'a> Words<'a> {
     }
 
     /// One word, which may be left out.
-    #[tactic(auto, using(crate::proofs::Counted::past_one), unfolding(crate::specs::Words::up_to_one_word))]
+    #[tactic(auto, unfolding(crate::specs::Words::up_to_one_word))]
     pub fn up_to_one(self) -> Result<Option<Word<'a>>, Fault<'a>>
         ensures { Tells numbered_if result
             (up_to_one_word self.entry.usage.now (map (λ text. text.now) self.entry.texts.now)) }
@@ -139,7 +140,7 @@ impl<'a> Words<'a> {
     }
 
     /// Two words, of which the second may be left out.
-    #[tactic(auto, using(crate::proofs::Counted::not_one_or_two), unfolding(crate::specs::Words::one_or_two_words))]
+    #[tactic(auto, unfolding(crate::specs::Words::one_or_two_words))]
     pub fn one_or_two(self) -> Result<(Word<'a>, Option<Word<'a>>), Fault<'a>>
         ensures { Tells (λ w. (numbered w.0, numbered_if w.1)) result
             (one_or_two_words self.entry.usage.now (map (λ text. text.now) self.entry.texts.now)) }
