@@ -3,7 +3,7 @@ use Rattle.std.proofs.Common.{◌≡◌, ◌≢◌, ℕ, List, Option, Some, Non
 use Rattle.std.proofs.lemmas.Option.{none-some}
 use Rattle.view.specs.declared.layout.Refusal.TheVariants as refusal
 use Rattle.commands.specs.declared.kind.Kind.TheVariants.{TooManyAxes, LengthsDiffer, OutOfRange, WrongLength, BadAxis, BadExtent, BadIndex, TooManyPositions, ShortScratch, ShortOutput, NotARecord}
-use Rattle.commands.specs.declared.usage_word.UsageWord.TheVariants.{Len, OutLen, Offset, Extents, Strides, List, Pairs, Bytes, Words, Room, Command, Topic}
+use Rattle.commands.specs.declared.usage_word.UsageWord.TheVariants as usage
 use Rattle.commands.specs.declared.topic.Topic.{Topic}
 use Rattle.commands.specs.declared.topic.Topic.TheVariants as topic
 use Rattle.commands.specs.Commands.{name_of}
@@ -13,18 +13,18 @@ use Rattle.commands.proofs.Named.{each as each_command}
 pub each : EachTopicIsNamed
 unfolding name_of kind_texts word_texts topic_name topic_named
 each (topic.Command command) = rw (each_command command) refl
-each (topic.Word Len) = refl
-each (topic.Word OutLen) = refl
-each (topic.Word Offset) = refl
-each (topic.Word Extents) = refl
-each (topic.Word Strides) = refl
-each (topic.Word List) = refl
-each (topic.Word Pairs) = refl
-each (topic.Word Bytes) = refl
-each (topic.Word Words) = refl
-each (topic.Word Room) = refl
-each (topic.Word Command) = refl
-each (topic.Word Topic) = refl
+each (topic.Word usage.Len) = refl
+each (topic.Word usage.OutLen) = refl
+each (topic.Word usage.Offset) = refl
+each (topic.Word usage.Extents) = refl
+each (topic.Word usage.Strides) = refl
+each (topic.Word usage.List) = refl
+each (topic.Word usage.Pairs) = refl
+each (topic.Word usage.Bytes) = refl
+each (topic.Word usage.Words) = refl
+each (topic.Word usage.Room) = refl
+each (topic.Word usage.Command) = refl
+each (topic.Word usage.Topic) = refl
 each topic.Words = refl
 each (topic.Refusal TooManyAxes) = refl
 each (topic.Refusal LengthsDiffer) = refl

@@ -10,7 +10,7 @@ use Rattle.view.specs.declared.layout.Refusal.TheVariants as refusal
 use Rattle.commands.specs.declared.kind.Kind.{Kind}
 use Rattle.commands.specs.declared.kind.Kind.TheVariants.{TooManyAxes, LengthsDiffer, OutOfRange, WrongLength, BadAxis, BadExtent, BadIndex, TooManyPositions, ShortScratch, ShortOutput, NotARecord}
 use Rattle.commands.specs.declared.usage_word.UsageWord.{UsageWord}
-use Rattle.commands.specs.declared.usage_word.UsageWord.TheVariants.{Len, OutLen, Offset, Extents, Strides, List, Pairs, Bytes, Words, Room, Command, Topic}
+use Rattle.commands.specs.declared.usage_word.UsageWord.TheVariants as usage
 use Rattle.commands.specs.declared.topic.Topic.{Topic}
 use Rattle.commands.specs.declared.topic.Topic.TheVariants as topic
 use Rattle.commands.specs.Commands.{commands, named, name_of, help_line}
@@ -58,18 +58,18 @@ pub record WordTexts : Type 0 where
   pub meaning : List ℕ
 
 unfoldable pub word_texts : UsageWord → WordTexts
-word_texts Len = record { name = codes "LEN"; meaning = codes "the length of the buffer, a number from 0 to 18446744073709551615, as 24" }
-word_texts OutLen = record { name = codes "OUTLEN"; meaning = codes "how many places the output has, a number from 0 to 18446744073709551615, as 2" }
-word_texts Offset = record { name = codes "OFFSET"; meaning = codes "the number of the cell where all indices are 0, from -9223372036854775808 to 9223372036854775807, as 0" }
-word_texts Extents = record { name = codes "EXTENTS"; meaning = codes "an extent for each axis, numbers from 0 to 18446744073709551615 with commas between them, at most 64, as 4,6; - for none" }
-word_texts Strides = record { name = codes "STRIDES"; meaning = codes "a stride for each axis, numbers from -9223372036854775808 to 9223372036854775807 with commas between them, at most 64, as 1,-4; - for none" }
-word_texts List = record { name = codes "LIST"; meaning = codes "numbers from 0 to 18446744073709551615 with commas between them, at most 64, as 1,0; - for none" }
-word_texts Pairs = record { name = codes "PAIRS"; meaning = codes "pairs a:b of axes with commas between them, at most 64, as 0:1,1:2; - for none" }
-word_texts Bytes = record { name = codes "BYTES"; meaning = codes "two hexadecimal digits for each byte and nothing between them, as 00ff; - for none" }
-word_texts Words = record { name = codes "WORDS"; meaning = codes "how many words of scratch to lend, a number from 0 to 65536, as 1024; left out, as many as are needed" }
-word_texts Room = record { name = codes "ROOM"; meaning = codes "how many bytes of output to lend, a number from 0 to 65536, as 64" }
-word_texts Command = record { name = codes "COMMAND"; meaning = codes "the name of a command, as new" }
-word_texts Topic = record { name = codes "TOPIC"; meaning = codes "what help tells of: a command, as new; a word of a usage, as LIST; words; refused; or a number from 1 to 11" }
+word_texts usage.Len = record { name = codes "LEN"; meaning = codes "the length of the buffer, a number from 0 to 18446744073709551615, as 24" }
+word_texts usage.OutLen = record { name = codes "OUTLEN"; meaning = codes "how many places the output has, a number from 0 to 18446744073709551615, as 2" }
+word_texts usage.Offset = record { name = codes "OFFSET"; meaning = codes "the number of the cell where all indices are 0, from -9223372036854775808 to 9223372036854775807, as 0" }
+word_texts usage.Extents = record { name = codes "EXTENTS"; meaning = codes "an extent for each axis, numbers from 0 to 18446744073709551615 with commas between them, at most 64, as 4,6; - for none" }
+word_texts usage.Strides = record { name = codes "STRIDES"; meaning = codes "a stride for each axis, numbers from -9223372036854775808 to 9223372036854775807 with commas between them, at most 64, as 1,-4; - for none" }
+word_texts usage.List = record { name = codes "LIST"; meaning = codes "numbers from 0 to 18446744073709551615 with commas between them, at most 64, as 1,0; - for none" }
+word_texts usage.Pairs = record { name = codes "PAIRS"; meaning = codes "pairs a:b of axes with commas between them, at most 64, as 0:1,1:2; - for none" }
+word_texts usage.Bytes = record { name = codes "BYTES"; meaning = codes "two hexadecimal digits for each byte and nothing between them, as 00ff; - for none" }
+word_texts usage.Words = record { name = codes "WORDS"; meaning = codes "how many words of scratch to lend, a number from 0 to 65536, as 1024; left out, as many as are needed" }
+word_texts usage.Room = record { name = codes "ROOM"; meaning = codes "how many bytes of output to lend, a number from 0 to 65536, as 64" }
+word_texts usage.Command = record { name = codes "COMMAND"; meaning = codes "the name of a command, as new" }
+word_texts usage.Topic = record { name = codes "TOPIC"; meaning = codes "what help tells of: a command, as new; a word of a usage, as LIST; words; refused; or a number from 1 to 11" }
 
 unfoldable pub word_line : UsageWord → List ℕ
 word_line word = (word_texts word).name ++ codes ": " ++ (word_texts word).meaning
@@ -77,7 +77,8 @@ word_line word = (word_texts word).name ++ codes ": " ++ (word_texts word).meani
 -- every word of a usage
 abbrev pub usage_words : List UsageWord
 usage_words =
-    Len ∷ OutLen ∷ Offset ∷ Extents ∷ Strides ∷ List ∷ Pairs ∷ Bytes ∷ Words ∷ Room ∷ Command ∷ Topic ∷ []
+    usage.Len ∷ usage.OutLen ∷ usage.Offset ∷ usage.Extents ∷ usage.Strides ∷ usage.List ∷ usage.Pairs
+    ∷ usage.Bytes ∷ usage.Words ∷ usage.Room ∷ usage.Command ∷ usage.Topic ∷ []
 
 -- the word that usages write so
 abbrev pub word_named : List ℕ → Option UsageWord
