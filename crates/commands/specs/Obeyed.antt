@@ -1,5 +1,5 @@
 -- What a command answers, and the layout after it: each by the definition of the call that it makes. Assumes nothing.
-use Rattle.std.specs.Prelude.{ℕ, ℤ, List, [], ◌∷◌, ◌==◌, length, take, codes, Option, Some, None, Ok, Err, if◌then◌else◌}
+use Rattle.std.specs.Prelude.{ℕ, ℤ, List, ◌==◌, length, take, codes, Option, Some, None, Ok, Err, if◌then◌else◌}
 use Rattle.std.specs.Fmt.{decimal, signed_decimal}
 use Rattle.specification.specs.Axis.{axes_of_lists}
 use Rattle.specification.specs.Outcome.{Outcome, done, refused}
