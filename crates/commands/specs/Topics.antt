@@ -24,17 +24,17 @@ pub record KindTexts : Type 0 where
   pub meaning : List ℕ
 
 unfoldable pub kind_texts : Kind → KindTexts
-kind_texts TooManyAxes = record { number = codes "1"; values = []; meaning = codes "a list has more than 16 entries, or the layout more than 16 axes" }
-kind_texts LengthsDiffer = record { number = codes "2"; values = []; meaning = codes "two lists differ in length; give as many strides as extents, and to order an OUTLEN of as many places as strides" }
-kind_texts OutOfRange = record { number = codes "3"; values = []; meaning = codes "an offset would lie outside the buffer, or an extent, a stride or a sum is too large for 64 bits with a sign; look at LEN, OFFSET and each stride x (extent - 1)" }
+kind_texts TooManyAxes = record { number = codes "1"; values = []; meaning = codes "more than 16 axes or entries; the layout and each list of axes have at most 16" }
+kind_texts LengthsDiffer = record { number = codes "2"; values = []; meaning = codes "the lists differ in length; give as many strides as extents, and to order an OUTLEN of as many places as strides" }
+kind_texts OutOfRange = record { number = codes "3"; values = []; meaning = codes "an offset would lie outside the buffer, or a number does not fit 64 bits; look at LEN, OFFSET and each stride x (extent - 1)" }
 kind_texts WrongLength = record { number = codes "4"; values = codes " A B"; meaning = codes "a list and the axes of the layout differ in number: A and B; permute and offset have A entries for B axes, broadcast has B entries for A axes" }
-kind_texts BadAxis = record { number = codes "5"; values = codes " AXIS RANK"; meaning = codes "axis AXIS is outside the rank RANK, or is named again; axes are numbered from 0" }
-kind_texts BadExtent = record { number = codes "6"; values = codes " AXIS"; meaning = codes "the extent of axis AXIS is neither 1 nor its target; only an axis of extent 1 is stretched" }
+kind_texts BadAxis = record { number = codes "5"; values = codes " AXIS RANK"; meaning = codes "axis AXIS is outside the rank RANK, or named twice; axes are numbered from 0" }
+kind_texts BadExtent = record { number = codes "6"; values = codes " AXIS"; meaning = codes "the extent of axis AXIS is neither its target nor 1; only an axis of extent 1 is stretched" }
 kind_texts BadIndex = record { number = codes "7"; values = codes " AXIS"; meaning = codes "the index of axis AXIS is not below its extent; indices are counted from 0" }
 kind_texts TooManyPositions = record { number = codes "8"; values = []; meaning = codes "more than 2^64 - 1 positions; look at the extents" }
 kind_texts ShortScratch = record { number = codes "9"; values = codes " WORDS"; meaning = codes "WORDS words of scratch are needed; lend as many (a line lends at most 65536), or leave WORDS out" }
 kind_texts ShortOutput = record { number = codes "10"; values = codes " BYTES"; meaning = codes "BYTES bytes of output are needed; give at least as many as ROOM" }
-kind_texts NotARecord = record { number = codes "11"; values = []; meaning = codes "no whole record stands at the beginning of the bytes, or its verdict is false" }
+kind_texts NotARecord = record { number = codes "11"; values = []; meaning = codes "the bytes are not a record; no whole one stands at their beginning, or its verdict is false" }
 
 -- the answer with the names of its values, and what it says
 unfoldable pub kind_line : Kind → List ℕ

@@ -57,17 +57,17 @@ impl Kind {
             Kind::TooManyAxes => (
                 "1",
                 "",
-                "a list has more than 16 entries, or the layout more than 16 axes",
+                "more than 16 axes or entries; the layout and each list of axes have at most 16",
             ),
             Kind::LengthsDiffer => (
                 "2",
                 "",
-                "two lists differ in length; give as many strides as extents, and to order an OUTLEN of as many places as strides",
+                "the lists differ in length; give as many strides as extents, and to order an OUTLEN of as many places as strides",
             ),
             Kind::OutOfRange => (
                 "3",
                 "",
-                "an offset would lie outside the buffer, or an extent, a stride or a sum is too large for 64 bits with a sign; look at LEN, OFFSET and each stride x (extent - 1)",
+                "an offset would lie outside the buffer, or a number does not fit 64 bits; look at LEN, OFFSET and each stride x (extent - 1)",
             ),
             Kind::WrongLength => (
                 "4",
@@ -77,12 +77,12 @@ impl Kind {
             Kind::BadAxis => (
                 "5",
                 " AXIS RANK",
-                "axis AXIS is outside the rank RANK, or is named again; axes are numbered from 0",
+                "axis AXIS is outside the rank RANK, or named twice; axes are numbered from 0",
             ),
             Kind::BadExtent => (
                 "6",
                 " AXIS",
-                "the extent of axis AXIS is neither 1 nor its target; only an axis of extent 1 is stretched",
+                "the extent of axis AXIS is neither its target nor 1; only an axis of extent 1 is stretched",
             ),
             Kind::BadIndex => (
                 "7",
@@ -107,7 +107,7 @@ impl Kind {
             Kind::NotARecord => (
                 "11",
                 "",
-                "no whole record stands at the beginning of the bytes, or its verdict is false",
+                "the bytes are not a record; no whole one stands at their beginning, or its verdict is false",
             ),
         };
         Texts {

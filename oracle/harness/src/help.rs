@@ -18,17 +18,17 @@ const WORDS: [(&str, &str); 12] = [
 
 /// The answers to refusals with the names of their values, by number from 1 on, and what each says.
 const REFUSALS: [(&str, &str); 11] = [
-    ("refused 1", "a list has more than 16 entries, or the layout more than 16 axes"),
-    ("refused 2", "two lists differ in length; give as many strides as extents, and to order an OUTLEN of as many places as strides"),
-    ("refused 3", "an offset would lie outside the buffer, or an extent, a stride or a sum is too large for 64 bits with a sign; look at LEN, OFFSET and each stride x (extent - 1)"),
+    ("refused 1", "more than 16 axes or entries; the layout and each list of axes have at most 16"),
+    ("refused 2", "the lists differ in length; give as many strides as extents, and to order an OUTLEN of as many places as strides"),
+    ("refused 3", "an offset would lie outside the buffer, or a number does not fit 64 bits; look at LEN, OFFSET and each stride x (extent - 1)"),
     ("refused 4 A B", "a list and the axes of the layout differ in number: A and B; permute and offset have A entries for B axes, broadcast has B entries for A axes"),
-    ("refused 5 AXIS RANK", "axis AXIS is outside the rank RANK, or is named again; axes are numbered from 0"),
-    ("refused 6 AXIS", "the extent of axis AXIS is neither 1 nor its target; only an axis of extent 1 is stretched"),
+    ("refused 5 AXIS RANK", "axis AXIS is outside the rank RANK, or named twice; axes are numbered from 0"),
+    ("refused 6 AXIS", "the extent of axis AXIS is neither its target nor 1; only an axis of extent 1 is stretched"),
     ("refused 7 AXIS", "the index of axis AXIS is not below its extent; indices are counted from 0"),
     ("refused 8", "more than 2^64 - 1 positions; look at the extents"),
     ("refused 9 WORDS", "WORDS words of scratch are needed; lend as many (a line lends at most 65536), or leave WORDS out"),
     ("refused 10 BYTES", "BYTES bytes of output are needed; give at least as many as ROOM"),
-    ("refused 11", "no whole record stands at the beginning of the bytes, or its verdict is false"),
+    ("refused 11", "the bytes are not a record; no whole one stands at their beginning, or its verdict is false"),
 ];
 
 /// What stands behind the commands if `help` stands alone.
