@@ -183,7 +183,7 @@ dense_text rule extents = do
   strides ← told (rule extents)
   Ok (list_text signed_decimal strides)
 
--- each command, or what is told of a topic
+-- each command, or one topic
 unfoldable pub help_text : Option Numbered → Told (List ℕ)
 help_text None = Ok all_help
 help_text (Some (number, name)) = elim (topic_named name) [

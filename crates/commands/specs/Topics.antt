@@ -1,4 +1,4 @@
--- What `help` tells of: commands, words of their usages, and refusals. Assumes nothing.
+-- What `help` explains: commands, words of their usages, and refusals. Assumes nothing.
 use Rattle.std.specs.Prelude.{ℕ, List, [], ◌∷◌, ◌++◌, codes, Option, Some, None, option_map, nat_eq, if◌then◌else◌, ◌≡◌}
 use Rattle.std.specs.Fmt.{decimal}
 use Rattle.std.specs.List.{find}
@@ -69,7 +69,7 @@ word_texts usage.Bytes = record { name = codes "BYTES"; meaning = codes "two hex
 word_texts usage.Words = record { name = codes "WORDS"; meaning = codes "how many words of scratch to lend, a number from 0 to 65536, as 1024; left out, as many as are needed" }
 word_texts usage.Room = record { name = codes "ROOM"; meaning = codes "how many bytes of output to lend, a number from 0 to 65536, as 64" }
 word_texts usage.Command = record { name = codes "COMMAND"; meaning = codes "the name of a command, as new" }
-word_texts usage.Topic = record { name = codes "TOPIC"; meaning = codes "what help tells of: a command, as new; a word of a usage, as LIST; words; refused; or a number from 1 to 11" }
+word_texts usage.Topic = record { name = codes "TOPIC"; meaning = codes "what help explains: a command, as new; a word of a usage, as LIST; words; refused; or a number from 1 to 11" }
 
 unfoldable pub word_line : UsageWord → List ℕ
 word_line word = (word_texts word).name ++ codes ": " ++ (word_texts word).meaning
@@ -104,10 +104,10 @@ topic_text topic.Refusals = joined (10 ∷ []) kind_line kinds
 
 -- where to go on from `help` alone
 abbrev pub more_help : List ℕ
-more_help = codes "help new, help LIST and help 3 tell of a command, a word of a usage, a refusal; help words and help refused of all words and all refusals"
+more_help = codes "help new, help LIST and help 3 explain a command, a word of a usage, a refusal; help words and help refused explain all words, all refusals"
 
 abbrev pub last_help : List ℕ
-last_help = codes "docs/COMMANDS.md tells the rest; the program ends with its input (at a terminal Ctrl-D)"
+last_help = codes "docs/COMMANDS.md says more; the program ends when its input ends (at a terminal by Ctrl-D)"
 
 -- what `help` alone answers: each command, and where to go on
 unfoldable pub all_help : List ℕ

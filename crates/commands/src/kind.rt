@@ -1,4 +1,4 @@
-// Refusals, each whatever its values: what `help` says of them.
+// Refusals, each whatever its values: what `help` says about them.
 ghost use Rattle.std.specs.Prelude.{◌≡◌};
 
 use std::fmt;

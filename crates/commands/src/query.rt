@@ -215,7 +215,7 @@ pub fn row<'a>(alloc: Global, extents: Word<'a>) -> Result<Reply, Problem<'a>>
     Ok(Reply::Strides(checked_row_major_strides(extents.as_slice())?))
 }
 
-/// What is told of a topic, or each command.
+/// One topic, or each command.
 #[tactic(auto, unfolding(crate::specs::Obeyed::help_text))]
 pub fn help<'a>(topic: Option<Word<'a>>) -> Result<Reply, Fault<'a>>
     ensures { Tells reply_text result (help_text (numbered_if topic.entry)) }

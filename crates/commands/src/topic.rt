@@ -1,4 +1,4 @@
-// What `help` tells of, by the word behind it.
+// What `help` explains, by the word behind it.
 ghost use Rattle.std.specs.Prelude.{◌≡◌};
 
 use crate::command::{COMMANDS, Command};
@@ -106,7 +106,7 @@ impl fmt::Display for AllHelp {
         };
         write!(
             f,
-            "{commands}\nhelp new, help LIST and help 3 tell of a command, a word of a usage, a refusal; help words and help refused of all words and all refusals\ndocs/COMMANDS.md tells the rest; the program ends with its input (at a terminal Ctrl-D)"
+            "{commands}\nhelp new, help LIST and help 3 explain a command, a word of a usage, a refusal; help words and help refused explain all words, all refusals\ndocs/COMMANDS.md says more; the program ends when its input ends (at a terminal by Ctrl-D)"
         )
     }
 }

@@ -1,4 +1,4 @@
-// The words that usages are written in: what `help` says of them.
+// The words that usages are written in: what `help` says about them.
 ghost use Rattle.std.specs.Prelude.{◌≡◌};
 
 use std::fmt;
@@ -97,7 +97,7 @@ impl UsageWord {
             UsageWord::Command => ("COMMAND", "the name of a command, as new"),
             UsageWord::Topic => (
                 "TOPIC",
-                "what help tells of: a command, as new; a word of a usage, as LIST; words; refused; or a number from 1 to 11",
+                "what help explains: a command, as new; a word of a usage, as LIST; words; refused; or a number from 1 to 11",
             ),
         };
         Texts { name, meaning }

@@ -34,7 +34,8 @@ const FILE: &str = "FILE";
 const STANDARD_INPUT: &str = "-";
 
 // What stands in front of the words of usages.
-const LINE: &str = "A line is a command and its words, with spaces or tabs between them; one that begins with # is a comment.";
+const LINE: &str =
+    "A line is a command and its words, with spaces or tabs between them; one that begins with # is a comment.";
 
 // The words of a line, the refusals and the commands, as `help` tells them.
 fn lines_help(alloc: Global) -> Result<String, AllocError> {
@@ -46,7 +47,9 @@ fn lines_help(alloc: Global) -> Result<String, AllocError> {
 
 // What the command line takes.
 fn command_line<'a>(alloc: Global, name: &'a str, help: &'a str) -> Result<Command<'a>, Error> {
-    let file = Arg::new(alloc, FILE).help("The lines, in place of standard input; - for standard input");
+    let file = Arg::new(alloc, FILE).help(
+        "The lines, in place of standard input; - for standard input",
+    );
     let taken = Command::new(alloc, name).version(VERSION).about(ABOUT);
     Ok(taken.after_help(help).arg(file)?)
 }

@@ -13,7 +13,7 @@ const WORDS: [(&str, &str); 12] = [
     ("WORDS", "how many words of scratch to lend, a number from 0 to 65536, as 1024; left out, as many as are needed"),
     ("ROOM", "how many bytes of output to lend, a number from 0 to 65536, as 64"),
     ("COMMAND", "the name of a command, as new"),
-    ("TOPIC", "what help tells of: a command, as new; a word of a usage, as LIST; words; refused; or a number from 1 to 11"),
+    ("TOPIC", "what help explains: a command, as new; a word of a usage, as LIST; words; refused; or a number from 1 to 11"),
 ];
 
 /// The answers to refusals with the names of their values, by number from 1 on, and what each says.
@@ -33,8 +33,8 @@ const REFUSALS: [(&str, &str); 11] = [
 
 /// What stands behind the commands if `help` stands alone.
 pub const MORE: [&str; 2] = [
-    "help new, help LIST and help 3 tell of a command, a word of a usage, a refusal; help words and help refused of all words and all refusals",
-    "docs/COMMANDS.md tells the rest; the program ends with its input (at a terminal Ctrl-D)",
+    "help new, help LIST and help 3 explain a command, a word of a usage, a refusal; help words and help refused explain all words, all refusals",
+    "docs/COMMANDS.md says more; the program ends when its input ends (at a terminal by Ctrl-D)",
 ];
 
 /// Words behind `help` that are topics, and no commands.
