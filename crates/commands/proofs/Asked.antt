@@ -4,14 +4,14 @@ use Rattle.std.proofs.Math.Bool.{and-true}
 use Rattle.words.specs.declared.fault.Form.TheVariants.{Lent as lent_form}
 use Rattle.words.specs.declared.spelled.Lent.{Lent}
 use Rattle.words.specs.Spelled.{lent}
-use Rattle.words.specs.Texts.{at_word, misspelled}
+use Rattle.words.specs.Texts.{misspelled_word}
 use Rattle.words.specs.Words.{Told, ◌>>=◌, Numbered, or_told, one_word, two_words, four_words, up_to_one_word, one_or_two_words, two_or_three_words}
 use Rattle.commands.specs.declared.command.Change.TheVariants.{Read}
 use Rattle.commands.specs.declared.command.Query.TheVariants.{Verdict, Injective, Record}
 use Rattle.commands.specs.Obeyed.{words_given}
 use Rattle.commands.specs.Asking.{is_lent, is_lent_if, change_asks, query_asks}
 
-given_by : (value : Option Lent) (number : ℕ) (text : List ℕ) (count : Option ℕ) → (or_told value (misspelled (at_word number text) lent_form) >>= λ words. Ok (Some words.0)) ≡ Ok count → is_some value ≡ true
+given_by : (value : Option Lent) (number : ℕ) (text : List ℕ) (count : Option ℕ) → (or_told value (misspelled_word number text lent_form) >>= λ words. Ok (Some words.0)) ≡ Ok count → is_some value ≡ true
 given_by None number text count e = cc
 given_by (Some y) number text count e = refl
 

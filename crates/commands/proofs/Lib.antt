@@ -1,4 +1,5 @@
 pub mod ScratchLaws
 pub mod RecordText
 pub mod Named
+pub mod Topics
 pub mod Asked

@@ -47,7 +47,7 @@ usage_of (command.Query Rest) = codes "rest BYTES"
 usage_of (command.Query Order) = codes "order STRIDES OUTLEN"
 usage_of (command.Query Column) = codes "column EXTENTS"
 usage_of (command.Query Row) = codes "row EXTENTS"
-usage_of (command.Query Help) = codes "help [COMMAND]"
+usage_of (command.Query Help) = codes "help [TOPIC]"
 
 -- what the command does, or what it answers
 unfoldable pub meaning_of : Command → List ℕ
@@ -68,7 +68,7 @@ meaning_of (command.Query Rest) = codes "what stands behind the record at the fr
 meaning_of (command.Query Order) = codes "the index order of strides, into OUTLEN places"
 meaning_of (command.Query Column) = codes "dense strides, the first axis the densest"
 meaning_of (command.Query Row) = codes "dense strides, the last axis the densest"
-meaning_of (command.Query Help) = codes "what a command does, or each of them"
+meaning_of (command.Query Help) = codes "what a command does, a word of a usage is, or a refusal means; alone, every command"
 
 -- what `help` says of a command
 unfoldable pub help_line : Command → List ℕ

@@ -1,4 +1,5 @@
 pub mod Commands
+pub mod Topics
 pub mod Replies
 pub mod Obeyed
 pub mod Scratch

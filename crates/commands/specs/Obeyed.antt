@@ -1,5 +1,5 @@
 -- What a command answers, and the layout after it: each by the definition of the call that it makes. Assumes nothing.
-use Rattle.std.specs.Prelude.{ℕ, ℤ, List, [], ◌∷◌, ◌==◌, length, take, codes, Option, Some, None, Ok, Err, if◌then◌else◌}
+use Rattle.std.specs.Prelude.{ℕ, ℤ, List, ◌==◌, length, take, codes, Option, Some, None, Ok, Err, if◌then◌else◌}
 use Rattle.std.specs.Fmt.{decimal, signed_decimal}
 use Rattle.specification.specs.Axis.{axes_of_lists}
 use Rattle.specification.specs.Outcome.{Outcome, done, refused}
@@ -22,11 +22,12 @@ use Rattle.commands.specs.declared.command.Change.TheVariants.{New, Set, Permute
 use Rattle.commands.specs.declared.command.Query.{Query}
 use Rattle.commands.specs.declared.command.Query.TheVariants.{Bounds, Show, Offset, Normal, Verdict, Injective, Record, Rest, Order, Column, Row, Help}
 use Rattle.words.specs.declared.fault.Form.TheVariants.{Unsigned, Signed, Pair, Lent}
-use Rattle.commands.specs.Commands.{commands, named, usage_of, help_line}
+use Rattle.commands.specs.Commands.{named, usage_of}
+use Rattle.commands.specs.Topics.{topic_named, topic_text, all_help}
 use Rattle.commands.specs.Replies.{bytes_text}
-use Rattle.view.specs.Printed.{joined, list_text, layout_text}
+use Rattle.view.specs.Printed.{list_text, layout_text}
 use Rattle.words.specs.Spelled.{unsigned, signed, lent, pair}
-use Rattle.words.specs.Texts.{refusal_text, unknown_command, unequal_lists}
+use Rattle.words.specs.Texts.{refusal_text, unknown_command, unknown_topic, unequal_lists}
 use Rattle.words.specs.Words.{Told, ◌>>=◌, Numbered, no_word, one_word, two_words, four_words, up_to_one_word, one_or_two_words, two_or_three_words, one_of, list_of, bytes_of}
 
 -- what a call answers, or its refusal as a text
@@ -182,12 +183,12 @@ dense_text rule extents = do
   strides ← told (rule extents)
   Ok (list_text signed_decimal strides)
 
--- each command on a line (10), or the one of a name
+-- each command, or one topic
 unfoldable pub help_text : Option Numbered → Told (List ℕ)
-help_text None = Ok (joined (10 ∷ []) help_line commands)
-help_text (Some (number, name)) = elim (named name) [
-  | None ↦ Err (unknown_command number name)
-  | Some command ↦ Ok (help_line command)
+help_text None = Ok all_help
+help_text (Some (number, name)) = elim (topic_named name) [
+  | None ↦ Err (unknown_topic number name)
+  | Some topic ↦ Ok (topic_text topic)
 ]
 
 -- what a command prints that leaves the layout, of the words behind the name
@@ -226,8 +227,8 @@ answer_text l Row usage words = do
   extents ← one_word usage words
   dense_text row_major extents
 answer_text l Help usage words = do
-  name ← up_to_one_word usage words
-  help_text name
+  topic ← up_to_one_word usage words
+  help_text topic
 
 -- ---- a line
 

@@ -3,11 +3,11 @@ use Rattle.std.specs.Prelude.{ℕ, List, [], ◌∷◌, codes, string_bytes}
 use Rattle.std.specs.Fmt.{decimal, signed_decimal}
 use Rattle.hex.specs.Hex.{encode_lower}
 use Rattle.view.specs.Model.{model_of}
-use Rattle.view.specs.Printed.{joined, list_text, layout_text}
+use Rattle.view.specs.Printed.{list_text, layout_text}
 use Rattle.injectivity.specs.Text.{judgement_text}
 use Rattle.commands.specs.declared.reply.Reply.{Reply}
 use Rattle.commands.specs.declared.reply.Reply.TheVariants as reply
-use Rattle.commands.specs.Commands.{commands, help_line}
+use Rattle.commands.specs.Topics.{topic_text, all_help}
 
 -- bytes as two digits each; `-` for none
 abbrev pub bytes_text : List ℕ → List ℕ
@@ -23,5 +23,5 @@ reply_text (reply.Judged judgement) = judgement_text judgement
 reply_text (reply.Bytes digits) = string_bytes digits
 reply_text (reply.Order axes) = list_text decimal axes.items
 reply_text (reply.Strides dense) = list_text signed_decimal dense
-reply_text (reply.Help command) = help_line command
-reply_text reply.AllHelp = joined (10 ∷ []) help_line commands
+reply_text (reply.Help topic) = topic_text topic
+reply_text reply.AllHelp = all_help

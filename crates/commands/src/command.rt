@@ -135,7 +135,7 @@ impl Command {
             Command::Query(Query::Order) => "order STRIDES OUTLEN",
             Command::Query(Query::Column) => "column EXTENTS",
             Command::Query(Query::Row) => "row EXTENTS",
-            Command::Query(Query::Help) => "help [COMMAND]",
+            Command::Query(Query::Help) => "help [TOPIC]",
         }
     }
 
@@ -169,7 +169,8 @@ impl Command {
             Command::Query(Query::Order) => "the index order of strides, into OUTLEN places",
             Command::Query(Query::Column) => "dense strides, the first axis the densest",
             Command::Query(Query::Row) => "dense strides, the last axis the densest",
-            Command::Query(Query::Help) => "what a command does, or each of them",
+            Command::Query(Query::Help) =>
+                "what a command does, a word of a usage is, or a refusal means; alone, every command",
         }
     }
 }

@@ -3,8 +3,11 @@
 
 mod change;
 pub mod command;
+pub mod kind;
 pub mod memory;
 pub mod obey;
 mod query;
 pub mod reply;
 mod scratch;
+pub mod topic;
+pub mod usage_word;

@@ -12,10 +12,10 @@ ghost use Rattle.commands.specs.Replies.{reply_text};
 ghost use Rattle.commands.specs.Obeyed.{or_most, bounds_text, offset_text, normal_text, verdict_of, injective_text, record_text, rest_text, order_text, dense_text, help_text};
 
 use crate::change::{Four, Given};
-use crate::command::Command;
 use crate::memory::{Memory, lend};
 use crate::reply::Reply;
 use crate::scratch::{lacking, words_given};
+use crate::topic::Topic;
 use auxiliary::index_order_into;
 use dense::{checked_col_major_strides, checked_row_major_strides};
 use injectivity::{Judgement, is_injective_layout, judge_layout};
@@ -215,16 +215,16 @@ pub fn row<'a>(alloc: Global, extents: Word<'a>) -> Result<Reply, Problem<'a>>
     Ok(Reply::Strides(checked_row_major_strides(extents.as_slice())?))
 }
 
-/// What a command does, or each of them.
+/// One topic, or each command.
 #[tactic(auto, unfolding(crate::specs::Obeyed::help_text))]
-pub fn help<'a>(name: Option<Word<'a>>) -> Result<Reply, Fault<'a>>
-    ensures { Tells reply_text result (help_text (numbered_if name.entry)) }
+pub fn help<'a>(topic: Option<Word<'a>>) -> Result<Reply, Fault<'a>>
+    ensures { Tells reply_text result (help_text (numbered_if topic.entry)) }
 {
-    let Some(word) = name else {
+    let Some(word) = topic else {
         return Ok(Reply::AllHelp);
     };
-    match Command::named(word.text) {
-        Some(command) => Ok(Reply::Help(command)),
-        None => Err(Fault::UnknownCommand(word)),
+    match Topic::named(word.text) {
+        Some(topic) => Ok(Reply::Help(topic)),
+        None => Err(Fault::UnknownTopic(word)),
     }
 }

@@ -1,11 +1,11 @@
 // What an obeyed line answers.
-use crate::command::{COMMANDS, Command};
+use crate::topic::{AllHelp, Topic};
 use dense::DenseStrides;
 use injectivity::Judgement;
 use std::alloc::{AllocError, Global};
 use std::fmt;
 use view::layout::Layout;
-use view::list::{Joined, List};
+use view::list::List;
 
 #[derive(Drop)]
 pub enum Reply {
@@ -16,7 +16,7 @@ pub enum Reply {
     Bytes(String),
     Order(Vec<usize>),
     Strides(DenseStrides),
-    Help(Command),
+    Help(Topic),
     AllHelp,
 }
 
@@ -50,15 +50,8 @@ impl fmt::Display for Reply {
             Reply::Bytes(digits) => f.write_str(digits.as_str()),
             Reply::Order(axes) => write!(f, "{}", List(axes.as_slice())),
             Reply::Strides(dense) => write!(f, "{}", List(dense.as_slice())),
-            Reply::Help(command) => write!(f, "{command}"),
-            Reply::AllHelp => write!(
-                f,
-                "{}",
-                Joined {
-                    between: "\n",
-                    entries: &COMMANDS
-                }
-            ),
+            Reply::Help(topic) => write!(f, "{topic}"),
+            Reply::AllHelp => write!(f, "{AllHelp}"),
         }
     }
 }

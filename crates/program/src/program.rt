@@ -9,6 +9,7 @@ use crate::status::status;
 use clap::error::ErrorKind;
 use clap::{Arg, Command, Error};
 use commands::reply::Reply;
+use commands::topic::Topic;
 use lines::failure::Failure;
 use std::alloc::{AllocError, Global};
 use std::fs::File;
@@ -29,29 +30,26 @@ const ABOUT: &str = "Answers lines of words about strided layouts, each with a l
 // The one argument.
 const FILE: &str = "FILE";
 
-// What stands in a line, in front of the commands.
-const WORDS: &str = "Words of a line, with spaces or tabs between them:
-  LEN, OUTLEN    a number from 0 to 18446744073709551615
-  OFFSET         a number from -9223372036854775808 to 9223372036854775807
-  LIST, EXTENTS  numbers from 0 on, with commas between them, as 4,6; - for none
-  STRIDES        the same of numbers with their signs, as -1,4
-  PAIRS          axes as a:b, with commas between them, as 0:1,1:2; - for none
-  BYTES          two hexadecimal digits a byte, as 00ff; - for none
-  WORDS          words of scratch to lend, up to 65536; left out, as many as are needed
-  ROOM           bytes of output to lend, up to 65536
-  COMMAND        the name of a command
-A line that begins with # is a comment.
+// The one argument that stands for standard input.
+const STANDARD_INPUT: &str = "-";
 
-Commands:";
+// What stands in front of the words of usages.
+const LINE: &str =
+    "A line is a command and its words, with spaces or tabs between them; one that begins with # is a comment.";
 
-// The words of a line and the commands, as `--help` tells them.
+// The words of a line, the refusals and the commands, as `help` tells them.
 fn lines_help(alloc: Global) -> Result<String, AllocError> {
-    format!(in alloc; "{WORDS}\n{}", Reply::AllHelp)
+    let words = Reply::Help(Topic::Words);
+    let refusals = Reply::Help(Topic::Refusals);
+    let commands = Reply::AllHelp;
+    format!(in alloc; "{LINE}\n\nWords:\n{words}\n\nRefusals:\n{refusals}\n\nCommands:\n{commands}")
 }
 
 // What the command line takes.
 fn command_line<'a>(alloc: Global, name: &'a str, help: &'a str) -> Result<Command<'a>, Error> {
-    let file = Arg::new(alloc, FILE).help("The lines, in place of standard input");
+    let file = Arg::new(alloc, FILE).help(
+        "The lines, in place of standard input; - for standard input",
+    );
     let taken = Command::new(alloc, name).version(VERSION).about(ABOUT);
     Ok(taken.after_help(help).arg(file)?)
 }
@@ -97,6 +95,7 @@ fn obey(rt: &HostRuntime, name: &str, words: &[String]) -> Result<ExitCode, Erro
     let matches = taken.try_get_matches_from(words)?;
     let code = match matches.get_str(FILE) {
         None => status(rt, name, "standard input", answer_input(rt, name)),
+        Some(STANDARD_INPUT) => status(rt, name, "standard input", answer_input(rt, name)),
         Some(path) => status(rt, name, path, answer_file(rt, path)),
     };
     Ok(code)

@@ -1,37 +1,46 @@
 -- The first six words of a line decide what it is answered.
-use Rattle.std.proofs.Common.{◌≡◌, ℕ, List, [], ◌∷◌, take, Bool, true, false, Option, Some, None, Ok, Err, IsTrue, ◌≢◌, length, length-append, arith, ap, refl, sym}
+use Rattle.std.proofs.Common.{◌≡◌, ◌<◌, ◌≤◌, ℕ, List, [], ◌∷◌, take, Bool, true, false, Option, Some, None, Ok, Err, IsTrue, ◌≢◌, length, length-append, arith, ap, refl, sym}
+use Rattle.std.proofs.lemmas.Bool.{lt-ltb}
 use Rattle.specification.specs.Layout.{LayoutModel}
+use Rattle.words.specs.Texts.{word_count}
 use Rattle.words.specs.Words.{Told, words, no_word, one_word, two_words, four_words, up_to_one_word, one_or_two_words, two_or_three_words}
 use Rattle.commands.specs.declared.command.Command.{Command}
 use Rattle.commands.specs.declared.command.Command.TheVariants as command
 use Rattle.commands.specs.declared.command.Change.TheVariants.{New, Set, Permute, Diagonal, Broadcast, Read}
 use Rattle.commands.specs.declared.command.Query.TheVariants.{Bounds, Show, Offset, Normal, Verdict, Injective, Record, Rest, Order, Column, Row, Help}
-use Rattle.commands.specs.Commands.{named, name_of}
+use Rattle.commands.specs.Commands.{named, name_of, usage_of}
 use Rattle.commands.specs.Obeyed.{Answered, next_layout, answer_text, run, obeyed}
 use Rattle.session.specs.Session.{begins_with, in_line, by_words, words_ask, by_length}
 
 module _ (l : LayoutModel) (a b c d e : List ℕ) (more : List (List ℕ)) where
+  -- past four, words behind a name are not counted
+  counted : (usage : List ℕ) (least most : ℕ) → most ≤ 4 → word_count usage least most 5 ≡ word_count usage least most (length (a ∷ b ∷ c ∷ d ∷ e ∷ more))
+  unfolding word_count
+  counted usage least most few =
+      let some : 4 < length (a ∷ b ∷ c ∷ d ∷ e ∷ more) = omega arith in
+      rw (lt-ltb 4 (length (a ∷ b ∷ c ∷ d ∷ e ∷ more)) some, lt-ltb most 5 (omega (arith, few)), lt-ltb most (length (a ∷ b ∷ c ∷ d ∷ e ∷ more)) (omega (arith, few, some))) refl
+
   -- no command takes five words
   five_run : (command : Command) → run l command (a ∷ b ∷ c ∷ d ∷ e ∷ []) ≡ run l command (a ∷ b ∷ c ∷ d ∷ e ∷ more)
   unfolding run next_layout answer_text no_word one_word two_words four_words up_to_one_word one_or_two_words two_or_three_words
-  five_run (command.Change New) = refl
-  five_run (command.Change Set) = refl
-  five_run (command.Change Permute) = refl
-  five_run (command.Change Diagonal) = refl
-  five_run (command.Change Broadcast) = refl
-  five_run (command.Change Read) = refl
-  five_run (command.Query Bounds) = refl
-  five_run (command.Query Show) = refl
-  five_run (command.Query Offset) = refl
-  five_run (command.Query Normal) = refl
-  five_run (command.Query Verdict) = refl
-  five_run (command.Query Injective) = refl
-  five_run (command.Query Record) = refl
-  five_run (command.Query Rest) = refl
-  five_run (command.Query Order) = refl
-  five_run (command.Query Column) = refl
-  five_run (command.Query Row) = refl
-  five_run (command.Query Help) = refl
+  five_run (command.Change New) = ap Err (counted (usage_of (command.Change New)) 4 4 (omega arith))
+  five_run (command.Change Set) = ap Err (counted (usage_of (command.Change Set)) 4 4 (omega arith))
+  five_run (command.Change Permute) = ap Err (counted (usage_of (command.Change Permute)) 1 1 (omega arith))
+  five_run (command.Change Diagonal) = ap Err (counted (usage_of (command.Change Diagonal)) 1 1 (omega arith))
+  five_run (command.Change Broadcast) = ap Err (counted (usage_of (command.Change Broadcast)) 1 1 (omega arith))
+  five_run (command.Change Read) = ap Err (counted (usage_of (command.Change Read)) 1 2 (omega arith))
+  five_run (command.Query Bounds) = ap Err (counted (usage_of (command.Query Bounds)) 4 4 (omega arith))
+  five_run (command.Query Show) = ap Err (counted (usage_of (command.Query Show)) 0 0 (omega arith))
+  five_run (command.Query Offset) = ap Err (counted (usage_of (command.Query Offset)) 1 1 (omega arith))
+  five_run (command.Query Normal) = ap Err (counted (usage_of (command.Query Normal)) 0 0 (omega arith))
+  five_run (command.Query Verdict) = ap Err (counted (usage_of (command.Query Verdict)) 0 1 (omega arith))
+  five_run (command.Query Injective) = ap Err (counted (usage_of (command.Query Injective)) 2 3 (omega arith))
+  five_run (command.Query Record) = ap Err (counted (usage_of (command.Query Record)) 1 2 (omega arith))
+  five_run (command.Query Rest) = ap Err (counted (usage_of (command.Query Rest)) 1 1 (omega arith))
+  five_run (command.Query Order) = ap Err (counted (usage_of (command.Query Order)) 2 2 (omega arith))
+  five_run (command.Query Column) = ap Err (counted (usage_of (command.Query Column)) 1 1 (omega arith))
+  five_run (command.Query Row) = ap Err (counted (usage_of (command.Query Row)) 1 1 (omega arith))
+  five_run (command.Query Help) = ap Err (counted (usage_of (command.Query Help)) 0 1 (omega arith))
 
   five_obeyed : (name : List ℕ) → obeyed l name (a ∷ b ∷ c ∷ d ∷ e ∷ []) ≡ obeyed l name (a ∷ b ∷ c ∷ d ∷ e ∷ more)
   unfolding obeyed name_of

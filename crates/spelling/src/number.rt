@@ -7,8 +7,8 @@ ghost use Rattle.spelling.specs.Number.{unsigned_of, signed_of};
 // The sign in front of a negative number.
 const MINUS: u8 = b'-';
 
-// Whether each byte is a decimal digit.
-fn are_digits(text: &[u8]) -> bool
+/// Whether each byte is a decimal digit.
+pub fn are_digits(text: &[u8]) -> bool
     ensures { result ≡ list_all is_ascii_digit text.now }
 {
     text.iter().all(|byte| byte.is_ascii_digit())

@@ -2,7 +2,7 @@
 use Rattle.std.proofs.Common.{◌≡◌, ℕ, zero, suc, ◌+◌, ◌<◌, ◌≤◌, List, [], ◌∷◌, ◌++◌, length, map, drop, get_or, Option, Some, None, Ok, Err, refl, sym, ap, append_assoc, arith}
 use Rattle.std.proofs.lemmas.List.{append-nil}
 use Rattle.words.specs.declared.fault.Form.{Form}
-use Rattle.words.specs.Texts.{at_entry, misspelled}
+use Rattle.words.specs.Texts.{misspelled_entry}
 use Rattle.words.specs.Words.{Told, ◌>>=◌, listed}
 
 -- what was read before, and what is still read
@@ -18,7 +18,7 @@ module _ {A : Type 0} (spelled : List ℕ → Option A) (form : Form) (word plac
   unfolding listed
   goes_on x e = rw (← e) (regroup front x (listed spelled form word (place + 1) texts))
 
-  pub stops : None ≡ spelled text → with_front front (listed spelled form word place (text ∷ texts)) ≡ Err (misspelled (at_entry word place text) form)
+  pub stops : None ≡ spelled text → with_front front (listed spelled form word place (text ∷ texts)) ≡ Err (misspelled_entry word place text form)
   unfolding listed
   stops e = rw (← e) refl
 

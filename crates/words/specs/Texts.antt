@@ -1,6 +1,8 @@
 -- What is printed of a fault and of a list, byte by byte. Assumes nothing.
-use Rattle.std.specs.Prelude.{ℕ, List, [], ◌∷◌, ◌++◌, codes, take, length, nat_lt, encode_utf8_all, if◌then◌else◌}
-use Rattle.std.specs.List.{flat_map}
+use Rattle.std.specs.Prelude.{ℕ, Bool, true, false, not, ◌&&◌, ◌||◌, List, [], ◌∷◌, ◌++◌, ◌==◌, codes, take, length, nat_eq, nat_lt, encode_utf8_all, if◌then◌else◌}
+use Rattle.std.specs.Char.{is_ascii_digit}
+use Rattle.std.specs.Cmp.Lexicographic.{pointwise}
+use Rattle.std.specs.List.{flat_map, list_all}
 use Rattle.std.specs.Fmt.{decimal}
 use Rattle.bstr.specs.Escape.{escaped}
 use Rattle.view.specs.Answers.{number_of, values_of}
@@ -10,7 +12,7 @@ use Rattle.words.specs.declared.place.Place.TheVariants as place
 use Rattle.words.specs.declared.fault.Form.{Form}
 use Rattle.words.specs.declared.fault.Form.TheVariants.{Unsigned, Signed, Pair, Lent}
 use Rattle.words.specs.declared.fault.Fault.{Fault}
-use Rattle.words.specs.declared.fault.Fault.TheVariants.{LongLine, UnknownCommand, WordCount, UnequalLists, Misspelled, ManyEntries, OddDigits, BadDigit, Refused}
+use Rattle.words.specs.declared.fault.Fault.TheVariants.{LongLine, UnknownCommand, UnknownTopic, WordCount, UnequalLists, Misspelled, ManyEntries, OddDigits, BadDigit, Refused}
 
 -- ---- where a fault is
 
@@ -34,12 +36,31 @@ abbrev pub place_text : Place → List ℕ
 place_text (place.Word w) = at_word w.number w.text.now
 place_text (place.Entry word w) = at_entry word w.number w.text.now
 
--- what should have stood there
-abbrev pub form_text : Form → List ℕ
-form_text Unsigned = codes "number from 0 to 18446744073709551615"
-form_text Signed = codes "number from -9223372036854775808 to 9223372036854775807"
-form_text Pair = codes "pair a:b of numbers from 0 to 18446744073709551615"
-form_text Lent = codes "number from 0 to 65536"
+-- ---- what is wrong with it
+
+-- a text without the `-` (45) in front
+abbrev pub without_minus : List ℕ → List ℕ
+without_minus [] = []
+without_minus (first ∷ rest) = if first == 45 then rest else first ∷ rest
+
+-- a number, however large: one digit or more, with or without `-` in front
+unfoldable pub is_number : List ℕ → Bool
+is_number text = not (length (without_minus text) == 0) && list_all is_ascii_digit (without_minus text)
+
+-- what is wrong with a text that does not spell what should stand there, by whether it is a number
+unfoldable pub misfit : Form → Bool → List ℕ
+misfit Unsigned true = codes " is outside the range from 0 to 18446744073709551615"
+misfit Unsigned false = codes " is no number: write digits, as 24"
+misfit Signed true = codes " is outside the range from -9223372036854775808 to 9223372036854775807"
+misfit Signed false = codes " is no number: write digits, as 24 or -24"
+misfit Pair number = codes " is no pair of axes: write a:b, as 0:1"
+misfit Lent true = codes " is outside the range from 0 to 65536"
+misfit Lent false = codes " is no number: write digits, as 24"
+
+-- an entry that is no number may be several that have no commas between them
+unfoldable pub commas : Bool → List ℕ
+commas true = []
+commas false = codes ", and commas between the entries"
 
 -- ---- faults
 
@@ -53,36 +74,69 @@ told_refusal why = refusal_text (number_of why) (values_of why)
 unfoldable pub long_line : List ℕ
 long_line = codes "error: the line is longer than 4096 bytes"
 
-unfoldable pub unknown_command : ℕ → List ℕ → List ℕ
-unknown_command number text = codes "error: " ++ at_word number text ++ codes " is no command; help lists the commands"
+-- the words with which other programs end
+unfoldable pub is_farewell : List ℕ → Bool
+is_farewell name =
+    pointwise nat_eq (codes "exit") name || pointwise nat_eq (codes "quit") name
+    || pointwise nat_eq (codes "end") name || pointwise nat_eq (codes "bye") name
 
--- other words than the usage of a command names
-unfoldable pub word_count : List ℕ → List ℕ
-word_count usage = codes "error: wrong number of words; usage: " ++ usage
+-- where to go on from a name of no command, by whether it is one of these words
+unfoldable pub way_on : Bool → List ℕ
+way_on true = codes "to end, end the input (Ctrl-D at a terminal)"
+way_on false = codes "help lists the commands"
+
+unfoldable pub unknown_command : ℕ → List ℕ → List ℕ
+unknown_command number text = codes "error: " ++ at_word number text ++ codes " is no command; " ++ way_on (is_farewell text)
+
+unfoldable pub unknown_topic : ℕ → List ℕ → List ℕ
+unknown_topic number text = codes "error: " ++ at_word number text ++ codes " is no topic of help; topics are the commands, the words of their usages (as LIST), words, refused, and the numbers from 1 to 11"
+
+-- as many words as a command takes behind its name; the last of them may be left out where two numbers stand
+abbrev pub wanted : ℕ → ℕ → List ℕ
+wanted least most = if least == most then decimal most else decimal least ++ codes " or " ++ decimal most
+
+-- as many words as stand behind the name; no command takes more than 4, and past them they are not counted
+abbrev pub given : ℕ → List ℕ
+given count = if nat_lt 4 count then codes "more than 4" else decimal count
+
+-- a list with a space in it is two words, so there may be too many where a command takes any
+abbrev pub no_space : ℕ → ℕ → List ℕ
+no_space most count = if nat_lt 0 most && nat_lt most count then codes " (no space within a list)" else []
+
+-- fewer or more words than a command takes
+unfoldable pub word_count : List ℕ → ℕ → ℕ → ℕ → List ℕ
+word_count usage least most count =
+    codes "error: wrong number of words behind the name: " ++ wanted least most ++ codes " wanted, " ++ given count ++ codes " given" ++ no_space most count
+    ++ codes "; usage: " ++ usage
 
 unfoldable pub unequal_lists : List ℕ
 unequal_lists = codes "error: set takes as many strides as extents: words 4 and 5"
 
 -- what stands at a place is not what should
-unfoldable pub misspelled : List ℕ → Form → List ℕ
-misspelled at form = codes "error: " ++ at ++ codes " is no " ++ form_text form
+unfoldable pub misspelled_word : ℕ → List ℕ → Form → List ℕ
+misspelled_word number text form = codes "error: " ++ at_word number text ++ misfit form (is_number text)
+
+unfoldable pub misspelled_entry : ℕ → ℕ → List ℕ → Form → List ℕ
+misspelled_entry word number text form = codes "error: " ++ at_entry word number text ++ misfit form (is_number text) ++ commas (is_number text)
 
 unfoldable pub many_entries : ℕ → List ℕ → List ℕ
 many_entries number text = codes "error: " ++ at_word number text ++ codes " has more than 64 entries"
 
 unfoldable pub odd_digits : ℕ → List ℕ → List ℕ
-odd_digits number text = codes "error: " ++ at_word number text ++ codes " has an odd number of hexadecimal digits"
+odd_digits number text = codes "error: " ++ at_word number text ++ codes " has an odd number of hexadecimal digits; a byte is two"
 
 unfoldable pub bad_digit : ℕ → List ℕ → List ℕ
-bad_digit number text = codes "error: " ++ at_word number text ++ codes " has a byte that is no hexadecimal digit"
+bad_digit number text = codes "error: " ++ at_word number text ++ codes " is not hexadecimal; a byte is two digits 0 to 9 or a to f, as 0f"
 
 -- the line that a fault is answered with
 abbrev pub fault_text : Fault → List ℕ
 fault_text LongLine = long_line
 fault_text (UnknownCommand w) = unknown_command w.number w.text.now
-fault_text (WordCount usage) = word_count usage.now
+fault_text (UnknownTopic w) = unknown_topic w.number w.text.now
+fault_text (WordCount m) = word_count m.usage.now m.least m.most m.given
 fault_text UnequalLists = unequal_lists
-fault_text (Misspelled place form) = misspelled (place_text place) form
+fault_text (Misspelled (place.Word w) form) = misspelled_word w.number w.text.now form
+fault_text (Misspelled (place.Entry word w) form) = misspelled_entry word w.number w.text.now form
 fault_text (ManyEntries w) = many_entries w.number w.text.now
 fault_text (OddDigits w) = odd_digits w.number w.text.now
 fault_text (BadDigit w) = bad_digit w.number w.text.now

@@ -1,16 +1,15 @@
 -- The words of a line and what they spell, or the first fault from the left. Assumes nothing.
 use Rattle.std.specs.Prelude.{ℕ, Bool, not, ◌&&◌, ◌||◌, List, [], ◌∷◌, ◌+◌, ◌==◌, nat_lt, length, slice_index, filter, if◌then◌else◌, Option, Some, None, Result, Ok, Err, ◌≡◌, IsTrue, ⊤}
-use Rattle.std.specs.List.{slice_split}
+use Rattle.std.specs.List.{slice_split, list_all}
 use Rattle.std.specs.Io.BufRead.{strip_last}
-use Rattle.hex.specs.Hex.{decode_of}
+use Rattle.hex.specs.Hex.{decode_of, is_hex_digit}
 use Rattle.hex.specs.declared.error.FromHexError.{FromHexError}
-use Rattle.hex.specs.declared.error.FromHexError.TheVariants.{OddLength}
 use Rattle.words.specs.declared.place.Word.{Word}
 use Rattle.words.specs.declared.fault.Form.{Form}
 use Rattle.words.specs.declared.fault.Fault.{Fault}
 use Rattle.words.specs.declared.fault.Problem.{Problem}
 use Rattle.words.specs.declared.fault.Problem.TheVariants as problem
-use Rattle.words.specs.Texts.{at_word, at_entry, word_count, misspelled, many_entries, odd_digits, bad_digit, fault_text}
+use Rattle.words.specs.Texts.{word_count, misspelled_word, misspelled_entry, many_entries, odd_digits, bad_digit, fault_text}
 
 -- ---- what is told
 
@@ -68,35 +67,35 @@ numbered_if (Some w) = Some (numbered w)
 -- the words behind the name of a command that takes so many of them; its usage tells of any other number
 unfoldable pub no_word : List ℕ → List (List ℕ) → Told (Unit {0})
 no_word usage [] = Ok tt
-no_word usage other = Err (word_count usage)
+no_word usage other = Err (word_count usage 0 0 (length other))
 
 unfoldable pub one_word : List ℕ → List (List ℕ) → Told Numbered
 one_word usage (a ∷ []) = Ok (2, a)
-one_word usage other = Err (word_count usage)
+one_word usage other = Err (word_count usage 1 1 (length other))
 
 unfoldable pub two_words : List ℕ → List (List ℕ) → Told (Numbered × Numbered)
 two_words usage (a ∷ b ∷ []) = Ok ((2, a), (3, b))
-two_words usage other = Err (word_count usage)
+two_words usage other = Err (word_count usage 2 2 (length other))
 
 unfoldable pub four_words : List ℕ → List (List ℕ) → Told (Numbered × Numbered × Numbered × Numbered)
 four_words usage (a ∷ b ∷ c ∷ d ∷ []) = Ok ((2, a), (3, b), (4, c), (5, d))
-four_words usage other = Err (word_count usage)
+four_words usage other = Err (word_count usage 4 4 (length other))
 
 -- the last of them may be left out
 unfoldable pub up_to_one_word : List ℕ → List (List ℕ) → Told (Option Numbered)
 up_to_one_word usage [] = Ok None
 up_to_one_word usage (a ∷ []) = Ok (Some (2, a))
-up_to_one_word usage other = Err (word_count usage)
+up_to_one_word usage other = Err (word_count usage 0 1 (length other))
 
 unfoldable pub one_or_two_words : List ℕ → List (List ℕ) → Told (Numbered × Option Numbered)
 one_or_two_words usage (a ∷ []) = Ok ((2, a), None)
 one_or_two_words usage (a ∷ b ∷ []) = Ok ((2, a), Some (3, b))
-one_or_two_words usage other = Err (word_count usage)
+one_or_two_words usage other = Err (word_count usage 1 2 (length other))
 
 unfoldable pub two_or_three_words : List ℕ → List (List ℕ) → Told (Numbered × Numbered × Option Numbered)
 two_or_three_words usage (a ∷ b ∷ []) = Ok ((2, a), (3, b), None)
 two_or_three_words usage (a ∷ b ∷ c ∷ []) = Ok ((2, a), (3, b), Some (4, c))
-two_or_three_words usage other = Err (word_count usage)
+two_or_three_words usage other = Err (word_count usage 2 3 (length other))
 
 -- ---- what a word spells
 
@@ -114,13 +113,13 @@ or_told None text = Err text
 
 -- a word that spells one value
 abbrev pub one_of : {A : Type 0} → (List ℕ → Option A) → Form → Numbered → Told A
-one_of spelled form (number, text) = or_told (spelled text) (misspelled (at_word number text) form)
+one_of spelled form (number, text) = or_told (spelled text) (misspelled_word number text form)
 
 -- what entries of a word spell, the first of them at a place
 unfoldable pub listed : {A : Type 0} → (List ℕ → Option A) → Form → ℕ → ℕ → List (List ℕ) → Told (List A)
 listed spelled form word place [] = Ok []
 listed spelled form word place (text ∷ texts) = do
-  x ← or_told (spelled text) (misspelled (at_entry word place text) form)
+  x ← or_told (spelled text) (misspelled_entry word place text form)
   xs ← listed spelled form word (place + 1) texts
   Ok (x ∷ xs)
 
@@ -130,11 +129,10 @@ list_of spelled form (number, text) =
     if nat_lt 64 (length (entries text)) then Err (many_entries number text)
     else listed spelled form number 1 (entries text)
 
--- the bytes that pairs of hexadecimal digits write; `-` for none
+-- the bytes that pairs of hexadecimal digits write; `-` for none. Digits alone that are no pairs are odd in number
 abbrev pub decoded : ℕ → List ℕ → Result (List ℕ) FromHexError → Told (List ℕ)
 decoded number text (Ok bytes) = Ok bytes
-decoded number text (Err OddLength) = Err (odd_digits number text)
-decoded number text (Err other) = Err (bad_digit number text)
+decoded number text (Err other) = Err (if list_all is_hex_digit text then odd_digits number text else bad_digit number text)
 
 unfoldable pub bytes_of : Numbered → Told (List ℕ)
 bytes_of (number, text) = if is_none text then Ok [] else decoded number text (decode_of text)

@@ -3,6 +3,7 @@ ghost use Rattle.std.specs.Prelude.{◌≡◌};
 ghost use Rattle.words.specs.declared.fault.Fault.TheVariants.{Refused};
 ghost use Rattle.words.specs.declared.fault.Problem.TheVariants.{Memory, Told};
 
+use crate::phrase::{Commas, Found, Miscount, Misfit, Wanted, WayOn};
 use crate::place::{Place, Word};
 use std::alloc::{AllocError, AllocFailed};
 use std::fmt;
@@ -22,7 +23,8 @@ pub enum Form {
 pub enum Fault<'a> {
     LongLine,
     UnknownCommand(Word<'a>),
-    WordCount(&'static str),
+    UnknownTopic(Word<'a>),
+    WordCount(Miscount),
     UnequalLists,
     Misspelled(Place<'a>, Form),
     ManyEntries(Word<'a>),
@@ -78,22 +80,6 @@ impl<'a, T: Drop> From<AllocFailed<T>> for Problem<'a> {
     }
 }
 
-impl fmt::Display for Form {
-    ghost use Rattle.std.specs.Prelude.{Some};
-    ghost use Rattle.words.specs.Texts.{form_text};
-
-    ghost output = { λ form. Some (form_text form) };
-
-    fn fmt<W: fmt::Write>(&self, f: &mut fmt::Formatter<W>) -> fmt::Result {
-        f.write_str(match self {
-            Form::Unsigned => "number from 0 to 18446744073709551615",
-            Form::Signed => "number from -9223372036854775808 to 9223372036854775807",
-            Form::Pair => "pair a:b of numbers from 0 to 18446744073709551615",
-            Form::Lent => "number from 0 to 65536",
-        })
-    }
-}
-
 // The number of a refusal, and its values.
 #[derive(Drop)]
 struct ByNumber(Refusal);
@@ -117,7 +103,7 @@ impl fmt::Display for ByNumber {
 }
 
 // A refusal by its number, and any other fault as an error.
-#[tactic(auto, unfolding(crate::specs::Texts::at_word, crate::specs::Texts::long_line, crate::specs::Texts::unknown_command, crate::specs::Texts::word_count, crate::specs::Texts::unequal_lists, crate::specs::Texts::misspelled, crate::specs::Texts::many_entries, crate::specs::Texts::odd_digits, crate::specs::Texts::bad_digit))]
+#[tactic(auto, unfolding(crate::specs::Texts::at_word, crate::specs::Texts::long_line, crate::specs::Texts::unknown_command, crate::specs::Texts::unknown_topic, crate::specs::Texts::word_count, crate::specs::Texts::unequal_lists, crate::specs::Texts::misspelled_word, crate::specs::Texts::misspelled_entry, crate::specs::Texts::many_entries, crate::specs::Texts::odd_digits, crate::specs::Texts::bad_digit))]
 impl fmt::Display for Fault<'_> {
     ghost use Rattle.std.specs.Prelude.{Some};
     ghost use Rattle.words.specs.Texts.{fault_text};
@@ -129,21 +115,40 @@ impl fmt::Display for Fault<'_> {
             Fault::LongLine => f.write_str("error: the line is longer than 4096 bytes"),
             Fault::UnknownCommand(word) => write!(
                 f,
-                "error: word {word} is no command; help lists the commands"
+                "error: word {word} is no command; {}",
+                WayOn(word.text)
             ),
-            Fault::WordCount(usage) => write!(f, "error: wrong number of words; usage: {usage}"),
+            Fault::UnknownTopic(word) => write!(
+                f,
+                "error: word {word} is no topic of help; topics are the commands, the words of their usages (as LIST), words, refused, and the numbers from 1 to 11"
+            ),
+            Fault::WordCount(count) => write!(
+                f,
+                "error: wrong number of words behind the name: {} wanted, {}; usage: {}",
+                Wanted(*count),
+                Found(*count),
+                count.usage
+            ),
             Fault::UnequalLists => f.write_str(
                 "error: set takes as many strides as extents: words 4 and 5",
             ),
-            Fault::Misspelled(place, form) => write!(f, "error: {place} is no {form}"),
+            Fault::Misspelled(place, form) => match place {
+                Place::Word(word) => write!(f, "error: {place}{}", Misfit(*form, word.text)),
+                Place::Entry(_, entry) => write!(
+                    f,
+                    "error: {place}{}{}",
+                    Misfit(*form, entry.text),
+                    Commas(entry.text)
+                ),
+            },
             Fault::ManyEntries(word) => write!(f, "error: word {word} has more than 64 entries"),
             Fault::OddDigits(word) => write!(
                 f,
-                "error: word {word} has an odd number of hexadecimal digits"
+                "error: word {word} has an odd number of hexadecimal digits; a byte is two"
             ),
             Fault::BadDigit(word) => write!(
                 f,
-                "error: word {word} has a byte that is no hexadecimal digit"
+                "error: word {word} is not hexadecimal; a byte is two digits 0 to 9 or a to f, as 0f"
             ),
             Fault::Refused(why) => write!(f, "{}", ByNumber(*why)),
         }

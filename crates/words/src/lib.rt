@@ -2,6 +2,7 @@
 #![tactic(auto)]
 
 pub mod fault;
+pub mod phrase;
 pub mod place;
 pub mod spelled;
 pub mod word;

@@ -1,9 +1,13 @@
 // Words of a line, and what they spell.
 ghost use Rattle.std.specs.Prelude.{◌≡◌, ◌≤◌, IfOk, length, map, take, vec_len};
 ghost use Rattle.std.specs.Io.BufRead.{strip_last};
+ghost use Rattle.std.specs.List.{list_all};
+ghost use Rattle.hex.specs.Hex.{is_hex_digit};
+ghost use Rattle.words.specs.Texts.{fault_text, word_count};
 ghost use Rattle.words.specs.Words.{Tells, Gives, is_space, words, numbered, numbered_if, no_word, one_word, two_words, four_words, up_to_one_word, one_or_two_words, two_or_three_words, is_none, entries, one_of, list_of, listed, bytes_of};
 
 use crate::fault::{Fault, Problem};
+use crate::phrase::Miscount;
 use crate::place::{Place, Word};
 use crate::spelled::Spelled;
 use arrayvec::ArrayVec;
@@ -39,6 +43,13 @@ fn without_return(line: &[u8]) -> &[u8]
     }
 }
 
+// Whether each byte is a hexadecimal digit.
+fn are_hex_digits(text: &[u8]) -> bool
+    ensures { result ≡ list_all is_hex_digit text.now }
+{
+    text.iter().all(|byte| byte.is_ascii_hexdigit())
+}
+
 /// The first words between the spaces of a line, at most six.
 pub fn first_words(line: &[u8]) -> ArrayVec<&[u8], WORDS_MOST>
     ensures { map (λ text. text.now) result.items ≡ take 6 (words line.now) }
@@ -53,6 +64,19 @@ pub fn first_words(line: &[u8]) -> ArrayVec<&[u8], WORDS_MOST>
 }
 
 impl<'a> Words<'a> {
+    // The fault of a line with another number of words than a command takes.
+    fn miscounted(self, least: usize, most: usize) -> Fault<'a>
+        ensures { fault_text result ≡ word_count self.entry.usage.now least most
+            (length (map (λ text. text.now) self.entry.texts.now)) }
+    {
+        Fault::WordCount(Miscount {
+            usage: self.usage,
+            least,
+            most,
+            given: self.texts.len(),
+        })
+    }
+
     #[tactic(auto, unfolding(crate::specs::Words::no_word))]
     pub fn none(self) -> Result<(), Fault<'a>>
         ensures { Tells (λ none. none) result
@@ -60,7 +84,7 @@ impl<'a> Words<'a> {
     {
         match self.texts {
             [] => Ok(()),
-            [..] => Err(Fault::WordCount(self.usage)),
+            [..] => Err(self.miscounted(0, 0)),
         }
     }
 
@@ -71,7 +95,7 @@ impl<'a> Words<'a> {
     {
         match self.texts {
             [a] => Ok(Word::new(2, *a)),
-            [..] => Err(Fault::WordCount(self.usage)),
+            [..] => Err(self.miscounted(1, 1)),
         }
     }
 
@@ -82,7 +106,7 @@ impl<'a> Words<'a> {
     {
         match self.texts {
             [a, b] => Ok((Word::new(2, *a), Word::new(3, *b))),
-            [..] => Err(Fault::WordCount(self.usage)),
+            [..] => Err(self.miscounted(2, 2)),
         }
     }
 
@@ -98,7 +122,7 @@ impl<'a> Words<'a> {
                 Word::new(4, *c),
                 Word::new(5, *d),
             )),
-            [..] => Err(Fault::WordCount(self.usage)),
+            [..] => Err(self.miscounted(4, 4)),
         }
     }
 
@@ -111,7 +135,7 @@ impl<'a> Words<'a> {
         match self.texts {
             [] => Ok(None),
             [a] => Ok(Some(Word::new(2, *a))),
-            [..] => Err(Fault::WordCount(self.usage)),
+            [..] => Err(self.miscounted(0, 1)),
         }
     }
 
@@ -124,7 +148,7 @@ impl<'a> Words<'a> {
         match self.texts {
             [a] => Ok((Word::new(2, *a), None)),
             [a, b] => Ok((Word::new(2, *a), Some(Word::new(3, *b)))),
-            [..] => Err(Fault::WordCount(self.usage)),
+            [..] => Err(self.miscounted(1, 2)),
         }
     }
 
@@ -137,7 +161,7 @@ impl<'a> Words<'a> {
         match self.texts {
             [a, b] => Ok((Word::new(2, *a), Word::new(3, *b), None)),
             [a, b, c] => Ok((Word::new(2, *a), Word::new(3, *b), Some(Word::new(4, *c)))),
-            [..] => Err(Fault::WordCount(self.usage)),
+            [..] => Err(self.miscounted(2, 3)),
         }
     }
 }
@@ -201,7 +225,7 @@ impl<'a> Word<'a> {
         match hex::decode(alloc, self.text) {
             Ok(bytes) => Ok(bytes),
             Err(FromHexError::OutOfMemory) => Err(Problem::Memory),
-            Err(FromHexError::OddLength) => Err(Fault::OddDigits(self).into()),
+            Err(_) if are_hex_digits(self.text) => Err(Fault::OddDigits(self).into()),
             Err(_) => Err(Fault::BadDigit(self).into()),
         }
     }

@@ -1,6 +1,7 @@
 //! strided-rs, our library and a reference of our own, on the same inputs.
 
 pub mod examples;
+pub mod help;
 pub mod input;
 pub mod layouts;
 #[cfg(feature = "ours")]

@@ -1,5 +1,6 @@
 //! Random sessions of the program `layout`: lines, good and malformed, each with what it answers.
 
+use crate::help::TOPICS;
 use crate::input::{Input, Layout, List};
 use crate::random::{Random, EXTENTS, STEPS};
 use crate::reference::words_needed;
@@ -187,8 +188,8 @@ impl Maker<'_> {
                 command("rest", &[self.hexadecimal(&all)])
             }
             9 => {
-                let name = name(random);
-                command("help", &[word(name)])
+                let topic = if random.once_in(2) { name(random) } else { random.pick(&TOPICS) };
+                command("help", &[word(topic)])
             }
             10 if random.once_in(4) => command("help", &[]),
             10 | 11 => self.enumerated(),
@@ -423,11 +424,12 @@ impl Maker<'_> {
 
     /// Another name, or nearly one.
     fn spoil_name(&mut self, named: &mut Word) {
-        match self.below(5) {
+        match self.below(6) {
             0 => named.make_ascii_uppercase(),
             1 => named.truncate(named.len() - 1),
             2 => named.extend(self.piece()),
             3 => *named = word(name(self.random)),
+            4 => *named = word(self.random.pick(&["exit", "quit", "end", "bye"])),
             _ => self.spoil_bytes(named),
         }
     }

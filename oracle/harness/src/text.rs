@@ -2,7 +2,7 @@
 
 use crate::input::{joined, Answer, Given, Input, Layout, List};
 use crate::record::{self, Refused};
-use crate::{reference, rust};
+use crate::{help, reference, rust};
 use std::fmt::{self, Display};
 
 /// Bytes of a line, its line feed not counted.
@@ -36,7 +36,7 @@ pub const COMMANDS: [(&str, &str); 18] = [
     ("order STRIDES OUTLEN", "the index order of strides, into OUTLEN places"),
     ("column EXTENTS", "dense strides, the first axis the densest"),
     ("row EXTENTS", "dense strides, the last axis the densest"),
-    ("help [COMMAND]", "what a command does, or each of them"),
+    ("help [TOPIC]", "what a command does, a word of a usage is, or a refusal means; alone, every command"),
 ];
 
 /// Why a line is not answered by its command.
@@ -97,6 +97,19 @@ fn number(text: &[u8], (least, most): (i128, i128)) -> Option<i128> {
     (least <= number && number <= most).then_some(number)
 }
 
+/// Whether a text is a number, however large.
+fn is_number(text: &[u8]) -> bool {
+    let digits = text.strip_prefix(b"-").unwrap_or(text);
+    !digits.is_empty() && digits.iter().all(u8::is_ascii_digit)
+}
+
+/// What should stand somewhere.
+#[derive(Clone, Copy)]
+enum What {
+    Number((i128, i128)),
+    Pair,
+}
+
 /// The words of a line, counted from 1.
 struct Words<'a>(Vec<&'a [u8]>);
 
@@ -109,8 +122,23 @@ impl<'a> Words<'a> {
         Stop::error(format_args!("word {place} ({}) {why}", Shown(self.word(place))))
     }
 
+    /// The fault of a word, or of an entry of it, that is not what should stand there.
+    fn misfit(&self, place: usize, entry: Option<usize>, text: &[u8], what: What) -> Stop {
+        let number = is_number(text);
+        let entry = entry.map(|index| format!(", entry {}", index + 1));
+        let commas = if entry.is_some() && !number { ", and commas between the entries" } else { "" };
+        let why = match what {
+            What::Pair => "no pair of axes: write a:b, as 0:1".to_string(),
+            What::Number((least, most)) if number => format!("outside the range from {least} to {most}"),
+            What::Number((0, _)) => "no number: write digits, as 24".to_string(),
+            What::Number(_) => "no number: write digits, as 24 or -24".to_string(),
+        };
+        Stop::error(format_args!("word {place}{} ({}) is {why}{commas}", entry.unwrap_or_default(), Shown(text)))
+    }
+
     fn number(&self, place: usize, range: (i128, i128)) -> Said<i128> {
-        number(self.word(place), range).ok_or_else(|| self.fault(place, format_args!("is no number from {} to {}", range.0, range.1)))
+        let word = self.word(place);
+        number(word, range).ok_or_else(|| self.misfit(place, None, word, What::Number(range)))
     }
 
     fn entries(&self, place: usize) -> Said<Vec<&'a [u8]>> {
@@ -125,20 +153,18 @@ impl<'a> Words<'a> {
     }
 
     /// What each entry of a list spells.
-    fn list<T>(&self, place: usize, what: impl Display, spelled: impl Fn(&[u8]) -> Option<T>) -> Said<Vec<T>> {
+    fn list<T>(&self, place: usize, what: What, spelled: impl Fn(&[u8]) -> Option<T>) -> Said<Vec<T>> {
         let entries = self.entries(place)?;
-        let spelled = |(index, entry): (usize, &&[u8])| {
-            spelled(entry).ok_or_else(|| Stop::error(format_args!("word {place}, entry {} ({}) is no {what}", index + 1, Shown(entry))))
-        };
+        let spelled = |(index, entry): (usize, &&[u8])| spelled(entry).ok_or_else(|| self.misfit(place, Some(index), entry, what));
         entries.iter().enumerate().map(spelled).collect()
     }
 
     fn unsigned(&self, place: usize) -> Said<Vec<u64>> {
-        self.list(place, format_args!("number from {} to {}", UNSIGNED.0, UNSIGNED.1), |entry| number(entry, UNSIGNED).map(|number| number as u64))
+        self.list(place, What::Number(UNSIGNED), |entry| number(entry, UNSIGNED).map(|number| number as u64))
     }
 
     fn signed(&self, place: usize) -> Said<Vec<i64>> {
-        self.list(place, format_args!("number from {} to {}", SIGNED.0, SIGNED.1), |entry| number(entry, SIGNED).map(|number| number as i64))
+        self.list(place, What::Number(SIGNED), |entry| number(entry, SIGNED).map(|number| number as i64))
     }
 
     /// The numbers of each pair, one after the other.
@@ -147,7 +173,7 @@ impl<'a> Words<'a> {
             let colon = entry.iter().position(|&byte| byte == b':')?;
             Some([number(&entry[..colon], UNSIGNED)? as u64, number(&entry[colon + 1..], UNSIGNED)? as u64])
         };
-        Ok(self.list(place, "pair a:b of numbers from 0 to 18446744073709551615", pair)?.concat())
+        Ok(self.list(place, What::Pair, pair)?.concat())
     }
 
     fn bytes(&self, place: usize) -> Said<Vec<u8>> {
@@ -155,12 +181,12 @@ impl<'a> Words<'a> {
         if word == b"-" {
             return Ok(vec![]);
         }
-        if word.len() % 2 == 1 {
-            return Err(self.fault(place, "has an odd number of hexadecimal digits"));
-        }
         let digit = |&byte: &u8| (byte as char).to_digit(16).map(|digit| digit as u8);
         let digits: Option<Vec<u8>> = word.iter().map(digit).collect();
-        let digits = digits.ok_or_else(|| self.fault(place, "has a byte that is no hexadecimal digit"))?;
+        let digits = digits.ok_or_else(|| self.fault(place, "is not hexadecimal; a byte is two digits 0 to 9 or a to f, as 0f"))?;
+        if digits.len() % 2 == 1 {
+            return Err(self.fault(place, "has an odd number of hexadecimal digits; a byte is two"));
+        }
         Ok(digits.chunks(2).map(|two| 16 * two[0] + two[1]).collect())
     }
 
@@ -201,6 +227,14 @@ fn command(word: &[u8]) -> Option<usize> {
     COMMANDS.iter().position(|(usage, _)| usage.split(' ').next().expect("a name").as_bytes() == word)
 }
 
+/// How many words a command takes behind its name, and how many a line has.
+fn counted(least: usize, most: usize, given: usize) -> String {
+    let wanted = if least < most { format!("{least} or {most}") } else { most.to_string() };
+    let given_text = if given < 5 { given.to_string() } else { "more than 4".to_string() };
+    let no_space = if most > 0 && given > most { " (no space within a list)" } else { "" };
+    format!("{wanted} wanted, {given_text} given{no_space}")
+}
+
 fn help(place: usize) -> String {
     format!("{}: {}", COMMANDS[place].0, COMMANDS[place].1)
 }
@@ -237,20 +271,25 @@ impl Session {
     }
 
     fn obey(&mut self, words: &Words) -> Said<Vec<String>> {
-        let known = |place| command(words.word(place)).ok_or_else(|| words.fault(place, "is no command; help lists the commands"));
-        let usage = COMMANDS[known(1)?].0;
+        let way_on = match words.word(1) {
+            b"exit" | b"quit" | b"end" | b"bye" => "to end, end the input (Ctrl-D at a terminal)",
+            _ => "help lists the commands",
+        };
+        let place = command(words.word(1)).ok_or_else(|| words.fault(1, format_args!("is no command; {way_on}")))?;
+        let usage = COMMANDS[place].0;
         let most = usage.split(' ').count();
         let least = most - usage.matches('[').count();
         if !(least..=most).contains(&words.0.len()) {
-            return Err(Stop::error(format_args!("wrong number of words; usage: {usage}")));
+            return Err(Stop::error(format_args!("wrong number of words behind the name: {}; usage: {usage}", counted(least - 1, most - 1, words.0.len() - 1))));
         }
         if words.word(1) != b"help" {
             return Ok(vec![self.called(words)?]);
         }
         if words.0.len() == 1 {
-            return Ok((0..COMMANDS.len()).map(help).collect());
+            return Ok((0..COMMANDS.len()).map(help).chain(help::MORE.map(str::to_string)).collect());
         }
-        Ok(vec![help(known(2)?)])
+        let topic = command(words.word(2)).map(|place| vec![help(place)]).or_else(|| help::topic(words.word(2)));
+        topic.ok_or_else(|| words.fault(2, "is no topic of help; topics are the commands, the words of their usages (as LIST), words, refused, and the numbers from 1 to 11"))
     }
 
     /// A command that calls the library.

@@ -1,5 +1,5 @@
 use Rattle.std.proofs.Common.{rules, ◌+◌, Err, sym, ap, ◌∙◌, refl}
-use Rattle.words.specs.Texts.{at_entry, misspelled}
+use Rattle.words.specs.Texts.{misspelled_entry}
 use Rattle.words.specs.Words.{listed}
 use Rattle.words.proofs.Listed.{with_front, goes_on, stops, ends, drop_map, drop_map_end}
 use Rattle.words.proofs.word.spelled_by.Goals as goal
@@ -11,7 +11,7 @@ returns-in-None-clause-spelled g c =
     sym c.loop-text.invariant.so_far
     ∙ ap (λ texts. with_front c.loop-text.list.items (listed spelled g.T.Spelled.form c.args.word (c.loop-text.text-index + 1) texts)) rest
     ∙ stops spelled g.T.Spelled.form c.args.word (c.loop-text.text-index + 1) c.loop-text.list.items _ _ c.in-None.ensures
-    ∙ rw c.form.ensures (ap (λ w. Err (misspelled (at_entry c.args.word w.0 w.1) g.T.Spelled.form)) (sym (c.new.ensures ∙ rw (c.len.ensures, c.loop-text.invariant.one_each) refl)))
+    ∙ rw c.form.ensures (ap (λ w. Err (misspelled_entry c.args.word w.0 w.1 g.T.Spelled.form)) (sym (c.new.ensures ∙ rw (c.len.ensures, c.loop-text.invariant.one_each) refl)))
 
 pub loop-text-preserved : goal.loop-text-preserved
 loop-text-preserved g c =
