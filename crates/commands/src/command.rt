@@ -155,7 +155,8 @@ impl Command {
                 "make a layout current with no check; of more than 16 axes the first 16 are held"
             }
             Command::Query(Query::Show) => "the current layout, as LEN OFFSET EXTENTS STRIDES",
-            Command::Query(Query::Draw) => "the cells that the current layout reaches, each with the positions that share it; at most 200 positions",
+            Command::Query(Query::Draw) =>
+                "the cells that the current layout reaches, each with the positions that share it; at most 200 positions",
             Command::Change(Change::Permute) => "put the axes into the order of the list",
             Command::Change(Change::Diagonal) => "tie the axes of each pair a:b into one",
             Command::Change(Change::Broadcast) =>
