@@ -5,7 +5,7 @@ use Rattle.std.specs.Cmp.Lexicographic.{pointwise}
 use Rattle.commands.specs.declared.command.Command.{Command}
 use Rattle.commands.specs.declared.command.Command.TheVariants as command
 use Rattle.commands.specs.declared.command.Change.TheVariants.{New, Set, Permute, Diagonal, Broadcast, Read}
-use Rattle.commands.specs.declared.command.Query.TheVariants.{Bounds, Show, Offset, Normal, Verdict, Injective, Record, Rest, Order, Column, Row, Help}
+use Rattle.commands.specs.declared.command.Query.TheVariants.{Bounds, Show, Draw, Offset, Normal, Verdict, Injective, Record, Rest, Order, Column, Row, Help}
 
 -- the word that a line begins with
 unfoldable pub name_of : Command → List ℕ
@@ -13,6 +13,7 @@ name_of (command.Change New) = codes "new"
 name_of (command.Query Bounds) = codes "bounds"
 name_of (command.Change Set) = codes "set"
 name_of (command.Query Show) = codes "show"
+name_of (command.Query Draw) = codes "draw"
 name_of (command.Change Permute) = codes "permute"
 name_of (command.Change Diagonal) = codes "diagonal"
 name_of (command.Change Broadcast) = codes "broadcast"
@@ -34,6 +35,7 @@ usage_of (command.Change New) = codes "new LEN OFFSET EXTENTS STRIDES"
 usage_of (command.Query Bounds) = codes "bounds LEN OFFSET EXTENTS STRIDES"
 usage_of (command.Change Set) = codes "set LEN OFFSET EXTENTS STRIDES"
 usage_of (command.Query Show) = codes "show"
+usage_of (command.Query Draw) = codes "draw"
 usage_of (command.Change Permute) = codes "permute LIST"
 usage_of (command.Change Diagonal) = codes "diagonal PAIRS"
 usage_of (command.Change Broadcast) = codes "broadcast LIST"
@@ -55,6 +57,7 @@ meaning_of (command.Change New) = codes "check a layout in and make it current"
 meaning_of (command.Query Bounds) = codes "check the bounds of a layout; the current one stays"
 meaning_of (command.Change Set) = codes "make a layout current with no check; of more than 16 axes the first 16 are held"
 meaning_of (command.Query Show) = codes "the current layout, as LEN OFFSET EXTENTS STRIDES"
+meaning_of (command.Query Draw) = codes "the cells that the current layout reaches, each with the positions that share it; at most 200 positions"
 meaning_of (command.Change Permute) = codes "put the axes into the order of the list"
 meaning_of (command.Change Diagonal) = codes "tie the axes of each pair a:b into one"
 meaning_of (command.Change Broadcast) = codes "stretch axes of extent 1 to the extents of the list"
@@ -77,7 +80,7 @@ help_line command = usage_of command ++ codes ": " ++ meaning_of command
 -- every command, in the order of `help`
 abbrev pub commands : List Command
 commands =
-    command.Change New ∷ command.Query Bounds ∷ command.Change Set ∷ command.Query Show ∷ command.Change Permute
+    command.Change New ∷ command.Query Bounds ∷ command.Change Set ∷ command.Query Show ∷ command.Query Draw ∷ command.Change Permute
     ∷ command.Change Diagonal ∷ command.Change Broadcast ∷ command.Query Offset ∷ command.Query Normal ∷ command.Query Verdict
     ∷ command.Query Injective ∷ command.Query Record ∷ command.Change Read ∷ command.Query Rest ∷ command.Query Order
     ∷ command.Query Column ∷ command.Query Row ∷ command.Query Help ∷ []

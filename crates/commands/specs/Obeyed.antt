@@ -20,14 +20,15 @@ use Rattle.commands.specs.declared.command.Command.TheVariants as command
 use Rattle.commands.specs.declared.command.Change.{Change}
 use Rattle.commands.specs.declared.command.Change.TheVariants.{New, Set, Permute, Diagonal, Broadcast, Read}
 use Rattle.commands.specs.declared.command.Query.{Query}
-use Rattle.commands.specs.declared.command.Query.TheVariants.{Bounds, Show, Offset, Normal, Verdict, Injective, Record, Rest, Order, Column, Row, Help}
+use Rattle.commands.specs.declared.command.Query.TheVariants.{Bounds, Show, Draw, Offset, Normal, Verdict, Injective, Record, Rest, Order, Column, Row, Help}
 use Rattle.words.specs.declared.fault.Form.TheVariants.{Unsigned, Signed, Pair, Lent}
 use Rattle.commands.specs.Commands.{named, usage_of}
 use Rattle.commands.specs.Topics.{topic_named, topic_text, all_help}
 use Rattle.commands.specs.Replies.{bytes_text}
+use Rattle.drawing.specs.Drawn.{Picture, picture, too_many, drawn}
 use Rattle.view.specs.Printed.{list_text, layout_text}
 use Rattle.words.specs.Spelled.{unsigned, signed, lent, pair}
-use Rattle.words.specs.Texts.{refusal_text, unknown_command, unknown_topic, unequal_lists}
+use Rattle.words.specs.Texts.{refusal_text, unknown_command, unknown_topic, unequal_lists, too_many_to_draw}
 use Rattle.words.specs.Words.{Told, ◌>>=◌, Numbered, no_word, one_word, two_words, four_words, up_to_one_word, one_or_two_words, two_or_three_words, one_of, list_of, bytes_of}
 
 -- what a call answers, or its refusal as a text
@@ -134,6 +135,16 @@ offset_text l index = do
   offset ← told (indexed_offset l index)
   Ok (signed_decimal offset)
 
+-- a picture, or the error of a layout with too many positions
+abbrev pub drawn_or_told : Picture → Told (List ℕ)
+drawn_or_told (picture text) = Ok text
+drawn_or_told (too_many count) = Err (too_many_to_draw count)
+
+unfoldable pub drawn_text : LayoutModel → Told (List ℕ)
+drawn_text l = do
+  drawn ← told (drawn l)
+  drawn_or_told drawn
+
 unfoldable pub normal_text : LayoutModel → Told (List ℕ)
 normal_text l = do
   form ← told (normal_form l)
@@ -199,6 +210,9 @@ answer_text l Bounds usage words = do
 answer_text l Show usage words = do
   none ← no_word usage words
   Ok (layout_text l)
+answer_text l Draw usage words = do
+  none ← no_word usage words
+  drawn_text l
 answer_text l Offset usage words = do
   index ← one_word usage words
   offset_text l index

@@ -5,6 +5,7 @@ use Rattle.hex.specs.Hex.{encode_lower}
 use Rattle.view.specs.Model.{model_of}
 use Rattle.view.specs.Printed.{list_text, layout_text}
 use Rattle.injectivity.specs.Text.{judgement_text}
+use Rattle.drawing.specs.Drawn.{picture_text}
 use Rattle.commands.specs.declared.reply.Reply.{Reply}
 use Rattle.commands.specs.declared.reply.Reply.TheVariants as reply
 use Rattle.commands.specs.Topics.{topic_text, all_help}
@@ -18,6 +19,7 @@ bytes_text (byte ∷ bytes) = encode_lower (byte ∷ bytes)
 abbrev pub reply_text : Reply → List ℕ
 reply_text reply.Done = codes "ok"
 reply_text (reply.Current l) = layout_text (model_of l)
+reply_text (reply.Drawn drawing) = picture_text (model_of drawing.layout)
 reply_text (reply.Offset z) = signed_decimal z
 reply_text (reply.Judged judgement) = judgement_text judgement
 reply_text (reply.Bytes digits) = string_bytes digits

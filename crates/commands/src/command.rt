@@ -20,6 +20,7 @@ pub enum Change {
 pub enum Query {
     Bounds,
     Show,
+    Draw,
     Offset,
     Normal,
     Verdict,
@@ -39,11 +40,12 @@ pub enum Command {
 }
 
 /// Each command, in the order of `help`.
-pub const COMMANDS: [Command; 18] = [
+pub const COMMANDS: [Command; 19] = [
     Command::Change(Change::New),
     Command::Query(Query::Bounds),
     Command::Change(Change::Set),
     Command::Query(Query::Show),
+    Command::Query(Query::Draw),
     Command::Change(Change::Permute),
     Command::Change(Change::Diagonal),
     Command::Change(Change::Broadcast),
@@ -75,6 +77,7 @@ impl Command {
             Command::Query(Query::Bounds) => "bounds",
             Command::Change(Change::Set) => "set",
             Command::Query(Query::Show) => "show",
+            Command::Query(Query::Draw) => "draw",
             Command::Change(Change::Permute) => "permute",
             Command::Change(Change::Diagonal) => "diagonal",
             Command::Change(Change::Broadcast) => "broadcast",
@@ -122,6 +125,7 @@ impl Command {
             Command::Query(Query::Bounds) => "bounds LEN OFFSET EXTENTS STRIDES",
             Command::Change(Change::Set) => "set LEN OFFSET EXTENTS STRIDES",
             Command::Query(Query::Show) => "show",
+            Command::Query(Query::Draw) => "draw",
             Command::Change(Change::Permute) => "permute LIST",
             Command::Change(Change::Diagonal) => "diagonal PAIRS",
             Command::Change(Change::Broadcast) => "broadcast LIST",
@@ -151,6 +155,8 @@ impl Command {
                 "make a layout current with no check; of more than 16 axes the first 16 are held"
             }
             Command::Query(Query::Show) => "the current layout, as LEN OFFSET EXTENTS STRIDES",
+            Command::Query(Query::Draw) =>
+                "the cells that the current layout reaches, each with the positions that share it; at most 200 positions",
             Command::Change(Change::Permute) => "put the axes into the order of the list",
             Command::Change(Change::Diagonal) => "tie the axes of each pair a:b into one",
             Command::Change(Change::Broadcast) =>

@@ -10,7 +10,7 @@ use crate::change::{broadcast, diagonal, new_layout, permute, read, set_layout};
 use crate::command::{Change, Command, Query};
 use crate::memory::Memory;
 use crate::query::{
-    bounds, column, help, injective, normal, offset, order, record, rest, row, verdict,
+    bounds, column, draw, help, injective, normal, offset, order, record, rest, row, verdict,
 };
 use crate::reply::Reply;
 use std::alloc::Global;
@@ -60,6 +60,10 @@ fn answer<'a>(
         Query::Show => {
             words.none()?;
             Ok(Reply::Current(*current))
+        }
+        Query::Draw => {
+            words.none()?;
+            Ok(draw(current)?)
         }
         Query::Offset => offset(alloc, current, words.one()?),
         Query::Normal => {

@@ -9,7 +9,7 @@ ghost use Rattle.injectivity.specs.Judgement.{axes_judged, judged_of, told_of};
 ghost use Rattle.commands.specs.Scratch.{bytes_made, front_written};
 ghost use Rattle.commands.specs.Asking.{are_placed, is_lent, is_lent_if};
 ghost use Rattle.commands.specs.Replies.{reply_text};
-ghost use Rattle.commands.specs.Obeyed.{or_most, bounds_text, offset_text, normal_text, verdict_of, injective_text, record_text, rest_text, order_text, dense_text, help_text};
+ghost use Rattle.commands.specs.Obeyed.{or_most, bounds_text, offset_text, drawn_text, normal_text, verdict_of, injective_text, record_text, rest_text, order_text, dense_text, help_text};
 
 use crate::change::{Four, Given};
 use crate::memory::{Memory, lend};
@@ -18,6 +18,7 @@ use crate::scratch::{lacking, words_given};
 use crate::topic::Topic;
 use auxiliary::index_order_into;
 use dense::{checked_col_major_strides, checked_row_major_strides};
+use drawing::drawing::Drawn;
 use injectivity::{Judgement, is_injective_layout, judge_layout};
 use record::fields::BytePlace;
 use record::normal::normal_form;
@@ -54,6 +55,17 @@ pub fn offset<'a>(alloc: Global, current: &Layout, index: Word<'a>) -> Result<Re
     let index = index.list(alloc)?;
     let ReadingOffset(offset) = current.indexed_offset(index.as_slice())?;
     Ok(Reply::Offset(offset))
+}
+
+/// A picture of the current layout.
+#[tactic(auto, unfolding(crate::specs::Obeyed::drawn_text))]
+pub fn draw<'a>(current: &Layout) -> Result<Reply, Fault<'a>>
+    ensures { Tells reply_text result (drawn_text (model_of current.now)) }
+{
+    match drawing::picture::draw(current)? {
+        Drawn::Picture(drawing) => Ok(Reply::Drawn(drawing)),
+        Drawn::TooMany(count) => Err(Fault::TooManyToDraw(count)),
+    }
 }
 
 /// The normal form of the current layout.

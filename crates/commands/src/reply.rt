@@ -1,6 +1,7 @@
 // What an obeyed line answers.
 use crate::topic::{AllHelp, Topic};
 use dense::DenseStrides;
+use drawing::drawing::Drawing;
 use injectivity::Judgement;
 use std::alloc::{AllocError, Global};
 use std::fmt;
@@ -11,6 +12,7 @@ use view::list::List;
 pub enum Reply {
     Done,
     Current(Layout),
+    Drawn(Drawing),
     Offset(i64),
     Judged(Judgement),
     Bytes(String),
@@ -45,6 +47,7 @@ impl fmt::Display for Reply {
         match self {
             Reply::Done => f.write_str("ok"),
             Reply::Current(layout) => write!(f, "{layout}"),
+            Reply::Drawn(drawing) => write!(f, "{drawing}"),
             Reply::Offset(offset) => write!(f, "{offset}"),
             Reply::Judged(judgement) => write!(f, "{judgement}"),
             Reply::Bytes(digits) => f.write_str(digits.as_str()),

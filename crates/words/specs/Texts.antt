@@ -12,7 +12,7 @@ use Rattle.words.specs.declared.place.Place.TheVariants as place
 use Rattle.words.specs.declared.fault.Form.{Form}
 use Rattle.words.specs.declared.fault.Form.TheVariants.{Unsigned, Signed, Pair, Lent}
 use Rattle.words.specs.declared.fault.Fault.{Fault}
-use Rattle.words.specs.declared.fault.Fault.TheVariants.{LongLine, UnknownCommand, UnknownTopic, WordCount, UnequalLists, Misspelled, ManyEntries, OddDigits, BadDigit, Refused}
+use Rattle.words.specs.declared.fault.Fault.TheVariants.{LongLine, UnknownCommand, UnknownTopic, WordCount, UnequalLists, Misspelled, ManyEntries, OddDigits, BadDigit, TooManyToDraw, Refused}
 
 -- ---- where a fault is
 
@@ -128,6 +128,9 @@ odd_digits number text = codes "error: " ++ at_word number text ++ codes " has a
 unfoldable pub bad_digit : ℕ → List ℕ → List ℕ
 bad_digit number text = codes "error: " ++ at_word number text ++ codes " is not hexadecimal; a byte is two digits 0 to 9 or a to f, as 0f"
 
+unfoldable pub too_many_to_draw : ℕ → List ℕ
+too_many_to_draw count = codes "error: draw shows at most 200 positions; the layout has " ++ decimal count
+
 -- the line that a fault is answered with
 abbrev pub fault_text : Fault → List ℕ
 fault_text LongLine = long_line
@@ -140,4 +143,5 @@ fault_text (Misspelled (place.Entry word w) form) = misspelled_entry word w.numb
 fault_text (ManyEntries w) = many_entries w.number w.text.now
 fault_text (OddDigits w) = odd_digits w.number w.text.now
 fault_text (BadDigit w) = bad_digit w.number w.text.now
+fault_text (TooManyToDraw count) = too_many_to_draw count
 fault_text (Refused why) = told_refusal why

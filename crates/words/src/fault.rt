@@ -30,6 +30,7 @@ pub enum Fault<'a> {
     ManyEntries(Word<'a>),
     OddDigits(Word<'a>),
     BadDigit(Word<'a>),
+    TooManyToDraw(u64),
     Refused(Refusal),
 }
 
@@ -103,7 +104,7 @@ impl fmt::Display for ByNumber {
 }
 
 // A refusal by its number, and any other fault as an error.
-#[tactic(auto, unfolding(crate::specs::Texts::at_word, crate::specs::Texts::long_line, crate::specs::Texts::unknown_command, crate::specs::Texts::unknown_topic, crate::specs::Texts::word_count, crate::specs::Texts::unequal_lists, crate::specs::Texts::misspelled_word, crate::specs::Texts::misspelled_entry, crate::specs::Texts::many_entries, crate::specs::Texts::odd_digits, crate::specs::Texts::bad_digit))]
+#[tactic(auto, unfolding(crate::specs::Texts::at_word, crate::specs::Texts::long_line, crate::specs::Texts::unknown_command, crate::specs::Texts::unknown_topic, crate::specs::Texts::word_count, crate::specs::Texts::unequal_lists, crate::specs::Texts::misspelled_word, crate::specs::Texts::misspelled_entry, crate::specs::Texts::many_entries, crate::specs::Texts::odd_digits, crate::specs::Texts::bad_digit, crate::specs::Texts::too_many_to_draw))]
 impl fmt::Display for Fault<'_> {
     ghost use Rattle.std.specs.Prelude.{Some};
     ghost use Rattle.words.specs.Texts.{fault_text};
@@ -149,6 +150,10 @@ impl fmt::Display for Fault<'_> {
             Fault::BadDigit(word) => write!(
                 f,
                 "error: word {word} is not hexadecimal; a byte is two digits 0 to 9 or a to f, as 0f"
+            ),
+            Fault::TooManyToDraw(count) => write!(
+                f,
+                "error: draw shows at most 200 positions; the layout has {count}"
             ),
             Fault::Refused(why) => write!(f, "{}", ByNumber(*why)),
         }

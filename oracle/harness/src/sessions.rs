@@ -166,7 +166,7 @@ impl Maker<'_> {
         let layout = self.session.layout;
         let random = &mut *self.random;
         match random.below(20) {
-            0 => command("show", &[]),
+            0 => self.drawn(),
             1 => command("normal", &[]),
             2 | 3 => {
                 let scratch = self.scratch(layout.extents(), layout.strides());
@@ -222,6 +222,24 @@ impl Maker<'_> {
                 self.called(&input)
             }
         }
+    }
+
+    /// A picture: of the current layout, or of one with about as many positions as are drawn or fewer, where most positions share cells.
+    fn drawn(&mut self) -> Vec<Word> {
+        if self.once_in(4) {
+            return command("draw", &[]);
+        }
+        let (mut extents, mut strides, mut most) = (vec![], vec![], if self.once_in(4) { 220 } else { 40 });
+        for _ in 0..self.below(5) {
+            let extent = if self.once_in(16) { 0 } else { self.random.between(1, most) };
+            most /= extent.max(1);
+            extents.push(extent);
+            strides.push(if extent < 2 { self.random.step() } else { self.random.between(0, 8) as i64 - 4 });
+        }
+        let offset = if self.once_in(8) { self.random.below(40) as i64 } else { 1000 };
+        let words = checked_in("set", self.random.between(1000, 2000), offset, &extents, &strides);
+        self.ask(line(&words));
+        command("draw", &[])
     }
 
     fn record(&mut self, layout: &Layout) -> Vec<Word> {

@@ -3,6 +3,7 @@
 use crate::input::{joined, Answer, Given, Input, Layout, List};
 use crate::record::{self, Refused};
 use crate::{help, reference, rust};
+use std::collections::BTreeMap;
 use std::fmt::{self, Display};
 
 /// Bytes of a line, its line feed not counted.
@@ -11,6 +12,8 @@ pub const LONGEST: usize = 4096;
 const ENTRIES: usize = 64;
 /// The most that WORDS and ROOM may be.
 const LENT: i128 = 65_536;
+/// The most positions that are drawn.
+const DRAWN: u64 = 200;
 /// The words that are lent where WORDS is left out: no verdict needs more.
 const ANY_WORDS: usize = 16_777_217;
 
@@ -18,11 +21,12 @@ const UNSIGNED: (i128, i128) = (0, u64::MAX as i128);
 const SIGNED: (i128, i128) = (i64::MIN as i128, i64::MAX as i128);
 
 /// Each command with its words, those in brackets may be left out, and what it does.
-pub const COMMANDS: [(&str, &str); 18] = [
+pub const COMMANDS: [(&str, &str); 19] = [
     ("new LEN OFFSET EXTENTS STRIDES", "check a layout in and make it current"),
     ("bounds LEN OFFSET EXTENTS STRIDES", "check the bounds of a layout; the current one stays"),
     ("set LEN OFFSET EXTENTS STRIDES", "make a layout current with no check; of more than 16 axes the first 16 are held"),
     ("show", "the current layout, as LEN OFFSET EXTENTS STRIDES"),
+    ("draw", "the cells that the current layout reaches, each with the positions that share it; at most 200 positions"),
     ("permute LIST", "put the axes into the order of the list"),
     ("diagonal PAIRS", "tie the axes of each pair a:b into one"),
     ("broadcast LIST", "stretch axes of extent 1 to the extents of the list"),
@@ -239,6 +243,31 @@ fn help(place: usize) -> String {
     format!("{}: {}", COMMANDS[place].0, COMMANDS[place].1)
 }
 
+/// The positions of a layout, cell by cell; refused as its normal form is.
+fn drawn(layout: &Layout) -> Said<Vec<String>> {
+    record::normal_form(layout).map_err(refused)?;
+    let (extents, strides) = (layout.extents(), layout.strides());
+    let positions: u64 = if extents.contains(&0) { 0 } else { extents.iter().product() };
+    if positions > DRAWN {
+        return Err(Stop::error(format_args!("draw shows at most {DRAWN} positions; the layout has {positions}")));
+    }
+    let mut cells: BTreeMap<i64, Vec<String>> = BTreeMap::new();
+    let mut index = vec![0; extents.len()];
+    for _ in 0..positions {
+        let steps: i64 = index.iter().zip(strides).filter(|(&place, _)| place > 0).map(|(&place, stride)| place as i64 * stride).sum();
+        cells.entry(layout.offset + steps).or_default().push(joined(&index));
+        for (place, &extent) in index.iter_mut().zip(extents) {
+            *place = (*place + 1) % extent;
+            if *place > 0 {
+                break;
+            }
+        }
+    }
+    let count = format!("cells {}", cells.len());
+    let rows = cells.iter().map(|(cell, shared)| format!("{cell}: {}", shared.join(" ")));
+    Ok(std::iter::once(count).chain(rows).collect())
+}
+
 /// What the program holds between two lines.
 pub struct Session {
     pub layout: Layout,
@@ -281,6 +310,9 @@ impl Session {
         let least = most - usage.matches('[').count();
         if !(least..=most).contains(&words.0.len()) {
             return Err(Stop::error(format_args!("wrong number of words behind the name: {}; usage: {usage}", counted(least - 1, most - 1, words.0.len() - 1))));
+        }
+        if words.word(1) == b"draw" {
+            return drawn(&self.layout);
         }
         if words.word(1) != b"help" {
             return Ok(vec![self.called(words)?]);

@@ -1,0 +1,4 @@
+pub mod Drawn
+pub mod DrawnClaims
+pub mod PictureCases
+pub mod Pictured
