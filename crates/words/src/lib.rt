@@ -3,5 +3,6 @@
 
 pub mod fault;
 pub mod place;
+mod shown;
 pub mod spelled;
 pub mod word;
