@@ -1,3 +1,4 @@
 pub mod Lines
 pub mod Ended
 pub mod Pieces
+pub mod Mark

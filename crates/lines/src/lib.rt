@@ -3,4 +3,5 @@
 
 pub mod failure;
 pub mod line;
+pub mod mark;
 pub mod write;

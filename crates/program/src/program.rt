@@ -5,12 +5,13 @@ ghost use Rattle.clap.specs.Values.{kind_of};
 ghost use Rattle.lines.specs.declared.failure.Failure.TheVariants.{Memory};
 ghost use Rattle.clap.specs.declared.error.kind.ErrorKind.TheVariants.{OutOfMemory, DisplayHelp, DisplayVersion};
 
-use crate::status::status;
+use crate::status::{status, status_of_lines};
 use clap::error::ErrorKind;
-use clap::{Arg, Command, Error};
+use clap::{Arg, ArgAction, Command, Error};
 use commands::reply::Reply;
 use commands::topic::Topic;
 use lines::failure::Failure;
+use session::Ended;
 use std::alloc::{AllocError, Global};
 use std::fs::File;
 use std::io::{BufReader, BufWriter, IsTerminal, Read};
@@ -33,6 +34,9 @@ const FILE: &str = "FILE";
 // The one argument that stands for standard input.
 const STANDARD_INPUT: &str = "-";
 
+// The one flag of our own.
+const STRICT: &str = "strict";
+
 // What stands in front of the words of usages.
 const LINE: &str =
     "A line is a command and its words, with spaces or tabs between them; one that begins with # is a comment.";
@@ -50,8 +54,12 @@ fn command_line<'a>(alloc: Global, name: &'a str, help: &'a str) -> Result<Comma
     let file = Arg::new(alloc, FILE).help(
         "The lines, in place of standard input; - for standard input",
     );
+    let strict = Arg::new(alloc, STRICT)
+        .long(STRICT)
+        .action(ArgAction::SetTrue)
+        .help("End with status 3 if a line was an error or was refused");
     let taken = Command::new(alloc, name).version(VERSION).about(ABOUT);
-    Ok(taken.after_help(help).arg(file)?)
+    Ok(taken.after_help(help).arg(strict)?.arg(file)?)
 }
 
 // What a buffer fails with that is not made.
@@ -62,7 +70,7 @@ fn no_memory(_error: io::Error) -> Failure
 }
 
 // Answers the lines of a reader to its end.
-fn answer<R: Read + Drop>(rt: &HostRuntime, reader: R) -> Result<(), Failure> {
+fn answer<R: Read + Drop>(rt: &HostRuntime, reader: R) -> Result<Ended, Failure> {
     let alloc = rt.alloc();
     let mut input = BufReader::with_capacity(alloc, BUFFER_BYTES, reader).map_err(no_memory)?;
     let mut out = BufWriter::with_capacity(alloc, BUFFER_BYTES, rt.stdout()).map_err(no_memory)?;
@@ -70,7 +78,7 @@ fn answer<R: Read + Drop>(rt: &HostRuntime, reader: R) -> Result<(), Failure> {
 }
 
 // Answers standard input. Whoever sits at a terminal is told first what it waits for.
-fn answer_input(rt: &HostRuntime, name: &str) -> Result<(), Failure> {
+fn answer_input(rt: &HostRuntime, name: &str) -> Result<Ended, Failure> {
     if rt.stdin().is_terminal() {
         // the lines are answered also where this write fails
         let _ = eprintln!(rt;
@@ -80,23 +88,25 @@ fn answer_input(rt: &HostRuntime, name: &str) -> Result<(), Failure> {
     answer(rt, rt.stdin())
 }
 
-fn answer_file(rt: &HostRuntime, path: &str) -> Result<(), Failure> {
+fn answer_file(rt: &HostRuntime, path: &str) -> Result<Ended, Failure> {
     let file = File::open(rt, path).map_err(Failure::Read)?;
     answer(rt, file)
 }
 
 // Does what the words of the command line ask for.
 fn obey(rt: &HostRuntime, name: &str, words: &[String]) -> Result<ExitCode, Error>
-    ensures { IfOk result (λ code. exit_status code ≤ 1) }
+    ensures few { IfOk result (λ code. exit_status code ≤ 3) }
+    ensures understood { IfOk result (λ code. exit_status code ≢ 2) }
 {
     let alloc = rt.alloc();
     let help = lines_help(alloc)?;
     let taken = command_line(alloc, name, help.as_str())?;
     let matches = taken.try_get_matches_from(words)?;
+    let strict = matches.get_flag(STRICT);
     let code = match matches.get_str(FILE) {
-        None => status(rt, name, "standard input", answer_input(rt, name)),
-        Some(STANDARD_INPUT) => status(rt, name, "standard input", answer_input(rt, name)),
-        Some(path) => status(rt, name, path, answer_file(rt, path)),
+        None => status_of_lines(rt, name, "standard input", answer_input(rt, name), strict),
+        Some(STANDARD_INPUT) => status_of_lines(rt, name, "standard input", answer_input(rt, name), strict),
+        Some(path) => status_of_lines(rt, name, path, answer_file(rt, path), strict),
     };
     Ok(code)
 }
@@ -129,10 +139,11 @@ fn status_of_error(rt: &HostRuntime, name: &str, error: Error) -> ExitCode
     )
 }
 
-/// Does what the command line asks for. Status 0 where the input has ended or the reader of the answers has closed the pipe, and
-/// behind `--help` and `--version`; 1 where something fails; 2 where the command line is not understood.
+/// Does what the command line asks for. The status is 0 if the input has ended or the reader of the answers has closed the pipe,
+/// and after `--help` and `--version`; 1 if something fails; 2 if the command line is not understood; 3 if `--strict` is given
+/// and a line was answered with an error or a refusal.
 pub fn run(rt: HostRuntime, name: &str) -> ExitCode
-    ensures { exit_status result ≤ 2 }
+    ensures { exit_status result ≤ 3 }
 {
     match words(&rt) {
         Ok(words) => match obey(&rt, name, words.as_slice()) {

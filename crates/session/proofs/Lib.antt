@@ -1,3 +1,4 @@
 mod FirstWords
 pub mod HeldLaws
 pub mod Owed
+pub mod Marked

@@ -1,8 +1,10 @@
 //! Lines read and answered one after another: what is written is a stated function of what is read.
 #![tactic(auto)]
 
+mod end;
 mod session;
 mod text;
 
 pub use session::run;
+pub use end::Ended;
 pub use text::answer_text;

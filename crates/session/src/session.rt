@@ -1,19 +1,21 @@
 // Lines answered in order, each before the next is awaited.
 ghost use Rattle.std.specs.Prelude.{◌≡◌, ◌≢◌, [], map, string_bytes, OnOk, OnErr, IfOk, IfErr, IfSome, IsTrue};
 ghost use Rattle.std.specs.Io.KnownBytes.{Appends};
-ghost use Rattle.lines.specs.Lines.{AppendsFront};
+ghost use Rattle.lines.specs.Lines.{AppendsFront, lines_of};
 ghost use Rattle.view.specs.Model.{model_of};
-ghost use Rattle.session.specs.Session.{begins_with, empty_layout, text_of, by_words, words_ask, by_length, output_of, Answers};
+ghost use Rattle.session.specs.Session.{begins_with, empty_layout, text_of, no_fault, by_words, words_ask, by_length, written_for, obeyed_for, lines_in, output_of, all_obeyed, Answers};
 
+use crate::end::Ended;
 use axis::Axis;
 use commands::memory::Memory;
 use commands::obey::obey;
 use commands::reply::Reply;
 use lines::failure::Failure;
 use lines::line::Line;
+use lines::mark::pass_mark;
 use lines::write::write_front;
 use std::alloc::{AllocError, Global};
-use std::io::{BufRead, Write};
+use std::io::{BufRead, Read, Write};
 use view::layout::{Layout, MOST_AXES, ReadingOffset};
 use words::fault::{Fault, Problem};
 use words::word::first_words;
@@ -72,6 +74,8 @@ fn answer_words<'a>(
         ≡ (by_words (model_of layout.old) (map (λ word. word.now) words.now)).text) }
     ensures layout { OnOk result (model_of layout.new
         ≡ (by_words (model_of layout.old) (map (λ word. word.now) words.now)).layout) }
+    ensures obeyed { IfOk result (λ answer. no_fault answer
+        ≡ (by_words (model_of layout.old) (map (λ word. word.now) words.now)).all_obeyed) }
     ensures memory { OnErr result (IsTrue (words_ask (map (λ word. word.now) words.now))) }
 {
     let [name, texts @ ..] = words else {
@@ -87,7 +91,7 @@ fn answer_words<'a>(
     }
 }
 
-// Puts what a line is answered in the place of a text.
+// Puts what a line is answered in the place of a text, and tells whether it is no fault.
 #[tactic(auto, using(crate::proofs::FirstWords::by_front, crate::proofs::FirstWords::asked_has_text))]
 fn answer(
     alloc: Global,
@@ -95,49 +99,86 @@ fn answer(
     memory: &mut Memory,
     line: &Line,
     text: &mut String,
-) -> Result<(), AllocError>
+) -> Result<bool, AllocError>
     ensures text { OnOk result (string_bytes text.new
         ≡ (by_length (model_of layout.old) line.now.is_long line.now.bytes.items).text) }
     ensures layout { OnOk result (model_of layout.new
         ≡ (by_length (model_of layout.old) line.now.is_long line.now.bytes.items).layout) }
+    ensures obeyed { IfOk result (λ obeyed. obeyed
+        ≡ (by_length (model_of layout.old) line.now.is_long line.now.bytes.items).all_obeyed) }
     ensures memory { OnErr result
         ((by_length (model_of layout.old) line.now.is_long line.now.bytes.items).text ≢ []) }
 {
     if line.is_long {
-        return print(text, Response::Fault(Fault::LongLine));
+        print(text, Response::Fault(Fault::LongLine))?;
+        return Ok(false);
     }
     let words = first_words(line.bytes.as_slice());
     let answer = answer_words(alloc, layout, memory, words.as_slice())?;
-    print(text, answer)
+    let obeyed = !matches!(&answer, Response::Fault(_));
+    print(text, answer)?;
+    Ok(obeyed)
 }
 
-/// Answers a reader's lines in order. What is written is a stated function of what is read, and a
-/// front of that where something fails. Answers are written before the reader waits for more.
-pub fn run<R: BufRead, W: Write>(alloc: Global, input: &mut R, out: &mut W) -> Result<(), Failure>
+// Answers the lines of a reader to its end, with no byte order mark in front of them.
+fn answer_lines<R: BufRead, W: Write>(
+    alloc: Global,
+    input: &mut R,
+    out: &mut W,
+) -> Result<Ended, Failure>
     ensures whole { OnOk result (IfSome (R.remaining input.old) (λ bytes.
-        Appends (W.contents out.old) (W.contents out.new) (output_of bytes))) }
+        Appends (W.contents out.old) (W.contents out.new) (written_for empty_layout (lines_of bytes)))) }
     ensures front { IfSome (R.remaining input.old) (λ bytes.
-        AppendsFront (W.contents out.old) (W.contents out.new) (output_of bytes)) }
+        AppendsFront (W.contents out.old) (W.contents out.new) (written_for empty_layout (lines_of bytes))) }
     ensures answers { IfErr result (λ why. IfSome (R.remaining input.old) (λ bytes.
-        Answers why (W.contents out.old) (W.contents out.new) bytes)) }
+        Answers why (W.contents out.old) (W.contents out.new) (lines_of bytes))) }
+    ensures obeyed { IfOk result (λ ended. IfSome (R.remaining input.old) (λ bytes.
+        ended.all_obeyed ≡ obeyed_for empty_layout (lines_of bytes))) }
 {
     let mut layout = empty();
     let mut memory = Memory::new(alloc);
     let mut line = Line::new();
     let mut text = String::new(alloc);
+    let mut all_obeyed = true;
     for _ in 0..u64::MAX {
         if !line.read(input, out)? {
-            return Ok(());
+            return Ok(Ended { all_obeyed });
         }
-        answer(alloc, &mut layout, &mut memory, &line, &mut text)?;
+        all_obeyed &= answer(alloc, &mut layout, &mut memory, &line, &mut text)?;
         match write_front(out, text.as_bytes()) {
             Ok(()) => {}
             Err(error) => return Err(Failure::Write(error)),
         }
         // No read follows the last line, which would write what the writer holds back.
         if line.is_last {
-            return out.flush().map_err(Failure::Write);
+            out.flush().map_err(Failure::Write)?;
+            return Ok(Ended { all_obeyed });
         }
     }
     Err(Failure::Endless)
+}
+
+/// Answers a reader's lines in order; a byte order mark at its start is passed over. What is written is a stated function of
+/// what is read, and a front of that where something fails. Answers are written before the reader waits for more.
+pub fn run<R: BufRead, W: Write>(
+    alloc: Global,
+    input: &mut R,
+    out: &mut W,
+) -> Result<Ended, Failure>
+    ensures whole { OnOk result (IfSome (R.remaining input.old) (λ bytes.
+        Appends (W.contents out.old) (W.contents out.new) (output_of bytes))) }
+    ensures front { IfSome (R.remaining input.old) (λ bytes.
+        AppendsFront (W.contents out.old) (W.contents out.new) (output_of bytes)) }
+    ensures answers { IfErr result (λ why. IfSome (R.remaining input.old) (λ bytes.
+        Answers why (W.contents out.old) (W.contents out.new) (lines_in bytes))) }
+    ensures obeyed { IfOk result (λ ended. IfSome (R.remaining input.old) (λ bytes.
+        ended.all_obeyed ≡ all_obeyed bytes)) }
+{
+    out.flush().map_err(Failure::Write)?;
+    let start = pass_mark(input)?;
+    let mut taken = start.taken;
+    if start.is_end {
+        return answer_lines(alloc, &mut taken, out);
+    }
+    answer_lines(alloc, &mut taken.chain(input), out)
 }

@@ -1,5 +1,5 @@
 -- What is printed of a fault and of a list, byte by byte. Assumes nothing.
-use Rattle.std.specs.Prelude.{ℕ, Bool, true, false, not, ◌&&◌, ◌||◌, List, [], ◌∷◌, ◌++◌, ◌==◌, codes, take, length, nat_eq, nat_lt, encode_utf8_all, if◌then◌else◌}
+use Rattle.std.specs.Prelude.{ℕ, Bool, true, false, not, ◌&&◌, ◌||◌, List, [], ◌∷◌, ◌++◌, ◌==◌, codes, take, length, nat_eq, nat_lt, if◌then◌else◌}
 use Rattle.std.specs.Char.{is_ascii_digit}
 use Rattle.std.specs.Cmp.Lexicographic.{pointwise}
 use Rattle.std.specs.List.{flat_map, list_all}
@@ -7,6 +7,7 @@ use Rattle.std.specs.Fmt.{decimal}
 use Rattle.bstr.specs.Escape.{escaped}
 use Rattle.view.specs.Answers.{number_of, values_of}
 use Rattle.view.specs.declared.layout.Refusal.{Refusal}
+use Rattle.words.specs.Shown.{shown}
 use Rattle.words.specs.declared.place.Place.{Place}
 use Rattle.words.specs.declared.place.Place.TheVariants as place
 use Rattle.words.specs.declared.fault.Form.{Form}
@@ -16,9 +17,9 @@ use Rattle.words.specs.declared.fault.Fault.TheVariants.{LongLine, UnknownComman
 
 -- ---- where a fault is
 
--- a word as an error shows it: its first 32 bytes, what does not print among them escaped, and `..` where there are more
+-- a word as an error shows it: its first 32 bytes, what cannot be seen among them escaped, and `..` where there are more
 unfoldable pub excerpt : List ℕ → List ℕ
-excerpt text = encode_utf8_all (escaped (take 32 text)) ++ (if nat_lt 32 (length text) then codes ".." else [])
+excerpt text = flat_map shown (escaped (take 32 text)) ++ (if nat_lt 32 (length text) then codes ".." else [])
 
 -- a number from 1 on, and what stands there
 abbrev pub at_number : ℕ → List ℕ → List ℕ

@@ -4,5 +4,6 @@
 pub mod fault;
 pub mod phrase;
 pub mod place;
+mod shown;
 pub mod spelled;
 pub mod word;

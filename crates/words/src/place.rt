@@ -1,6 +1,7 @@
 // Where something stands in a line, and how an error shows what stands there.
 ghost use Rattle.std.specs.Prelude.{◌≡◌, [], codes, length, nat_lt, if◌then◌else◌};
 
+use crate::shown::Shown;
 use bstr::ByteSlice;
 use std::fmt;
 use view::list::first;
@@ -29,7 +30,7 @@ fn dots_behind(text: &[u8]) -> &'static str
     if SHOWN_BYTES < text.len() { ".." } else { "" }
 }
 
-// The front of a text, what does not print escaped.
+// The front of a text, what cannot be seen in it escaped.
 #[derive(Clone, Copy)]
 struct Excerpt<'a>(&'a [u8]);
 
@@ -41,8 +42,10 @@ impl fmt::Display for Excerpt<'_> {
     ghost output = { λ text. Some (excerpt text.0.now) };
 
     fn fmt<W: fmt::Write>(&self, f: &mut fmt::Formatter<W>) -> fmt::Result {
-        let front = first(SHOWN_BYTES, self.0).escape_bytes();
-        write!(f, "{front}{}", dots_behind(self.0))
+        for character in first(SHOWN_BYTES, self.0).escape_bytes() {
+            write!(f, "{}", Shown(character))?;
+        }
+        f.write_str(dots_behind(self.0))
     }
 }
 

@@ -45,8 +45,10 @@ const BYTES: [u8; 28] = [
 ];
 
 /// Pieces of words: characters of two to four bytes, parts of them, what is no character though it looks like one, and numbers at the ends of ranges.
-const PIECES: [&[u8]; 36] = [
+const PIECES: [&[u8]; 46] = [
     "é".as_bytes(), "ß".as_bytes(), "€".as_bytes(), "漢".as_bytes(), "🦀".as_bytes(), "\u{85}".as_bytes(), "\u{a0}".as_bytes(), "\u{2028}".as_bytes(), "\u{feff}".as_bytes(),
+    "\u{9b}".as_bytes(), "\u{ad}".as_bytes(), "\u{300}".as_bytes(), "\u{61c}".as_bytes(), "\u{200b}".as_bytes(), "\u{202e}".as_bytes(), "\u{2066}".as_bytes(), "\u{fe0f}".as_bytes(),
+    "\u{e0041}".as_bytes(), "\u{e000}".as_bytes(),
     b"\xc3", b"\xa9", b"\xe2\x82", b"\xf0\x9f\xa6", b"\xc0\x80", b"\xed\xa0\x80", b"\xf4\x90\x80\x80", b"\xf8\x88\x80\x80\x80", b"\xff\xfe",
     b"18446744073709551615", b"18446744073709551616", b"18446744073709551614", b"9223372036854775807", b"9223372036854775808", b"-9223372036854775808", b"-9223372036854775809",
     b"65535", b"65536", b"65537", b"-0", b"-1", b"+1", b"0x10", b"1e3", b"340282366920938463463374607431768211456", b"000000000000000000000000000000000000000000007", b"--1",

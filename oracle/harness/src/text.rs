@@ -59,7 +59,7 @@ impl Stop {
 
 type Said<T> = Result<T, Stop>;
 
-/// A word or an entry in an error: its first 32 bytes, what does not print escaped, and dots if there are more.
+/// A word or an entry in an error: its first 32 bytes, what cannot be seen escaped, and dots if there are more.
 struct Shown<'a>(&'a [u8]);
 
 impl Display for Shown<'_> {
@@ -67,9 +67,10 @@ impl Display for Shown<'_> {
         let mut rest = &self.0[..self.0.len().min(32)];
         while let Some(&byte) = rest.first() {
             let wide = (2..=rest.len().min(4)).find_map(|size| std::str::from_utf8(&rest[..size]).ok().filter(|text| text.chars().count() == 1));
-            if let Some(character) = wide {
-                out.write_str(character)?;
-                rest = &rest[character.len()..];
+            if let Some(text) = wide {
+                // Rust escapes what does not print, and what changes the character in front of it.
+                text.chars().try_for_each(|character| write!(out, "{}", character.escape_debug()))?;
+                rest = &rest[text.len()..];
                 continue;
             }
             match byte {

@@ -13,6 +13,9 @@ use std::time::{Duration, Instant};
 /// At most so many differences are printed.
 const PRINTED: u64 = 20;
 
+/// The byte order mark in UTF-8.
+const MARK: &[u8] = b"\xef\xbb\xbf";
+
 #[derive(Default)]
 struct Tally {
     sessions: u64,
@@ -62,8 +65,14 @@ fn run(mut random: Random, end: Instant, program: &str, broken: bool, total: &Mu
         if random.once_in(2) {
             input.push(b'\n');
         }
+        // One mark is passed over. A first line that begins with one gets another.
+        if random.once_in(4) || input.starts_with(MARK) {
+            input.splice(0..0, MARK.iter().copied());
+        }
+        let strict = random.once_in(2);
+        let status = if strict && asked.iter().any(is_fault) { 3 } else { 0 };
         let piece = if random.once_in(4) { random.between(1, 5000) } else { 1 << 20 };
-        let output = match answered(program, &input, piece as usize) {
+        let output = match answered(program, strict, status, &input, piece as usize) {
             Ok(output) => output,
             Err(text) => {
                 let mut total = total.lock().expect("no thread failed");
@@ -87,9 +96,15 @@ fn run(mut random: Random, end: Instant, program: &str, broken: bool, total: &Mu
     }
 }
 
-/// What the program writes to its end, its input written in pieces of so many bytes.
-fn answered(program: &str, input: &[u8], piece: usize) -> Result<Vec<u8>, String> {
+/// Whether a line is answered with an error or a refusal.
+fn is_fault(asked: &Asked) -> bool {
+    asked.answers.first().is_some_and(|answer| answer.starts_with("error: ") || answer.starts_with("refused "))
+}
+
+/// What the program writes to its end, its input written in pieces of so many bytes. It is to end with the status.
+fn answered(program: &str, strict: bool, status: i32, input: &[u8], piece: usize) -> Result<Vec<u8>, String> {
     let mut child = Command::new(program)
+        .args(strict.then_some("--strict"))
         .stdin(Stdio::piped())
         .stdout(Stdio::piped())
         .stderr(Stdio::piped())
@@ -103,7 +118,7 @@ fn answered(program: &str, input: &[u8], piece: usize) -> Result<Vec<u8>, String
         stdout.read_to_end(&mut output).map_err(|error| error.to_string())
     })?;
     let ended = child.wait_with_output().map_err(|error| error.to_string())?;
-    if !ended.status.success() || !ended.stderr.is_empty() {
+    if ended.status.code() != Some(status) || !ended.stderr.is_empty() {
         return Err(format!("{}, on standard error {:?}", ended.status, String::from_utf8_lossy(&ended.stderr)));
     }
     Ok(output)
