@@ -1,5 +1,5 @@
 -- Which characters an error shows as they are, and how it shows the others. Assumes nothing.
-use Rattle.std.specs.Prelude.{ℕ, Bool, not, ◌&&◌, ◌==◌, List, Option, Some, None, false, nat_lt, encode_utf8, encode_utf8_all, if◌then◌else◌}
+use Rattle.std.specs.Prelude.{ℕ, Bool, not, ◌&&◌, List, Option, Some, None, false, nat_lt, encode_utf8, encode_utf8_all, if◌then◌else◌}
 use Rattle.std.specs.Char.Escape.{escape_unicode}
 use Rattle.ucd_category.specs.GeneralCategory.{general_category}
 use Rattle.ucd_category.specs.GeneralCategoryGroup.{in_group}
