@@ -104,8 +104,9 @@ fn obey(rt: &HostRuntime, name: &str, words: &[String]) -> Result<ExitCode, Erro
     let matches = taken.try_get_matches_from(words)?;
     let strict = matches.get_flag(STRICT);
     let code = match matches.get_str(FILE) {
-        None => status_of_lines(rt, name, "standard input", answer_input(rt, name), strict),
-        Some(STANDARD_INPUT) => status_of_lines(rt, name, "standard input", answer_input(rt, name), strict),
+        None | Some(STANDARD_INPUT) => {
+            status_of_lines(rt, name, "standard input", answer_input(rt, name), strict)
+        }
         Some(path) => status_of_lines(rt, name, path, answer_file(rt, path), strict),
     };
     Ok(code)

@@ -7,7 +7,7 @@ use Rattle.words.specs.Words.{Told, words, no_word, one_word, two_words, four_wo
 use Rattle.commands.specs.declared.command.Command.{Command}
 use Rattle.commands.specs.declared.command.Command.TheVariants as command
 use Rattle.commands.specs.declared.command.Change.TheVariants.{New, Set, Permute, Diagonal, Broadcast, Read}
-use Rattle.commands.specs.declared.command.Query.TheVariants.{Bounds, Show, Offset, Normal, Verdict, Injective, Record, Rest, Order, Column, Row, Help}
+use Rattle.commands.specs.declared.command.Query.TheVariants.{Bounds, Show, Draw, Offset, Normal, Verdict, Injective, Record, Rest, Order, Column, Row, Help}
 use Rattle.commands.specs.Commands.{named, name_of, usage_of}
 use Rattle.commands.specs.Obeyed.{Answered, next_layout, answer_text, run, obeyed}
 use Rattle.session.specs.Session.{begins_with, in_line, by_words, words_ask, by_length}
@@ -31,6 +31,7 @@ module _ (l : LayoutModel) (a b c d e : List ℕ) (more : List (List ℕ)) where
   five_run (command.Change Read) = ap Err (counted (usage_of (command.Change Read)) 1 2 (omega arith))
   five_run (command.Query Bounds) = ap Err (counted (usage_of (command.Query Bounds)) 4 4 (omega arith))
   five_run (command.Query Show) = ap Err (counted (usage_of (command.Query Show)) 0 0 (omega arith))
+  five_run (command.Query Draw) = ap Err (counted (usage_of (command.Query Draw)) 0 0 (omega arith))
   five_run (command.Query Offset) = ap Err (counted (usage_of (command.Query Offset)) 1 1 (omega arith))
   five_run (command.Query Normal) = ap Err (counted (usage_of (command.Query Normal)) 0 0 (omega arith))
   five_run (command.Query Verdict) = ap Err (counted (usage_of (command.Query Verdict)) 0 1 (omega arith))
