@@ -41,7 +41,7 @@ const STRICT: &str = "strict";
 const LINE: &str =
     "A line is a command and its words, with spaces or tabs between them; one that begins with # is a comment.";
 
-// The words of a line, the refusals and the commands, as `help` tells them.
+// The words of a line, the refusals and the commands, as `help` explains them.
 fn lines_help(alloc: Global) -> Result<String, AllocError> {
     let words = Reply::Help(Topic::Words);
     let refusals = Reply::Help(Topic::Refusals);

@@ -92,15 +92,15 @@ unknown_command number text = codes "error: " ++ at_word number text ++ codes " 
 unfoldable pub unknown_topic : ℕ → List ℕ → List ℕ
 unknown_topic number text = codes "error: " ++ at_word number text ++ codes " is no topic of help; topics are the commands, the words of their usages (as LIST), words, refused, and the numbers from 1 to 11"
 
--- as many words as a command takes behind its name; the last of them may be left out where two numbers stand
+-- how many words a command takes behind its name; if the two numbers differ, the last word may be left out
 abbrev pub wanted : ℕ → ℕ → List ℕ
 wanted least most = if least == most then decimal most else decimal least ++ codes " or " ++ decimal most
 
--- as many words as stand behind the name; no command takes more than 4, and past them they are not counted
+-- how many words stand behind the name; no command takes more than 4, and more than these are not counted
 abbrev pub given : ℕ → List ℕ
 given count = if nat_lt 4 count then codes "more than 4" else decimal count
 
--- a list with a space in it is two words, so there may be too many where a command takes any
+-- a list with a space in it is two words; this is said if there are too many words and the command takes any
 abbrev pub no_space : ℕ → ℕ → List ℕ
 no_space most count = if nat_lt 0 most && nat_lt most count then codes " (no space within a list)" else []
 

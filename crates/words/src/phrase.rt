@@ -64,7 +64,7 @@ impl fmt::Display for Misfit<'_> {
     }
 }
 
-/// What is said of commas behind an entry that is wrong.
+/// A word about commas, behind an entry that is no number.
 #[derive(Clone, Copy)]
 pub struct Commas<'a>(pub &'a [u8]);
 
