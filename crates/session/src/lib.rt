@@ -5,6 +5,6 @@ mod end;
 mod session;
 mod text;
 
-pub use session::run;
 pub use end::Ended;
+pub use session::run;
 pub use text::answer_text;

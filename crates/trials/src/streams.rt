@@ -101,8 +101,7 @@ fn a_byte_order_mark_is_passed_over_at_the_start(rt: HostRuntime) -> Result<(), 
     // as many bytes as a line may have, without the mark
     text.extend_from_slice(padded(alloc, 4096)?.as_slice())?;
     text.extend_from_slice(b"\n\xEF\xBB\xBFshow\n")?;
-    let wanted =
-        b"0 0 0 0\nerror: word 1 (\\u{feff}show) is no command; help lists the commands\n";
+    let wanted = b"0 0 0 0\nerror: word 1 (\\u{feff}show) is no command; help lists the commands\n";
     for most in [1, 2, 3, 4, 65536] {
         let mut input = pieces(text.as_slice());
         input.most = most;
