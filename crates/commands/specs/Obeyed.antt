@@ -82,14 +82,14 @@ stretched l targets = do
   targets ← list_of unsigned Unsigned targets
   told_after (broadcast l targets)
 
--- WORDS, where the line has them
+-- WORDS, if the line has them
 abbrev pub words_given : Option Numbered → Told (Option ℕ)
 words_given None = Ok None
 words_given (Some w) = do
   words ← one_of lent Lent w
   Ok (Some words.0)
 
--- as many words of scratch; where WORDS is left out, as many as any verdict can need
+-- as many words of scratch; if WORDS is left out, as many as any verdict can need
 abbrev pub or_most : Option ℕ → ℕ
 or_most None = 16777217
 or_most (Some words) = words

@@ -7,7 +7,7 @@ use Rattle.view.specs.Answers.{outcome_by}
 use Rattle.view.specs.declared.layout.Refusal.{Refusal}
 use Rattle.view.specs.declared.layout.Refusal.TheVariants.{ShortScratch}
 
--- the words that a first try lacked, where WORDS is left out
+-- the words that a first try lacked, if WORDS is left out
 abbrev pub words_lacking : {T : Type 0} → Option ℕ → Result T Refusal → Option ℕ
 words_lacking None (Err (ShortScratch needed)) = Some needed
 words_lacking words first = None

@@ -9,7 +9,7 @@ use words::fault::Fault;
 use words::place::Word;
 use words::spelled::Lent;
 
-/// WORDS, where the line has them.
+/// WORDS, if the line has them.
 pub fn words_given<'a>(words: Option<Word<'a>>) -> Result<Option<usize>, Fault<'a>>
     ensures { Tells (λ words. words) result (words_given (numbered_if words.entry)) }
 {
@@ -20,7 +20,7 @@ pub fn words_given<'a>(words: Option<Word<'a>>) -> Result<Option<usize>, Fault<'
     Ok(Some(count))
 }
 
-/// How many words a second try is lent: as many as the first one, made with none, lacked, where WORDS is left out.
+/// How many words a second try is lent: as many as the first one, made with none, lacked, if WORDS is left out.
 pub fn lacking<T>(words: Option<usize>, first: &Result<T, Refusal>) -> Option<usize>
     ensures { result ≡ words_lacking words first.now }
 {

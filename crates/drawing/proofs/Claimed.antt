@@ -124,7 +124,7 @@ picture_claims = record {
 
 -- ---- the call
 
--- what is answered where nothing is refused
+-- what is answered if nothing is refused
 abbrev shown : LayoutModel → Picture
 shown l = if nat_lt 200 (positions l.axes) then too_many (positions l.axes) else picture (picture_text l)
 

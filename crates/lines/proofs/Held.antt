@@ -13,13 +13,13 @@ within_room (suc room) n (b ∷ bytes) e =
     let next : n ≡ suc (min room (length bytes)) = omega arith in
     rw next (ap (λ l. b ∷ l) (within_room room (min room (length bytes)) bytes refl))
 
--- what is kept of two parts, where the first is kept already
+-- what is kept of two parts, if the first is kept already
 kept_front : (most room : ℕ) (read bytes : List ℕ) → room ≡ most - length (take most read) → take most (read ++ bytes) ≡ take most read ++ take (min room (length bytes)) bytes
 kept_front zero room read bytes e = let none : min room (length bytes) ≡ 0 = omega arith in rw none refl
 kept_front (suc most) room [] bytes e = within_room (suc most) (min room (length bytes)) bytes (omega arith)
 kept_front (suc most) room (b ∷ read) bytes e = ap (λ l. b ∷ l) (kept_front most room read bytes (omega arith))
 
--- whether there is more than is kept, where a piece comes behind what was read
+-- whether there is more than is kept, if a piece comes behind what was read
 longer_more : (most : ℕ) (read bytes : List ℕ) (was : Bool) → (IsTrue was ↔ (most < length read)) → IsTrue (was || nat_lt (most - length (take most read)) (length bytes)) ↔ (most < length (read ++ bytes))
 longer_more most read bytes true h = (λ _. omega (arith, h.0 refl, length-append read bytes), λ _. refl)
 longer_more most read bytes false h = grind (arith, common_steps, h, length-append, length-take)

@@ -6,7 +6,7 @@ use Rattle.lines.specs.declared.line.Line.{Line}
 use Rattle.lines.specs.declared.line.End.{End}
 use Rattle.lines.specs.declared.line.End.TheVariants.{Feed, Input}
 
--- a piece with the line feed (10) that ends it, where one does
+-- a piece with the line feed (10) that ends it, if one does
 abbrev pub with_end : List ℕ → End → List ℕ
 with_end piece Feed = piece ++ 10 ∷ []
 with_end piece other = piece

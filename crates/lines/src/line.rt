@@ -60,7 +60,7 @@ impl Line {
         ensures one_line { OnOk result (All (λ byte. byte ≢ 10) self.new.bytes.items) }
         ensures no_memory { IfErr result (λ why. why ≢ Memory) }
 
-        // Where the bytes are known.
+        // If the bytes are known.
         ensures more { IfOk result (λ more. IfSome (R.remaining input.old)
             (λ bytes. IsTrue more ↔ (bytes ≢ []))) }
         ensures line { OnOk result (IfSome (R.remaining input.old)

@@ -1,4 +1,4 @@
-//! What is written where a write fails: a front of it.
+//! What is written if a write fails: a front of it.
 ghost use Rattle.std.specs.Prelude.{OnOk};
 ghost use Rattle.std.specs.Io.KnownBytes.{Appends};
 ghost use Rattle.lines.specs.Lines.{AppendsFront};
@@ -6,7 +6,7 @@ ghost use Rattle.lines.specs.Lines.{AppendsFront};
 use std::io;
 use std::io::{ErrorKind, Write};
 
-/// Writes all the bytes, or a front of them where a write fails.
+/// Writes all the bytes, or a front of them if a write fails.
 pub fn write_front<W: Write>(out: &mut W, bytes: &[u8]) -> io::Result<()>
     ensures all { OnOk result (Appends (W.contents out.old) (W.contents out.new) bytes.now) }
     ensures front { AppendsFront (W.contents out.old) (W.contents out.new) bytes.now }

@@ -80,7 +80,7 @@ fn answer<R: Read + Drop>(rt: &HostRuntime, reader: R) -> Result<Ended, Failure>
 // Answers standard input. Whoever sits at a terminal is told first what it waits for.
 fn answer_input(rt: &HostRuntime, name: &str) -> Result<Ended, Failure> {
     if rt.stdin().is_terminal() {
-        // the lines are answered also where this write fails
+        // the lines are answered also if this write fails
         let _ = eprintln!(rt;
             "{name}: a line of words in, an answer out; help lists the commands, end with Ctrl-D"
         );

@@ -21,7 +21,7 @@ pub fn status(rt: &HostRuntime, name: &str, source: &str, ended: Result<(), Fail
         Ok(()) => ExitCode::SUCCESS,
         Err(failure) if failure.is_closed_pipe() => ExitCode::SUCCESS,
         Err(failure) => {
-            // where this write fails too, the status is what is left to tell
+            // if this write fails too, the status is what is left to tell
             let _ = match failure {
                 Failure::Read(error) => eprintln!(rt; "{name}: cannot read {source}: {error}"),
                 Failure::Write(error) => {

@@ -11,7 +11,7 @@ use Rattle.lines.specs.declared.failure.Failure.TheVariants.{Read, Write, Memory
 use Rattle.session.specs.declared.end.Ended.{Ended}
 use Rattle.session.specs.Session.{answered_in_order, written_for, obeyed_for, empty_layout, lines_in, output_of, all_obeyed, Answers}
 
--- where the bytes are known, `read` has them without the mark
+-- if the bytes are known, `read` has them without the mark
 abbrev pub Reads : Option (List ℕ) → Option (List ℕ) → Type 0
 Reads was read = IfSome was (λ bytes. read ≡ Some (without_mark bytes))
 
@@ -21,7 +21,7 @@ goes_on None now read taken start is = tt
 goes_on (Some bytes) None read taken start is = absurd (cc)
 goes_on (Some bytes) (Some left) read taken start is = is ∙ start
 
--- what was taken, where nothing is left
+-- what was taken, if nothing is left
 pub ends : (was now : Option (List ℕ)) (taken : List ℕ) → IsBehindMark was taken now → OnSome was (IsAtEnd now) → Reads was (Some taken)
 ends None now taken start end = tt
 ends (Some bytes) None taken start end = absurd (cc)

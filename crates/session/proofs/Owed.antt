@@ -140,7 +140,7 @@ first_answered bytes left before after l a = subst (Appends before after) is a.a
     is : a.written ≡ written_for empty_layout (take (length a.lines) (lines_of bytes))
     is = sym (append-nil a.written) ∙ sym (a.answers []) ∙ ap (written_for empty_layout) (append-nil a.lines ∙ sym (ap (take (length a.lines)) a.all ∙ take-front a.lines (lines_of left)))
 
--- where neither a write nor memory failed, they have been answered
+-- if neither a write nor memory failed, they have been answered
 pub whole_answers : {T : Type 0} (result : Result T Failure) (was now before after : Option (List ℕ)) (l : Reached) → IfErr result (λ why. why ≢ Memory)
     → Owed was now before after [] l → IfErr result (λ why. IfSome was (λ bytes. Answers why before after (lines_of bytes)))
 whole_answers (Ok x) was now before after l other owed = tt
@@ -158,7 +158,7 @@ line_behind : (front : List (List ℕ)) (line : List ℕ) (rest : List (List ℕ
 line_behind [] line rest = refl
 line_behind (first ∷ front) line rest = line_behind front line rest
 
--- where memory failed, the line behind them has an answer with a text
+-- if memory failed, the line behind them has an answer with a text
 answered_before : (was now before after : Option (List ℕ)) (l : Reached) (line : Line) → Owed was now before after [] l
     → IfSome now (λ bytes. IsTrue true ↔ (bytes ≢ [])) → IfSome now (λ bytes. Holds line (first_piece 10 bytes)) → (by_length l.0 line.is_long line.bytes.items).text ≢ []
     → IfSome was (λ bytes. Answers Memory before after (lines_of bytes))

@@ -159,7 +159,7 @@ fn answer_lines<R: BufRead, W: Write>(
 }
 
 /// Answers a reader's lines in order; a byte order mark at its start is passed over. What is written is a stated function of
-/// what is read, and a front of that where something fails. Answers are written before the reader waits for more.
+/// what is read, and a front of that if something fails. Answers are written before the reader waits for more.
 pub fn run<R: BufRead, W: Write>(
     alloc: Global,
     input: &mut R,

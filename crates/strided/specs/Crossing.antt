@@ -40,7 +40,7 @@ abbrev pub found_after : Outcome Told → Found → Found
 found_after (done j) before = record { verdict = verdict_byte j.answer; count = j.count }
 found_after (refused number values) before = before
 
--- dense strides into an array of this length: 255, where it is shorter than the extents; then what
+-- dense strides into an array of this length: 255, if it is shorter than the extents; then what
 -- the call answers
 abbrev pub dense_into : (List ℕ → Outcome (List ℤ)) → List ℕ → ℕ → Outcome (List ℤ)
 dense_into dense extents room =

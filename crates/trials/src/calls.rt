@@ -1,4 +1,4 @@
-// Each call of the library where it succeeds.
+// Each call of the library, with arguments with which it succeeds.
 use commands::memory::Memory;
 use commands::obey::obey;
 use layouts::{

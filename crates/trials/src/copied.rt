@@ -1,4 +1,4 @@
-// Each caller to copy, where it succeeds.
+// Each caller to copy, with arguments with which it succeeds.
 use callers::compare::same_cells;
 use callers::count::verdict_with_count;
 use callers::digits::written_by_digits;

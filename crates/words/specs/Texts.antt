@@ -17,7 +17,7 @@ use Rattle.words.specs.declared.fault.Fault.TheVariants.{LongLine, UnknownComman
 
 -- ---- where a fault is
 
--- a word as an error shows it: its first 32 bytes, what cannot be seen among them escaped, and `..` where there are more
+-- a word as an error shows it: its first 32 bytes, what cannot be seen among them escaped, and `..` if there are more
 unfoldable pub excerpt : List ℕ → List ℕ
 excerpt text = flat_map shown (escaped (take 32 text)) ++ (if nat_lt 32 (length text) then codes ".." else [])
 

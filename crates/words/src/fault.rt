@@ -34,7 +34,7 @@ pub enum Fault<'a> {
     Refused(Refusal),
 }
 
-/// A fault is told and the next line follows; where memory fails, so does the program.
+/// A fault is reported and the next line follows. If memory runs out, the program ends.
 #[derive(Clone, Copy)]
 pub enum Problem<'a> {
     Memory,

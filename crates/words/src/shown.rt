@@ -25,7 +25,7 @@ fn is_seen(c: char) -> bool
         && !GeneralCategoryGroup::Separator.contains(category)
 }
 
-/// A character as an error shows it: itself, or its number where it cannot be seen.
+/// A character as an error shows it: itself, or its number if it cannot be seen.
 #[derive(Clone, Copy)]
 pub struct Shown(pub char);
 
