@@ -1,8 +1,9 @@
-"""The version: where it stands, and that it is the same everywhere; the first is that of the newest entry."""
+"""What stands in several places and has to be the same: the version, and the sentences of refusals."""
 import re
 
 from checks.repository import FILES, fault
 
+# Where the version stands; the first is that of the newest entry.
 VERSION = r"(\d+\.\d+\.\d+)"
 VERSIONS = [
     ("CHANGELOG.md", rf"^## {VERSION}$"),
@@ -24,3 +25,17 @@ def check_versions():
         wanted = wanted or version
         if version != wanted or not found:
             fault(path, FILES[path].count("\n", 0, found.start()) + 1 if found else 1, f"the version is {version}, in {VERSIONS[0][0]} {wanted}")
+
+# Where a refusal's sentence stands: with its values, and with their names, which `help` shows.
+SENTENCES, HELP = "crates/view/src/layout.rt", "crates/commands/src/kind.rt"
+
+def check_sentences():
+    """What `help` says of a refusal begins with the sentence in which the refusal prints itself, a name for each value."""
+    printed = dict((name, text) for text, name in re.findall(r'#\[error\("([^"]+)"\)\]\s+(\w+)', FILES[SENTENCES]))
+    told = re.findall(r'Kind::(\w+) => \(\s+"\d+",\s+"([^"]*)",\s+"([^"]+)"', FILES[HELP])
+    for name, values, meaning in told:
+        sentence = re.sub(r"\{(\d)\}", lambda value: values.split()[int(value[1])], printed.pop(name, "no sentence"))
+        if not re.match(re.escape(sentence) + "(;|$)", meaning):
+            fault(HELP, FILES[HELP].count("\n", 0, FILES[HELP].find(meaning)) + 1, f"{SENTENCES} says of {name}: {sentence}")
+    for name in printed:
+        fault(HELP, 1, f"no sentence for {name}, which {SENTENCES} has")
