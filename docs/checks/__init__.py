@@ -5,6 +5,6 @@
     trace         docs/TRACE.md: its generated tables, the contracts and clauses that it names
     pages         names, paths and links of the pages, and the words that no file may say
     rules         docs/RULES.md: its rules, calls, citations and numbers
-    versions      the version, at each place where it stands
+    copies        what stands in several places: the version, and the sentences of refusals
     examples      examples of the pages: typed lines with their answers, and blocks of files
 """
