@@ -63,9 +63,10 @@ impl Maker<'_> {
         self.random.below(n as u64) as usize
     }
 
-    /// Asks a line, unless its verdict is too dear.
+    /// Asks a line, unless its verdict is too dear, or two pieces of it make a character that is none of `PIECES`: Rust and the
+    /// kit have tables of different versions of Unicode, and may not agree whether it can be seen.
     fn ask(&mut self, line: Vec<u8>) {
-        if line.contains(&b'\n') {
+        if line.contains(&b'\n') || has_other_character(&line) {
             return;
         }
         let before = self.session.layout;
@@ -530,6 +531,12 @@ impl Maker<'_> {
         }
         *word = entries.join(&b',');
     }
+}
+
+/// Whether a line has a character past ASCII that is none of `PIECES`.
+fn has_other_character(line: &[u8]) -> bool {
+    let characters = line.utf8_chunks().flat_map(|chunk| chunk.valid().chars());
+    characters.filter(|character| !character.is_ascii()).any(|character| !PIECES.contains(&character.to_string().as_bytes()))
 }
 
 fn word(text: impl Display) -> Word {

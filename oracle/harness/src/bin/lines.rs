@@ -96,9 +96,10 @@ fn run(mut random: Random, end: Instant, program: &str, broken: bool, total: &Mu
     }
 }
 
-/// Whether a line is answered with an error or a refusal.
+/// Whether a line is answered with an error or a refusal. What `help` says of a refusal begins alike, and has letters behind it.
 fn is_fault(asked: &Asked) -> bool {
-    asked.answers.first().is_some_and(|answer| answer.starts_with("error: ") || answer.starts_with("refused "))
+    let is_refusal = |answer: &str| answer.strip_prefix("refused ").is_some_and(|numbers| numbers.bytes().all(|byte| byte == b' ' || byte.is_ascii_digit()));
+    asked.answers.first().is_some_and(|answer| answer.starts_with("error: ") || is_refusal(answer))
 }
 
 /// What the program writes to its end, its input written in pieces of so many bytes. It is to end with the status.
