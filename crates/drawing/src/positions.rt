@@ -7,7 +7,7 @@ use axis::Axis;
 use view::layout::MOST_AXES;
 
 /// The index vector of a position: the index of axis 0 changes fastest.
-pub fn index_of(axes: &[Axis], position: u64) -> ArrayVec<u64, MOST_AXES>
+pub(crate) fn index_of(axes: &[Axis], position: u64) -> ArrayVec<u64, MOST_AXES>
     requires few { length axes.now ≤ 16 }
     requires there { position < positions axes.now }
     ensures { result.items ≡ index_at (extents axes.now) position }

@@ -30,7 +30,7 @@ fn list(rt: &impl Print, file: &[u8]) -> Result<()> {
     Ok(())
 }
 
-pub fn show(rt: &HostRuntime) -> Result<()> {
+pub(crate) fn show(rt: &HostRuntime) -> Result<()> {
     let at = ReadingOffset(0);
     let sheets = [
         Layout::new(24, at, &[4, 6], &[1, 4])?,

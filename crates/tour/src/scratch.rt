@@ -3,8 +3,8 @@ use anyhow::Result;
 use layouts::{Judgement, Layout, ReadingOffset, Refusal, judge_layout};
 use std::alloc::Global;
 
-/// The verdict of a layout, with as much scratch as it needs: at most 16,777,217 words of 64 bits.
-pub fn judge(alloc: Global, layout: &Layout) -> Result<Judgement> {
+// The verdict of a layout, with as much scratch as it needs: at most 16,777,217 words of 64 bits.
+fn judge(alloc: Global, layout: &Layout) -> Result<Judgement> {
     match judge_layout(layout, &mut []) {
         Err(Refusal::ShortScratch(words)) => {
             let mut scratch = vec![in alloc; 0; words]?;
@@ -14,7 +14,7 @@ pub fn judge(alloc: Global, layout: &Layout) -> Result<Judgement> {
     }
 }
 
-pub fn show(rt: &HostRuntime) -> Result<()> {
+pub(crate) fn show(rt: &HostRuntime) -> Result<()> {
     // twelve axes of three that interleave: too many differences to search, so the verdict enumerates the positions
     let strides = [
         2, 6, 18, 54, 162, 486, 1458, 4374, 13122, 39366, 118098, 177147,

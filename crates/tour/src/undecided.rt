@@ -17,7 +17,7 @@ fn ask(rt: &impl Print, name: &str, extent: u64, strides: [i64; 4]) -> Result<()
     Ok(())
 }
 
-pub fn show(rt: &impl Print) -> Result<()> {
+pub(crate) fn show(rt: &impl Print) -> Result<()> {
     // axis 1 goes on where axis 0 ends, and axis 3 where axis 2 ends: the normal form has two axes
     ask(
         rt,

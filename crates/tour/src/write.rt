@@ -2,9 +2,9 @@
 use anyhow::Result;
 use layouts::{Judgement, Layout, ReadingOffset, Refusal, judge_layout};
 
-/// Whether a program may write through a layout: whether no two positions share a cell. No scratch is lent, so a layout that
-/// needs some is refused 9.
-pub fn may_write(layout: &Layout) -> Result<bool, Refusal> {
+// Whether a program may write through a layout: whether no two positions share a cell. No scratch is lent, so a layout that
+// needs some is refused 9.
+fn may_write(layout: &Layout) -> Result<bool, Refusal> {
     Ok(matches!(judge_layout(layout, &mut [])?, Judgement::Distinct(_)))
 }
 
@@ -43,7 +43,7 @@ fn try_rows(rt: &impl Print, apart: i64) -> Result<()> {
     Ok(())
 }
 
-pub fn show(rt: &impl Print) -> Result<()> {
+pub(crate) fn show(rt: &impl Print) -> Result<()> {
     // one row behind the other
     try_rows(rt, 4)?;
     // a slip: the rows overlap

@@ -14,7 +14,7 @@ has_columns (Some columns) = nat_lt 0 columns
 unfoldable pub takes_a_column : ℕ → Bool
 takes_a_column c = has_columns (char_width false c)
 
--- a character that takes a column, and is no space, no control or format character, and none without a meaning
+-- a character that takes a column, and is no separator and no control, format, surrogate, private or unassigned character
 unfoldable pub is_seen : ℕ → Bool
 is_seen c = (takes_a_column c && not (in_group Other (general_category c))) && not (in_group Separator (general_category c))
 
