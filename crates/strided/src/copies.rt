@@ -12,13 +12,13 @@ use view::layout::Layout;
 /// For each index vector the reading at its offset in the source, stored at its offset in the
 /// destination: 0, and all other readings of `to` stay.
 ///
-/// Refusals: 1 either layout has more than 16 axes; 3 either is not accepted; 12 their lists of extents differ; 13 a
-/// buffer is shorter than its layout's highest offset + 1 (never if some extent is 0); 8 more than
-/// 2^64 - 1 positions; 9, with the words that are needed, a shorter scratch than the verdict on the
-/// destination needs; 14 that verdict, of its own extents and strides, is Repeated or Undecided. After a refusal `to` is as
-/// it was, and its values stand in the first places of `values`; other places stay. The scratch
-/// words that the verdict needs may hold anything after 0 and after 14; those past them stay, and
-/// all of them otherwise.
+/// Refusals: 1 either layout has more than 16 axes; 3 either is not accepted; 12 their lists of
+/// extents differ; 13 a buffer is shorter than its layout's highest offset + 1 (never if some
+/// extent is 0); 8 more than 2^64 - 1 positions; 9, with the words that are needed, a shorter
+/// scratch; 14 the verdict on the destination, by its own extents and strides, is not Distinct.
+/// After a refusal `to` is as it was, and its values stand in the first places of `values`; other
+/// places stay. The scratch words that this verdict needs may hold anything after 0 and after 14;
+/// those past them stay, and all of them otherwise.
 #[unsafe(no_mangle)]
 pub extern "C" fn strided_copy(
     source: &Layout,
