@@ -32,15 +32,15 @@ pub extern "C" fn strided_copy(
         (model_of destination.now) (length from.now) (length to.old) (length scratch.old)) }
     ensures copied { to.new ≡ copy_after
         (copy_refusal (model_of source.now) (model_of destination.now) (length from.now)
-            (length to.old) (length scratch.old))
+        (length to.old) (length scratch.old))
         (model_of source.now) (model_of destination.now) from.now to.old }
     ensures freed { ScratchAfter
         (copy_frees (model_of source.now) (model_of destination.now) (length from.now)
-            (length to.old) (length scratch.old))
+        (length to.old) (length scratch.old))
         scratch.old scratch.new }
     ensures values { places values.new ≡ values_after
         (copy_refusal (model_of source.now) (model_of destination.now) (length from.now)
-            (length to.old) (length scratch.old))
+        (length to.old) (length scratch.old))
         values.old }
 {
     answer_with_values(copy(source, from, destination, to, scratch), values)

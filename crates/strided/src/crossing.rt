@@ -55,8 +55,9 @@ pub(crate) fn answer_with_values(answer: Result<(), Refusal>, values: &mut Value
     ensures answer { result ≡ number_after (outcome_of answer) }
     ensures values { places values.new ≡ values_after (outcome_of answer) values.old }
 {
-    match answer {
-        Ok(()) => 0,
-        Err(why) => refuse(why, values),
+    if let Err(why) = answer {
+        refuse(why, values)
+    } else {
+        0
     }
 }
