@@ -247,22 +247,14 @@ fn help(place: usize) -> String {
 /// The positions of a layout, cell by cell; refused as its normal form is.
 fn drawn(layout: &Layout) -> Said<Vec<String>> {
     record::normal_form(layout).map_err(refused)?;
-    let (extents, strides) = (layout.extents(), layout.strides());
+    let extents = layout.extents();
     let positions: u64 = if extents.contains(&0) { 0 } else { extents.iter().product() };
     if positions > DRAWN {
         return Err(Stop::error(format_args!("draw shows at most {DRAWN} positions; the layout has {positions}")));
     }
-    let mut cells: BTreeMap<i64, Vec<String>> = BTreeMap::new();
-    let mut index = vec![0; extents.len()];
-    for _ in 0..positions {
-        let steps: i64 = index.iter().zip(strides).filter(|(&place, _)| place > 0).map(|(&place, stride)| place as i64 * stride).sum();
-        cells.entry(layout.offset + steps).or_default().push(joined(&index));
-        for (place, &extent) in index.iter_mut().zip(extents) {
-            *place = (*place + 1) % extent;
-            if *place > 0 {
-                break;
-            }
-        }
+    let mut cells: BTreeMap<i128, Vec<String>> = BTreeMap::new();
+    for (index, cell) in reference::Positions::of(layout) {
+        cells.entry(cell).or_default().push(joined(&index[..extents.len()]));
     }
     let count = format!("cells {}", cells.len());
     let rows = cells.iter().map(|(cell, shared)| format!("{cell}: {}", shared.join(" ")));
