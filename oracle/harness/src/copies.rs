@@ -26,15 +26,15 @@ const LONGEST_OF_ALL: u64 = 1 << 25;
 /// Any copy. Enumerations and Undecided destinations need long buffers, so they are rare.
 pub fn copy(random: &mut Random) -> CopyInput {
     match random.below(6000) {
-        0 => {
+        0..=2 => {
             let (source, destination) = undecided(random);
             lent(random, source, destination, LONGEST_OF_ALL)
         }
-        1..=4 => {
+        3..=14 => {
             let (source, destination) = enumerated(random);
             lent(random, source, destination, LONGEST_OF_ALL)
         }
-        5..=600 => {
+        15..=600 => {
             let (source, destination) = (layouts::layout(random), layouts::layout(random));
             lent(random, source, destination, LONGEST)
         }
@@ -61,10 +61,12 @@ fn pair(random: &mut Random, positions: u64) -> (Layout, Layout) {
     let mut source = axes(random, &ours, 2);
     let mut destination = axes(random, &theirs, 8);
     // An axis of stride 0 may be as long as any: so there can be more than 2^64 - 1 positions.
-    while random.once_in(12) && source.len().max(destination.len()) < 16 {
-        let extent = if random.once_in(3) { 1 << 32 } else { random.extent() };
-        source.push((extent, 0));
-        destination.push((extent, 0));
+    if random.once_in(12) && source.len().max(destination.len()) < 15 {
+        for _ in 0..random.between(1, 2) {
+            let extent = if random.once_in(2) { 1 << 32 } else { random.extent() };
+            source.push((extent, 0));
+            destination.push((extent, 0));
+        }
     }
     (placed(random, &source), placed(random, &destination))
 }

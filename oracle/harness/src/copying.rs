@@ -16,6 +16,17 @@ impl Copied {
         Copied { answer: Err((number, value)), verdict: None }
     }
 
+    /// The answer without its value, and what it came of.
+    pub fn kind(&self, source: &Layout) -> String {
+        let enumerated = if self.free() > 0 { ", enumerated" } else { "" };
+        match (self.answer, self.verdict) {
+            (Ok(()), _) if source.extents().contains(&0) => "done, no positions".to_string(),
+            (Ok(()), _) => format!("done{enumerated}"),
+            (Err((14, _)), Some((3, _))) => "refused 14, undecided".to_string(),
+            (Err((number, _)), _) => format!("refused {number}{enumerated}"),
+        }
+    }
+
     /// How many words of scratch, from the first on, may hold anything afterwards.
     pub fn free(&self) -> usize {
         self.verdict.map_or(0, |(_, needed)| needed as usize)
