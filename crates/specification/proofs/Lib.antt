@@ -58,6 +58,8 @@ pub mod ViewLaws
 pub mod DiagonalLaws
 pub mod AnswerRules
 pub mod ReachClaimed
+pub mod ReadingLaws
+pub mod BothLaws
 pub mod PermuteAnswers
 pub mod BroadcastAnswers
 pub mod DiagonalAnswers

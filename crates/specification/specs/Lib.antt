@@ -12,6 +12,7 @@ pub mod Decided
 pub mod Verdict
 pub mod Record
 pub mod ByteClaims
+pub mod Readings
 pub mod Beside
 pub mod Calls
 pub mod ViewRules

@@ -7,6 +7,7 @@ pub mod AxesLaws
 pub mod ListsLaws
 pub mod BoundsLaws
 pub mod SpansLaws
+pub mod ReadingLaws
 pub mod ListedLaws
 pub mod ViewLaws
 pub mod TargetLaws

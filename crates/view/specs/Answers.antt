@@ -3,7 +3,7 @@ use Rattle.std.specs.Prelude.{List, [], ◌∷◌, take, ℕ, Err, Ok, Result}
 use Rattle.specification.specs.Outcome.{Outcome, Check, done, refused, pass}
 use Rattle.view.specs.declared.layout.Refusal.{Refusal}
 use Rattle.view.specs.declared.values.Values.{Values}
-use Rattle.view.specs.declared.layout.Refusal.TheVariants.{TooManyAxes, LengthsDiffer, OutOfRange, WrongLength, BadAxis, BadExtent, BadIndex, TooManyPositions, ShortScratch, ShortOutput, NotARecord}
+use Rattle.view.specs.declared.layout.Refusal.TheVariants.{TooManyAxes, LengthsDiffer, OutOfRange, WrongLength, BadAxis, BadExtent, BadIndex, TooManyPositions, ShortScratch, ShortOutput, NotARecord, ExtentsDiffer, ShortReadings, NotDistinct}
 
 -- the number of a refusal
 abbrev pub number_of : Refusal → ℕ
@@ -18,6 +18,9 @@ number_of TooManyPositions = 8
 number_of (ShortScratch words) = 9
 number_of (ShortOutput needed) = 10
 number_of NotARecord = 11
+number_of ExtentsDiffer = 12
+number_of ShortReadings = 13
+number_of NotDistinct = 14
 
 -- the values returned with it
 abbrev pub values_of : Refusal → List ℕ
@@ -32,6 +35,9 @@ values_of TooManyPositions = []
 values_of (ShortScratch words) = words ∷ []
 values_of (ShortOutput needed) = needed ∷ []
 values_of NotARecord = []
+values_of ExtentsDiffer = []
+values_of ShortReadings = []
+values_of NotDistinct = []
 
 -- the values that stand in a struct
 abbrev pub listed : Values → List ℕ

@@ -4,6 +4,7 @@ pub mod Lists
 pub mod Model
 pub mod Bounded
 pub mod Reach
+pub mod Readings
 pub mod Refusals
 pub mod Ties
 pub mod Count

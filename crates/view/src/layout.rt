@@ -78,6 +78,15 @@ pub enum Refusal {
     /// 11: no whole record stands at the front, or its verdict is false.
     #[error("the bytes are not a record")]
     NotARecord,
+    /// 12: the extents of one layout, in their order, are not those of the other.
+    #[error("the two layouts differ in extents")]
+    ExtentsDiffer,
+    /// 13: a buffer that is lent ends at or before the highest offset of its layout.
+    #[error("a buffer is shorter than its layout needs")]
+    ShortReadings,
+    /// 14: the verdict on the destination is repeated or undecided.
+    #[error("the verdict on the destination is not distinct")]
+    NotDistinct,
 }
 
 impl Viewed {
@@ -107,6 +116,9 @@ impl Refusal {
             Refusal::ShortScratch(words) => (9, Values::one(words)),
             Refusal::ShortOutput(needed) => (10, Values::one(needed)),
             Refusal::NotARecord => (11, Values::none()),
+            Refusal::ExtentsDiffer => (12, Values::none()),
+            Refusal::ShortReadings => (13, Values::none()),
+            Refusal::NotDistinct => (14, Values::none()),
         }
     }
 

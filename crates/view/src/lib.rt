@@ -18,6 +18,7 @@ pub mod offset;
 pub mod parts;
 pub mod permute;
 pub mod printed;
+pub mod readings;
 pub mod values;
 
 pub use bounds::{Reach, validate_bounds};

@@ -1,0 +1,5 @@
+-- What the contracts and claims on copying cite.
+pub mod Runs
+pub mod Copy
+pub mod CopyClaims
+pub mod CopyCases
