@@ -43,8 +43,8 @@ pub const MORE: [&str; 2] = [
 ];
 
 /// Words behind `help` that are topics, and no commands.
-pub const TOPICS: [&str; 28] = [
-    "words", "refused", "1", "2", "3", "4", "5", "6", "7", "8", "9", "10", "11", "12", "13", "14", "LEN", "OUTLEN", "OFFSET", "EXTENTS", "STRIDES", "LIST", "PAIRS", "BYTES", "WORDS", "ROOM", "COMMAND", "TOPIC",
+pub const TOPICS: [&str; 30] = [
+    "words", "refused", "1", "2", "3", "4", "5", "6", "7", "8", "9", "10", "11", "12", "13", "14", "LEN", "OUTLEN", "OFFSET", "EXTENTS", "STRIDES", "LIST", "PAIRS", "FROM", "TO", "BYTES", "WORDS", "ROOM", "COMMAND", "TOPIC",
 ];
 
 fn lines(rows: &[(&str, &str)]) -> Vec<String> {
