@@ -44,12 +44,20 @@ fn dense() {
     copy("2^20 readings in one run, beside copy_from_slice", &run, &readings(MANY), &run, MANY, |from, to| to.copy_from_slice(from));
 }
 
+/// A loop whose stride the compiler knows is made of wider loads; a copy is handed its strides, as the second loop is.
 fn strided() {
     let every_other = layout(2 * MANY, &[MANY as u64], &[2]);
     let run = layout(MANY, &[MANY as u64], &[1]);
-    copy("2^20 readings at stride 2, beside a loop", &every_other, &readings(2 * MANY), &run, MANY, |from, to| {
+    let from = readings(2 * MANY);
+    copy("2^20 readings at stride 2, beside a loop at stride 2", &every_other, &from, &run, MANY, |from, to| {
         for (place, reading) in to.iter_mut().enumerate() {
             *reading = from[2 * place];
+        }
+    });
+    let stride = black_box(2);
+    copy("2^20 readings at stride 2, beside a loop that is handed its stride", &every_other, &from, &run, MANY, |from, to| {
+        for (place, reading) in to.iter_mut().enumerate() {
+            *reading = from[stride * place];
         }
     });
 }
