@@ -1,34 +1,33 @@
-//! Readings copied from places to places: along one axis, then run by run.
-ghost use Rattle.std.specs.Prelude.{◌≡◌, ◌<◌, ◌+◌, ◌*◌, ◌∷◌, ◌≤◌, length};
+//! Readings copied run by run: along the first axis of both layouts, from each position of the others.
+ghost use Rattle.std.specs.Prelude.{◌≡◌, ◌<◌, ◌+◌, ◌*◌, ◌∷◌, ◌≤◌, length, All};
 ghost use Rattle.specification.specs.Axis.{positions};
-ghost use Rattle.positions.specs.Positions.{IsWalkable, place_at};
+ghost use Rattle.positions.specs.Positions.{IsWalkable, StrideFits, place_at, word_of};
 ghost use Rattle.positions.specs.Runs.{run_at, IsRunIn};
 ghost use Rattle.copying.specs.Copy.{copies};
-ghost use Rattle.copying.specs.Runs.{IsPlacedIn};
+ghost use Rattle.copying.specs.Runs.{IsPlacedIn, places_of};
 
 use axis::Axis;
 use positions::Positions;
 
-/// Copies readings along one axis on each side. The sums wrap, as a negative step does.
-fn copy_strided(
-    from: &[i32],
-    source: u64,
-    source_step: u64,
-    to: &mut [i32],
-    destination: u64,
-    destination_step: u64,
-    count: u64,
-)
-    requires in_source { IsRunIn source «source_step» count (length from.now) }
-    requires in_destination { IsRunIn destination «destination_step» count (length to.old) }
-    ensures { to.new ≡ copies (run_at source «source_step») (run_at destination «destination_step») from.now count to.old }
+/// Places in a buffer: the first, and the step from each to the next. Both are words, whose sums wrap.
+#[derive(Clone, Copy)]
+struct Run {
+    place: u64,
+    step: u64,
+}
+
+/// Copies readings along a run on each side. The sums wrap, as a negative step does.
+fn copy_strided(from: &[i32], source: Run, to: &mut [i32], destination: Run, count: u64)
+    requires in_source { IsRunIn source.place source.step count (length from.now) }
+    requires in_destination { IsRunIn destination.place destination.step count (length to.old) }
+    ensures { to.new ≡ copies (run_at source.place source.step) (run_at destination.place destination.step) from.now count to.old }
 {
-    let mut s = source;
-    let mut d = destination;
+    let mut s = source.place;
+    let mut d = destination.place;
     for _i in 0..count {
         to[d as usize] = from[s as usize];
-        s = s.wrapping_add(source_step);
-        d = d.wrapping_add(destination_step);
+        s = s.wrapping_add(source.step);
+        d = d.wrapping_add(destination.step);
     }
 }
 
@@ -41,79 +40,72 @@ fn copy_dense(from: &[i32], source: usize, to: &mut [i32], destination: usize, c
     to[destination..destination + count].copy_from_slice(&from[source..source + count]);
 }
 
-/// Copies a run: dense where both steps are 1, as most runs are.
-fn copy_run(
-    from: &[i32],
-    source: u64,
-    source_step: u64,
-    to: &mut [i32],
-    destination: u64,
-    destination_step: u64,
-    count: u64,
-)
+/// Copies a run: as one part of the buffers if both steps are 1.
+fn copy_run(from: &[i32], source: Run, to: &mut [i32], destination: Run, count: u64)
     requires some { 0 < count }
-    requires in_source { IsRunIn source «source_step» count (length from.now) }
-    requires in_destination { IsRunIn destination «destination_step» count (length to.old) }
-    ensures { to.new ≡ copies (run_at source «source_step») (run_at destination «destination_step») from.now count to.old }
+    requires in_source { IsRunIn source.place source.step count (length from.now) }
+    requires in_destination { IsRunIn destination.place destination.step count (length to.old) }
+    ensures { to.new ≡ copies (run_at source.place source.step) (run_at destination.place destination.step) from.now count to.old }
 {
-    if source_step == 1 && destination_step == 1 {
-        copy_dense(
-            from,
-            source as usize,
-            to,
-            destination as usize,
-            count as usize,
-        );
+    if source.step == 1 && destination.step == 1 {
+        let (place, into) = (source.place as usize, destination.place as usize);
+        copy_dense(from, place, to, into, count as usize);
     } else {
-        copy_strided(
-            from,
-            source,
-            source_step,
-            to,
-            destination,
-            destination_step,
-            count,
-        );
+        copy_strided(from, source, to, destination, count);
     }
 }
 
-/// Copies every position of two lists of axes with the same extents, of which none is 0, run by run along the first.
-pub(crate) fn copy_runs(
-    from: &[i32],
-    source: u64,
-    run: Axis,
-    rest: &[Axis],
-    to: &mut [i32],
-    destination: u64,
-    into_run: Axis,
-    into_rest: &[Axis],
-)
-    requires some { 0 < run.extent }
-    requires alike { into_run.extent ≡ run.extent }
-    requires walkable { IsWalkable rest.now }
-    requires into_walkable { IsWalkable into_rest.now }
-    requires as_many { positions into_rest.now ≡ positions rest.now }
-    requires in_source { IsPlacedIn source (run ∷ rest.now) (length from.now) }
-    requires in_destination { IsPlacedIn destination (into_run ∷ into_rest.now) (length to.old) }
-    ensures { to.new ≡ copies (place_at source (run ∷ rest.now)) (place_at destination (into_run ∷ into_rest.now)) from.now
-        (run.extent * positions rest.now) to.old }
+/// The runs of axes along the first of them, one after another.
+#[derive(Drop)]
+pub(crate) struct Runs {
+    axis: Axis,
+    others: Positions,
+}
+
+impl Runs {
+    /// The first run, from the place of the first position on.
+    pub(crate) fn new(axis: Axis, others: &[Axis], start: u64) -> Runs
+        requires { IsWalkable others.now }
+        ensures axis { result.axis ≡ axis }
+        ensures others { result.others ≡ record { axes = others.now; start = start; number = 0 } }
+        ensures fits { StrideFits axis }
+        ensures others_fit { All StrideFits others.now }
+    {
+        Runs {
+            axis,
+            others: Positions::new(others, start),
+        }
+    }
+
+    /// The run where the walk stands.
+    fn run(&self) -> Run
+        ensures place { result.place ≡ place_at self.now.others.start self.now.others.axes self.now.others.number }
+        ensures step { result.step ≡ word_of self.now.axis.stride }
+    {
+        Run {
+            place: self.others.place(),
+            step: self.axis.stride.cast_unsigned(),
+        }
+    }
+}
+
+/// Copies every position of two lists of axes with the same extents, of which none is 0, run by run.
+pub(crate) fn copy_runs(from: &[i32], mut source: Runs, to: &mut [i32], mut destination: Runs)
+    requires some { 0 < positions source.others.axes }
+    requires long { 0 < source.axis.extent }
+    requires alike { destination.axis.extent ≡ source.axis.extent }
+    requires as_many { positions destination.others.axes ≡ positions source.others.axes }
+    requires first { source.others.number ≡ 0 }
+    requires into_first { destination.others.number ≡ 0 }
+    requires in_source { IsPlacedIn source.others.start (source.axis ∷ source.others.axes) (length from.now) }
+    requires in_destination { IsPlacedIn destination.others.start (destination.axis ∷ destination.others.axes) (length to.old) }
+    ensures { to.new ≡ copies (places_of source) (places_of destination) from.now (source.axis.extent * positions source.others.axes) to.old }
 {
-    let step = run.stride.cast_unsigned();
-    let into_step = into_run.stride.cast_unsigned();
-    let mut at = Positions::new(rest, source);
-    let mut into = Positions::new(into_rest, destination);
+    let count = source.axis.extent;
     let mut more = true;
     while more {
-        copy_run(
-            from,
-            at.place(),
-            step,
-            to,
-            into.place(),
-            into_step,
-            run.extent,
-        );
-        more = at.next();
-        into.next();
+        copy_run(from, source.run(), to, destination.run(), count);
+        more = source.others.next();
+        destination.others.next();
     }
 }

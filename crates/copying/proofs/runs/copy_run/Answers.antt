@@ -6,21 +6,25 @@ use Rattle.copying.proofs.runs.copy_run.Goals as goal
 
 pub copy_dense-requires-clause-in_source : goal.copy_dense-requires-clause-in_source
 copy_dense-requires-clause-in_source c =
-    let r : IsRunIn c.args.source 1 c.args.count (length c.args.from.now) = rw c.if-source_step-eq1.true at c.requires.in_source in
-    dense-within c.args.source c.args.count (length c.args.from.now) c.requires.some c.ranges.source.fits (search rules) r
+    let r : IsRunIn c.args.source.place 1 c.args.count (length c.args.from.now) = rw c.if-source-eq1.true at c.requires.in_source in
+    dense-within c.args.source.place c.args.count (length c.args.from.now) c.requires.some (search rules) (search rules) r
 
 pub copy_dense-requires-clause-in_destination : goal.copy_dense-requires-clause-in_destination
 copy_dense-requires-clause-in_destination c =
-    let r : IsRunIn c.args.destination 1 c.args.count (length c.args.to.now) = rw c.if-destination_step-eq1.true at c.requires.in_destination in
-    dense-within c.args.destination c.args.count (length c.args.to.now) c.requires.some c.ranges.destination.fits (search rules) r
+    let r : IsRunIn c.args.destination.place 1 c.args.count (length c.args.to.now) = rw c.if-destination-eq1.true at c.requires.in_destination in
+    dense-within c.args.destination.place c.args.count (length c.args.to.now) c.requires.some (search rules) (search rules) r
 
-pub returns-then-destination_step-eq1 : goal.returns-then-destination_step-eq1
-returns-then-destination_step-eq1 c =
+pub returns-then-destination-eq1 : goal.returns-then-destination-eq1
+returns-then-destination-eq1 c =
     let a = c.args in
-    let r : IsRunIn a.source 1 a.count (length a.from.now) = rw c.if-source_step-eq1.true at c.requires.in_source in
-    let q : IsRunIn a.destination 1 a.count (length a.to.now) = rw c.if-destination_step-eq1.true at c.requires.in_destination in
+    let s = a.source.place in
+    let d = a.destination.place in
+    let r : IsRunIn s 1 a.count (length a.from.now) = rw c.if-source-eq1.true at c.requires.in_source in
+    let q : IsRunIn d 1 a.count (length a.to.now) = rw c.if-destination-eq1.true at c.requires.in_destination in
     let m : length a.from.now < 2 ^ 64 = search rules in
     let n : length a.to.now < 2 ^ 64 = search rules in
-    rw (c.if-source_step-eq1.true, c.if-destination_step-eq1.true) (c.copy_dense.ensures ∙ copies-same _ _ _ _ a.from.now a.count a.to.now
-    (λ i h. run-dense a.source a.count (length a.from.now) i (dense-within a.source a.count (length a.from.now) c.requires.some c.ranges.source.fits m r) m h)
-    (λ i h. run-dense a.destination a.count (length a.to.now) i (dense-within a.destination a.count (length a.to.now) c.requires.some c.ranges.destination.fits n q) n h))
+    let f : s < 2 ^ 64 = search rules in
+    let g : d < 2 ^ 64 = search rules in
+    rw (c.if-source-eq1.true, c.if-destination-eq1.true) (c.copy_dense.ensures ∙ copies-same _ _ _ _ a.from.now a.count a.to.now
+    (λ i h. run-dense s a.count (length a.from.now) i (dense-within s a.count (length a.from.now) c.requires.some f m r) m h)
+    (λ i h. run-dense d a.count (length a.to.now) i (dense-within d a.count (length a.to.now) c.requires.some g n q) n h))

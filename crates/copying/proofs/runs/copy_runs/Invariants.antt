@@ -6,7 +6,7 @@ use Rattle.copying.proofs.CopyingLaws.{Swept}
 use Rattle.copying.proofs.runs.copy_runs.Given as goal
 
 abbrev pub invariant-loop-more : goal.invariant-loop-more
-invariant-loop-more l = Swept l.source l.run l.rest l.destination l.fn.into_run l.into_rest l.from l.at l.into l.more l.initial.to l.to
+invariant-loop-more l = Swept l.initial.source l.initial.destination l.from l.initial.to l.source l.destination l.more l.to
 
 abbrev pub decreases-loop-more : goal.decreases-loop-more
-decreases-loop-more l = if l.more then positions l.rest - l.at.number else 0
+decreases-loop-more l = if l.more then positions l.source.others.axes - l.source.others.number else 0
