@@ -2,7 +2,7 @@
  *
  * Every call but strided_step answers with one number:
  *   0         the call is done
- *   1 to 11   the call is refused; the number says why (STRIDED_* below)
+ *   1 to 14   the call is refused; the number says why (STRIDED_* below)
  *   255       the output is too short; only the two calls for dense strides answer it
  * A call that is not done leaves everything as it was, except that a refusal may write its values. There is one more
  * exception: if strided_read finds a false verdict (refusal 11), the scratch words that the verdict needs may change.
@@ -48,6 +48,9 @@ enum {
     STRIDED_SHORT_SCRATCH = 9,       /* too few scratch words; values: how many are needed */
     STRIDED_SHORT_OUTPUT = 10,       /* the output is too short; values: how many bytes are needed */
     STRIDED_NOT_A_RECORD = 11,       /* the bytes do not begin with a record, or its verdict is false */
+    STRIDED_EXTENTS_DIFFER = 12,     /* the two layouts differ in extents */
+    STRIDED_SHORT_READINGS = 13,     /* a buffer is shorter than its layout needs */
+    STRIDED_NOT_DISTINCT = 14,       /* the verdict on the destination is not distinct */
     STRIDED_SHORT_BUFFER = 255       /* the output has fewer places than there are extents */
 };
 

@@ -15,6 +15,9 @@ SENTENCES = {
     9: "{0} words of scratch are needed",
     10: "{0} bytes of output are needed",
     11: "the bytes are not a record",
+    12: "the two layouts differ in extents",
+    13: "a buffer is shorter than its layout needs",
+    14: "the verdict on the destination is not distinct",
 }
 
 

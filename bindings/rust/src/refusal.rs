@@ -45,6 +45,12 @@ pub enum Refusal {
     },
     /// 11: the bytes do not begin with a record, or its verdict is false.
     NotARecord,
+    /// 12: the two layouts have not the same extents in the same order.
+    ExtentsDiffer,
+    /// 13: a buffer ends at or before the highest offset of its layout.
+    ShortReadings,
+    /// 14: the verdict on the destination is repeated or undecided.
+    NotDistinct,
     /// 255: there are fewer places than extents. The calls of this crate lend enough.
     ShortBuffer,
 }
@@ -64,6 +70,9 @@ impl Refusal {
             Refusal::ShortScratch { .. } => 9,
             Refusal::ShortOutput { .. } => 10,
             Refusal::NotARecord => 11,
+            Refusal::ExtentsDiffer => 12,
+            Refusal::ShortReadings => 13,
+            Refusal::NotDistinct => 14,
             Refusal::ShortBuffer => 255,
         }
     }
@@ -84,6 +93,9 @@ impl Refusal {
             9 => Refusal::ShortScratch { words: first },
             10 => Refusal::ShortOutput { bytes: first },
             11 => Refusal::NotARecord,
+            12 => Refusal::ExtentsDiffer,
+            13 => Refusal::ShortReadings,
+            14 => Refusal::NotDistinct,
             _ => Refusal::ShortBuffer,
         })
     }
@@ -106,6 +118,9 @@ impl std::fmt::Display for Refusal {
             Refusal::ShortScratch { words } => write!(f, "{words} words of scratch are needed"),
             Refusal::ShortOutput { bytes } => write!(f, "{bytes} bytes of output are needed"),
             Refusal::NotARecord => write!(f, "the bytes are not a record"),
+            Refusal::ExtentsDiffer => write!(f, "the two layouts differ in extents"),
+            Refusal::ShortReadings => write!(f, "a buffer is shorter than its layout needs"),
+            Refusal::NotDistinct => write!(f, "the verdict on the destination is not distinct"),
             Refusal::ShortBuffer => write!(f, "there are fewer places than extents"),
         }
     }

@@ -31,6 +31,9 @@ fn sentences_of_refusals() {
         ("ShortScratch", Refusal::ShortScratch { words: 40 }),
         ("ShortOutput", Refusal::ShortOutput { bytes: 40 }),
         ("NotARecord", Refusal::NotARecord),
+        ("ExtentsDiffer", Refusal::ExtentsDiffer),
+        ("ShortReadings", Refusal::ShortReadings),
+        ("NotDistinct", Refusal::NotDistinct),
     ];
     let sentences = sentences();
     assert_eq!(sentences.len(), refusals.len());

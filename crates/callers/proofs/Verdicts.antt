@@ -9,7 +9,7 @@ use Rattle.specification.specs.Normal.{normal_of}
 use Rattle.specification.specs.Verdict.{BothBudgetsPassed}
 use Rattle.specification.specs.RecordsAgree.{TrueByte}
 use Rattle.view.specs.declared.layout.Refusal.{Refusal}
-use Rattle.view.specs.declared.layout.Refusal.TheVariants.{TooManyAxes, LengthsDiffer, OutOfRange, WrongLength, BadAxis, BadExtent, BadIndex, TooManyPositions, ShortScratch, ShortOutput, NotARecord}
+use Rattle.view.specs.declared.layout.Refusal.TheVariants.{TooManyAxes, LengthsDiffer, OutOfRange, WrongLength, BadAxis, BadExtent, BadIndex, TooManyPositions, ShortScratch, ShortOutput, NotARecord, ExtentsDiffer, ShortReadings, NotDistinct}
 use Rattle.injectivity.specs.declared.Judgement.{Judgement}
 use Rattle.injectivity.specs.declared.Judgement.TheVariants.{Distinct, Repeated, Undecided}
 use Rattle.injectivity.specs.Meaning.{NoneDue, IsFitting, Means, MeansOfLists}
@@ -35,6 +35,9 @@ answered axes before after (BadExtent a) m d = grind (arith, m.no_other 6 (a ∷
 answered axes before after (BadIndex a) m d = grind (arith, m.no_other 7 (a ∷ []) refl)
 answered axes before after (ShortOutput n) m d = grind (arith, m.no_other 10 (n ∷ []) refl)
 answered axes before after NotARecord m d = grind (arith, m.no_other 11 [] refl)
+answered axes before after ExtentsDiffer m d = grind (arith, m.no_other 12 [] refl)
+answered axes before after ShortReadings m d = grind (arith, m.no_other 13 [] refl)
+answered axes before after NotDistinct m d = grind (arith, m.no_other 14 [] refl)
 
 -- ---- two lists
 

@@ -24,7 +24,7 @@ use Rattle.view.specs.declared.layout.Layout.{Layout}
 use Rattle.view.specs.Model.{model_of, layout_outcome}
 use Rattle.view.specs.Answers.{outcome_by}
 use Rattle.view.specs.declared.layout.Refusal.{Refusal}
-use Rattle.view.specs.declared.layout.Refusal.TheVariants.{TooManyAxes, LengthsDiffer, OutOfRange, WrongLength, BadAxis, BadExtent, BadIndex, TooManyPositions, ShortScratch, ShortOutput, NotARecord}
+use Rattle.view.specs.declared.layout.Refusal.TheVariants.{TooManyAxes, LengthsDiffer, OutOfRange, WrongLength, BadAxis, BadExtent, BadIndex, TooManyPositions, ShortScratch, ShortOutput, NotARecord, ExtentsDiffer, ShortReadings, NotDistinct}
 use Rattle.commands.specs.Obeyed.{or_most}
 use Rattle.commands.specs.Scratch.{words_lacking, bytes_made, front_written}
 
@@ -54,6 +54,9 @@ module _ {A B T : Type 0} (f : ℕ → Outcome A) (steady : Steady f) (told : Ou
       go (Err TooManyPositions) e = absurd (omega (arith, (refused-inj e).0))
       go (Err (ShortOutput a)) e = absurd (omega (arith, (refused-inj e).0))
       go (Err NotARecord) e = absurd (omega (arith, (refused-inj e).0))
+      go (Err ExtentsDiffer) e = absurd (omega (arith, (refused-inj e).0))
+      go (Err ShortReadings) e = absurd (omega (arith, (refused-inj e).0))
+      go (Err NotDistinct) e = absurd (omega (arith, (refused-inj e).0))
 
   at-most : (words : ℕ) → steady.need ≤ words → f (or_most None) ≡ f words
   at-most words h = steady.enough 16777217 steady.bounded ∙ sym (steady.enough words h)

@@ -7,7 +7,7 @@ use Rattle.view.specs.Answers.{number_of}
 use Rattle.view.specs.declared.layout.Refusal.{Refusal}
 use Rattle.view.specs.declared.layout.Refusal.TheVariants as refusal
 use Rattle.commands.specs.declared.command.Command.{Command}
-use Rattle.commands.specs.declared.kind.Kind.TheVariants.{TooManyAxes, LengthsDiffer, OutOfRange, WrongLength, BadAxis, BadExtent, BadIndex, TooManyPositions, ShortScratch, ShortOutput, NotARecord}
+use Rattle.commands.specs.declared.kind.Kind.TheVariants.{TooManyAxes, LengthsDiffer, OutOfRange, WrongLength, BadAxis, BadExtent, BadIndex, TooManyPositions, ShortScratch, ShortOutput, NotARecord, ExtentsDiffer, ShortReadings, NotDistinct}
 use Rattle.commands.specs.declared.usage_word.UsageWord.TheVariants as usage
 use Rattle.commands.specs.declared.topic.Topic.{Topic}
 use Rattle.commands.specs.declared.topic.Topic.TheVariants as topic
@@ -47,6 +47,9 @@ each (topic.Refusal TooManyPositions) = refl
 each (topic.Refusal ShortScratch) = refl
 each (topic.Refusal ShortOutput) = refl
 each (topic.Refusal NotARecord) = refl
+each (topic.Refusal ExtentsDiffer) = refl
+each (topic.Refusal ShortReadings) = refl
+each (topic.Refusal NotDistinct) = refl
 each topic.Refusals = refl
 
 -- the number of a refusal as text
@@ -63,6 +66,9 @@ spelled refusal.TooManyPositions = decimal_digit 8 (omega arith)
 spelled (refusal.ShortScratch words) = decimal_digit 9 (omega arith)
 spelled (refusal.ShortOutput needed) = decimal_step 10 (omega arith) (omega arith) ∙ ap (λ front. front ++ 48 ∷ []) (decimal_digit 1 (omega arith))
 spelled refusal.NotARecord = decimal_step 11 (omega arith) (omega arith) ∙ ap (λ front. front ++ 49 ∷ []) (decimal_digit 1 (omega arith))
+spelled refusal.ExtentsDiffer = decimal_step 12 (omega arith) (omega arith) ∙ ap (λ front. front ++ 50 ∷ []) (decimal_digit 1 (omega arith))
+spelled refusal.ShortReadings = decimal_step 13 (omega arith) (omega arith) ∙ ap (λ front. front ++ 51 ∷ []) (decimal_digit 1 (omega arith))
+spelled refusal.NotDistinct = decimal_step 14 (omega arith) (omega arith) ∙ ap (λ front. front ++ 52 ∷ []) (decimal_digit 1 (omega arith))
 
 pub refusals : EachRefusalIsNamed
 unfolding topic_name

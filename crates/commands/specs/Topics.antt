@@ -8,7 +8,7 @@ use Rattle.view.specs.Printed.{joined}
 use Rattle.view.specs.declared.layout.Refusal.{Refusal}
 use Rattle.view.specs.declared.layout.Refusal.TheVariants as refusal
 use Rattle.commands.specs.declared.kind.Kind.{Kind}
-use Rattle.commands.specs.declared.kind.Kind.TheVariants.{TooManyAxes, LengthsDiffer, OutOfRange, WrongLength, BadAxis, BadExtent, BadIndex, TooManyPositions, ShortScratch, ShortOutput, NotARecord}
+use Rattle.commands.specs.declared.kind.Kind.TheVariants.{TooManyAxes, LengthsDiffer, OutOfRange, WrongLength, BadAxis, BadExtent, BadIndex, TooManyPositions, ShortScratch, ShortOutput, NotARecord, ExtentsDiffer, ShortReadings, NotDistinct}
 use Rattle.commands.specs.declared.usage_word.UsageWord.{UsageWord}
 use Rattle.commands.specs.declared.usage_word.UsageWord.TheVariants as usage
 use Rattle.commands.specs.declared.topic.Topic.{Topic}
@@ -35,6 +35,9 @@ kind_texts TooManyPositions = record { number = codes "8"; values = []; meaning 
 kind_texts ShortScratch = record { number = codes "9"; values = codes " WORDS"; meaning = codes "WORDS words of scratch are needed; lend as many (a line lends at most 65536), or leave WORDS out" }
 kind_texts ShortOutput = record { number = codes "10"; values = codes " BYTES"; meaning = codes "BYTES bytes of output are needed; give at least as many as ROOM" }
 kind_texts NotARecord = record { number = codes "11"; values = []; meaning = codes "the bytes are not a record; no whole one stands at their beginning, or its verdict is false" }
+kind_texts ExtentsDiffer = record { number = codes "12"; values = []; meaning = codes "the two layouts differ in extents; give the current layout and the held one the same extents, in the same order" }
+kind_texts ShortReadings = record { number = codes "13"; values = []; meaning = codes "a buffer is shorter than its layout needs; give each layout as many readings as its highest offset + 1" }
+kind_texts NotDistinct = record { number = codes "14"; values = []; meaning = codes "the verdict on the destination is not distinct; hold a layout that verdict answers with distinct" }
 
 -- the answer with the names of its values, and what it says
 unfoldable pub kind_line : Kind → List ℕ
@@ -44,7 +47,7 @@ kind_line kind = codes "refused " ++ (kind_texts kind).number ++ (kind_texts kin
 abbrev pub kinds : List Kind
 kinds =
     TooManyAxes ∷ LengthsDiffer ∷ OutOfRange ∷ WrongLength ∷ BadAxis ∷ BadExtent ∷ BadIndex ∷ TooManyPositions
-    ∷ ShortScratch ∷ ShortOutput ∷ NotARecord ∷ []
+    ∷ ShortScratch ∷ ShortOutput ∷ NotARecord ∷ ExtentsDiffer ∷ ShortReadings ∷ NotDistinct ∷ []
 
 -- the refusal with a number
 abbrev pub kind_named : List ℕ → Option Kind
@@ -69,7 +72,7 @@ word_texts usage.Bytes = record { name = codes "BYTES"; meaning = codes "two hex
 word_texts usage.Words = record { name = codes "WORDS"; meaning = codes "how many words of scratch to lend, a number from 0 to 65536, as 1024; left out, as many as are needed" }
 word_texts usage.Room = record { name = codes "ROOM"; meaning = codes "how many bytes of output to lend, a number from 0 to 65536, as 64" }
 word_texts usage.Command = record { name = codes "COMMAND"; meaning = codes "the name of a command, as new" }
-word_texts usage.Topic = record { name = codes "TOPIC"; meaning = codes "what help explains: a command, as new; a word of a usage, as LIST; words; refused; or a number from 1 to 11" }
+word_texts usage.Topic = record { name = codes "TOPIC"; meaning = codes "what help explains: a command, as new; a word of a usage, as LIST; words; refused; or a number from 1 to 14" }
 
 unfoldable pub word_line : UsageWord → List ℕ
 word_line word = (word_texts word).name ++ codes ": " ++ (word_texts word).meaning
@@ -152,6 +155,9 @@ kind_of refusal.TooManyPositions = TooManyPositions
 kind_of (refusal.ShortScratch words) = ShortScratch
 kind_of (refusal.ShortOutput needed) = ShortOutput
 kind_of refusal.NotARecord = NotARecord
+kind_of refusal.ExtentsDiffer = ExtentsDiffer
+kind_of refusal.ShortReadings = ShortReadings
+kind_of refusal.NotDistinct = NotDistinct
 
 -- the number that the answer to a refusal has is the name of its topic
 abbrev pub EachRefusalIsNamed : Type 0

@@ -18,10 +18,13 @@ pub enum Kind {
     ShortScratch,
     ShortOutput,
     NotARecord,
+    ExtentsDiffer,
+    ShortReadings,
+    NotDistinct,
 }
 
 /// Each refusal, by its number.
-pub const KINDS: [Kind; 11] = [
+pub const KINDS: [Kind; 14] = [
     Kind::TooManyAxes,
     Kind::LengthsDiffer,
     Kind::OutOfRange,
@@ -33,6 +36,9 @@ pub const KINDS: [Kind; 11] = [
     Kind::ShortScratch,
     Kind::ShortOutput,
     Kind::NotARecord,
+    Kind::ExtentsDiffer,
+    Kind::ShortReadings,
+    Kind::NotDistinct,
 ];
 
 // A refusal's number, the names of its values, and what it says.
@@ -108,6 +114,21 @@ impl Kind {
                 "11",
                 "",
                 "the bytes are not a record; no whole one stands at their beginning, or its verdict is false",
+            ),
+            Kind::ExtentsDiffer => (
+                "12",
+                "",
+                "the two layouts differ in extents; give the current layout and the held one the same extents, in the same order",
+            ),
+            Kind::ShortReadings => (
+                "13",
+                "",
+                "a buffer is shorter than its layout needs; give each layout as many readings as its highest offset + 1",
+            ),
+            Kind::NotDistinct => (
+                "14",
+                "",
+                "the verdict on the destination is not distinct; hold a layout that verdict answers with distinct",
             ),
         };
         Texts {

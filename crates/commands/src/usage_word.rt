@@ -97,7 +97,7 @@ impl UsageWord {
             UsageWord::Command => ("COMMAND", "the name of a command, as new"),
             UsageWord::Topic => (
                 "TOPIC",
-                "what help explains: a command, as new; a word of a usage, as LIST; words; refused; or a number from 1 to 11",
+                "what help explains: a command, as new; a word of a usage, as LIST; words; refused; or a number from 1 to 14",
             ),
         };
         Texts { name, meaning }

@@ -13,11 +13,11 @@ const WORDS: [(&str, &str); 12] = [
     ("WORDS", "how many words of scratch to lend, a number from 0 to 65536, as 1024; left out, as many as are needed"),
     ("ROOM", "how many bytes of output to lend, a number from 0 to 65536, as 64"),
     ("COMMAND", "the name of a command, as new"),
-    ("TOPIC", "what help explains: a command, as new; a word of a usage, as LIST; words; refused; or a number from 1 to 11"),
+    ("TOPIC", "what help explains: a command, as new; a word of a usage, as LIST; words; refused; or a number from 1 to 14"),
 ];
 
 /// The answers to refusals with the names of their values, by number from 1 on, and what each says.
-const REFUSALS: [(&str, &str); 11] = [
+const REFUSALS: [(&str, &str); 14] = [
     ("refused 1", "more than 16 axes or entries; the layout and each list of axes have at most 16"),
     ("refused 2", "the lists differ in length; give as many strides as extents, and to order an OUTLEN of as many places as strides"),
     ("refused 3", "an offset would lie outside the buffer, or a number does not fit 64 bits; look at LEN, OFFSET and each stride x (extent - 1)"),
@@ -29,6 +29,9 @@ const REFUSALS: [(&str, &str); 11] = [
     ("refused 9 WORDS", "WORDS words of scratch are needed; lend as many (a line lends at most 65536), or leave WORDS out"),
     ("refused 10 BYTES", "BYTES bytes of output are needed; give at least as many as ROOM"),
     ("refused 11", "the bytes are not a record; no whole one stands at their beginning, or its verdict is false"),
+    ("refused 12", "the two layouts differ in extents; give the current layout and the held one the same extents, in the same order"),
+    ("refused 13", "a buffer is shorter than its layout needs; give each layout as many readings as its highest offset + 1"),
+    ("refused 14", "the verdict on the destination is not distinct; hold a layout that verdict answers with distinct"),
 ];
 
 /// What stands behind the commands if `help` stands alone.
@@ -38,8 +41,8 @@ pub const MORE: [&str; 2] = [
 ];
 
 /// Words behind `help` that are topics, and no commands.
-pub const TOPICS: [&str; 25] = [
-    "words", "refused", "1", "2", "3", "4", "5", "6", "7", "8", "9", "10", "11", "LEN", "OUTLEN", "OFFSET", "EXTENTS", "STRIDES", "LIST", "PAIRS", "BYTES", "WORDS", "ROOM", "COMMAND", "TOPIC",
+pub const TOPICS: [&str; 28] = [
+    "words", "refused", "1", "2", "3", "4", "5", "6", "7", "8", "9", "10", "11", "12", "13", "14", "LEN", "OUTLEN", "OFFSET", "EXTENTS", "STRIDES", "LIST", "PAIRS", "BYTES", "WORDS", "ROOM", "COMMAND", "TOPIC",
 ];
 
 fn lines(rows: &[(&str, &str)]) -> Vec<String> {

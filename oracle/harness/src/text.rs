@@ -322,7 +322,7 @@ impl Session {
             return Ok((0..COMMANDS.len()).map(help).chain(help::MORE.map(str::to_string)).collect());
         }
         let topic = command(words.word(2)).map(|place| vec![help(place)]).or_else(|| help::topic(words.word(2)));
-        topic.ok_or_else(|| words.fault(2, "is no topic of help; topics are the commands, the words of their usages (as LIST), words, refused, and the numbers from 1 to 11"))
+        topic.ok_or_else(|| words.fault(2, "is no topic of help; topics are the commands, the words of their usages (as LIST), words, refused, and the numbers from 1 to 14"))
     }
 
     /// A command that calls the library.
