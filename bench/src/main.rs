@@ -1,5 +1,6 @@
 //! Times our library beside strided-rs: `bench`, tab-separated lines on standard output.
 
+mod copying;
 mod records;
 mod timing;
 mod verdicts;
@@ -14,4 +15,5 @@ fn main() {
     verdicts::enumerations();
     views::all();
     records::all();
+    copying::all();
 }

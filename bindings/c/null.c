@@ -60,6 +60,20 @@ int main(void) {
     want("the verdict of no axes", found.verdict, STRIDED_DISTINCT);
     WANT_VALUES(strided_is_injective(threes, 12, NULL, 0, &found, &values), STRIDED_SHORT_SCRATCH, 37503, 99);
 
+    {
+        strided_layout none;
+        const int32_t shots[] = {1, 2, 3, 4, 5, 6};
+        int32_t plan[] = {0, 0, 0, 0, 0, 0};
+        memset(&none, 0, sizeof none);
+        none.rank = 1; /* an extent of 0 */
+        WANT_VALUES(strided_copy(&none, NULL, 0, &none, NULL, 0, NULL, 0, &values), STRIDED_DONE, 99, 99);
+        WANT_VALUES(strided_copy(&sheet, NULL, 0, &sheet, plan, 6, NULL, 0, &values), STRIDED_SHORT_READINGS, 99, 99);
+        WANT_VALUES(strided_copy(&sheet, shots, 6, &sheet, NULL, 0, NULL, 0, &values), STRIDED_SHORT_READINGS, 99, 99);
+        want("a reading that no call writes", (size_t)plan[0], 0);
+        WANT_VALUES(strided_copy(&sheet, shots, 6, &sheet, plan, 6, NULL, 0, &values), STRIDED_DONE, 99, 99);
+        want("the copies differ", (size_t)memcmp(plan, shots, sizeof plan), 0);
+    }
+
     WANT_VALUES(strided_write(&sheet, NULL, 0, NULL, 0, &values), STRIDED_SHORT_OUTPUT, 29, 99);
     WANT_VALUES(strided_write(&sheet, record, sizeof record, NULL, 0, &values), STRIDED_DONE, 29, 99);
     WANT_VALUES(strided_read(&point, NULL, 0, NULL, 0, &values), STRIDED_NOT_A_RECORD, 99, 99);

@@ -4,8 +4,9 @@
  *   0         the call is done
  *   1 to 14   the call is refused; the number says why (STRIDED_* below)
  *   255       the output is too short; only the two calls for dense strides answer it
- * A call that is not done leaves everything as it was, except that a refusal may write its values. There is one more
- * exception: if strided_read finds a false verdict (refusal 11), the scratch words that the verdict needs may change.
+ * A call that is not done leaves everything as it was, except that a refusal may write its values. There are two more
+ * exceptions: if strided_read finds a false verdict (refusal 11), or if strided_copy finds that the verdict on the destination
+ * is not distinct (refusal 14), the scratch words that the verdict needs may change.
  *
  * Units: a buffer length, an offset and a stride count readings, never bytes. scratch_len counts scratch words of 64 bits.
  * The output of strided_write and the bytes of a record are counted in bytes.
@@ -22,9 +23,9 @@
 #include <stdint.h>
 
 /* The version of the library (CHANGELOG.md). */
-#define STRIDED_VERSION "0.2.0"
+#define STRIDED_VERSION "0.3.0"
 #define STRIDED_VERSION_MAJOR 0
-#define STRIDED_VERSION_MINOR 2
+#define STRIDED_VERSION_MINOR 3
 #define STRIDED_VERSION_PATCH 0
 
 #if SIZE_MAX != UINT64_MAX
@@ -131,6 +132,24 @@ uint8_t strided_normal_form(strided_layout *layout);
 uint8_t strided_is_injective(const strided_axis *axes, size_t axes_len, uint64_t *scratch, size_t scratch_len,
                              strided_found *found, strided_values *values);
 
+/* ---- readings */
+
+/* Copies signed readings of 32 bits from one buffer through `source` into another through `destination`: for each index vector
+ * the reading at its offset in `source` is stored at its offset in `destination`. Every other reading of `to` keeps what it
+ * held. The two buffers must not overlap; the two layouts may be one struct. from_len and to_len say how long the buffers are.
+ * The `len` of a layout counts for refusal 3 alone. The call looks for the refusals in this order:
+ *   1   a layout has more than 16 axes
+ *   3   a layout is not accepted
+ *   12  the extents of the two layouts differ, as lists
+ *   13  a buffer is shorter than its layout's highest offset + 1; never if an extent is 0
+ *   8   there are more than 2^64-1 positions
+ *   9   the verdict on `destination` needs more scratch words; values: how many
+ *   14  the verdict on `destination`, by its own extents and strides, is Repeated or Undecided
+ * After a refusal all of `to` is as it was. Scratch is lent as for the verdict: after 0 and after 14 the first words, as many
+ * as the verdict needs, may hold anything. Refusals: 1, 3, 12, 13, 8, 9, 14. */
+uint8_t strided_copy(const strided_layout *source, const int32_t *from, size_t from_len, const strided_layout *destination,
+                     int32_t *to, size_t to_len, uint64_t *scratch, size_t scratch_len, strided_values *values);
+
 /* ---- the record */
 
 /* Writes the record of the layout's normal form to the first bytes of the output, and how many bytes it has to
@@ -219,6 +238,17 @@ static inline uint8_t strided_is_injective_inline(const strided_axis *axes, size
                                 found, values);
 }
 #define strided_is_injective strided_is_injective_inline
+
+static inline uint8_t strided_copy_inline(const strided_layout *source, const int32_t *from, size_t from_len,
+                                          const strided_layout *destination, int32_t *to, size_t to_len, uint64_t *scratch,
+                                          size_t scratch_len, strided_values *values) {
+    const int32_t no_from = 0;
+    int32_t no_to = 0;
+    uint64_t no_scratch = 0;
+    return strided_copy(source, from_len ? from : &no_from, from_len, destination, to_len ? to : &no_to, to_len,
+                        scratch_len ? scratch : &no_scratch, scratch_len, values);
+}
+#define strided_copy strided_copy_inline
 
 static inline uint8_t strided_write_inline(const strided_layout *layout, uint8_t *out, size_t out_len, uint64_t *scratch,
                                            size_t scratch_len, strided_values *values) {

@@ -11,10 +11,10 @@ The answers are those of the static library, whose functions are proved; docs/PY
 """
 from ._arrays import UnevenStride, overlap
 from ._axes import Axis, Verdict, column_strides, index_order, judge, row_strides, validate_bounds
-from ._layout import Layout, step_over
+from ._layout import Layout, copy, step_over
 from ._refusal import Refusal
 
-__version__ = "0.2.0"
+__version__ = "0.3.0"
 
 __all__ = [
     "Axis",
@@ -23,6 +23,7 @@ __all__ = [
     "UnevenStride",
     "Verdict",
     "column_strides",
+    "copy",
     "index_order",
     "judge",
     "overlap",

@@ -1,4 +1,4 @@
-"""Layouts: check-in, views, the verdict, the normal form and the record."""
+"""Layouts: check-in, views, the verdict, copies of readings, the normal form and the record."""
 from __future__ import annotations
 
 from ctypes import c_int64, c_size_t, c_uint8, c_uint64
@@ -9,6 +9,7 @@ from ._arrays import element_axes, memory_of
 from ._axes import Axis, Verdict, judge
 from ._library import LIBRARY, LONGEST_RECORD, MOST_AXES, CAxis, CLayout, CValues
 from ._library import check, fitting, slice_of, with_scratch
+from ._readings import given, written
 
 # One byte more than the length of a record can say.
 LONGEST_STEP = 2**16
@@ -151,6 +152,30 @@ class Layout:
         struct, values = self._struct(), CValues()
         check(call(struct, *entries, values), values)
         return self._made(struct)
+
+
+def copy(
+    source: Layout,
+    readings: Any,
+    destination: Layout,
+    out: Any,
+    *,
+    scratch_words: int | None = None,
+) -> None:
+    """Copies readings through one layout into the buffer `out` through another.
+
+    For each index vector the reading at its offset in `source` is stored at its offset in
+    `destination`; all else in `out` stays. Both buffers hold signed numbers of 32 bits, one behind
+    the other, as `array("i")` and NumPy's arrays of int32 do. If they share memory, the readings
+    are those from before the call. Refusals 12, 13, 8, 9, and 14 if the verdict on `destination` is
+    not Distinct; after each of them `out` is as it was.
+    """
+    to = written(out)
+    lent = given(readings, to)
+    layouts = source._struct(), lent, len(lent), destination._struct(), to, len(to)
+    with_scratch(
+        lambda *scratch, values: LIBRARY.strided_copy(*layouts, *scratch, values), scratch_words
+    )
 
 
 def step_over(data: Any) -> memoryview:

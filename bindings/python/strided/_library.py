@@ -1,10 +1,10 @@
-"""The fourteen calls of bindings/c/strided.h and the structs that cross."""
+"""The fifteen calls of bindings/c/strided.h and the structs that cross."""
 from __future__ import annotations
 
 import ctypes
 import operator
 import os
-from ctypes import POINTER, Structure, c_int64, c_size_t, c_uint8, c_uint64
+from ctypes import POINTER, Structure, c_int32, c_int64, c_size_t, c_uint8, c_uint64
 from pathlib import Path
 from typing import Any, Callable, Iterable, SupportsIndex
 
@@ -40,6 +40,7 @@ LAYOUT, VALUES = POINTER(CLayout), POINTER(CValues)
 # A slice crosses as a pointer and a length.
 AXES = [POINTER(CAxis), c_size_t]
 BYTES = [POINTER(c_uint8), c_size_t]
+READINGS = [POINTER(c_int32), c_size_t]
 SIGNED = [POINTER(c_int64), c_size_t]
 SIZES = [POINTER(c_size_t), c_size_t]
 UNSIGNED = [POINTER(c_uint64), c_size_t]
@@ -54,6 +55,7 @@ CALLS: dict[str, tuple[Any, list[Any]]] = {
     "strided_indexed_offset": (c_uint8, [LAYOUT, *UNSIGNED, POINTER(c_int64), VALUES]),
     "strided_normal_form": (c_uint8, [LAYOUT]),
     "strided_is_injective": (c_uint8, [*AXES, *UNSIGNED, POINTER(CFound), VALUES]),
+    "strided_copy": (c_uint8, [LAYOUT, *READINGS, LAYOUT, *READINGS, *UNSIGNED, VALUES]),
     "strided_write": (c_uint8, [LAYOUT, *BYTES, *UNSIGNED, VALUES]),
     "strided_read": (c_uint8, [LAYOUT, *BYTES, *UNSIGNED, VALUES]),
     "strided_step": (c_size_t, [*BYTES]),

@@ -8,6 +8,9 @@ These answers are compared for each array:
 - The views of `permute`, `broadcast` and `diagonal`, with those of `transpose`, `broadcast_to`
   and `einsum`.
 - The offset of each position, in the layout, in its normal form and in its record.
+- A copy of readings through the layout into one of the same extents, with an assignment from one
+  array to another. It has to be refused 14 if `internal_overlap` finds that two positions of the
+  second share memory.
 If a stride is no multiple of the item size, `overlap` has to raise UnevenStride, and `judge` is
 asked of bytes instead. One array in fifty more has twelve axes, and most of these need scratch;
 only their verdict is compared, with `internal_overlap`. The last line is
@@ -20,7 +23,7 @@ import sys
 
 import numpy
 
-from strided import Layout, Refusal, UnevenStride, Verdict, judge, overlap
+from strided import Layout, Refusal, UnevenStride, Verdict, copy, judge, overlap
 
 try:
     from numpy._core import _multiarray_tests
@@ -108,6 +111,27 @@ def twelve(draw):
 KINDS = [dense, sliced, stretched, windows, field, strided, strided, strided]
 
 
+def room(draw, extents):
+    """A layout of any axis order, with gaps and steps of either sign; one in five may repeat."""
+    strides, step = [0] * len(extents), 1
+    for axis in draw.sample(range(len(extents)), len(extents)):
+        step *= draw.choice([1, 1, 1, 2, 3])
+        strides[axis] = draw.choice([1, 1, -1]) * step
+        step *= max(1, extents[axis])
+    if strides and draw.random() < 0.2:
+        strides[draw.randrange(len(strides))] = draw.choice([0, 1, 2])
+    spans = [stride * (extent - 1) for extent, stride in zip(extents, strides) if 0 not in extents]
+    offset = draw.randint(0, 3) - sum(span for span in spans if span < 0)
+    behind = 1 + draw.randint(0, 3) + sum(span for span in spans if span > 0)
+    return Layout(offset + behind, offset, extents, strides)
+
+
+def laid(readings, layout):
+    """The readings of a buffer that a layout names, as an array."""
+    strides = [stride * readings.itemsize for stride in layout.strides]
+    return numpy.lib.stride_tricks.as_strided(readings[layout.offset:], layout.extents, strides)
+
+
 def offsets(array):
     """The byte of each position, counted from that of the first; axis 0 changes fastest."""
     places = [0]
@@ -124,11 +148,12 @@ def cuts(array):
 
 
 class Comparison:
-    """How many answers were compared and how many differed; how often each verdict came."""
+    """How many answers were compared and how many differed; how often each verdict came, and how
+    often copies were made."""
 
     def __init__(self):
         self.compared = self.differences = 0
-        self.verdicts = collections.Counter()
+        self.verdicts, self.copied = collections.Counter(), collections.Counter()
 
     def same(self, what, array, ours, theirs):
         self.compared += 1
@@ -200,6 +225,25 @@ class Comparison:
         self.same("broadcast", array, layout.broadcast(targets), Layout.of(stretched_array))
         self.diagonal(draw, array, layout)
 
+    def copies(self, draw, array):
+        """Compares a copy into a second layout with an assignment from one array to another."""
+        source, destination = Layout.of(array), room(draw, array.shape)
+        readings = numpy.arange(source.length, dtype="i4")
+        out = numpy.full(destination.length, -1, "i4")
+        wanted = out.copy()
+        into = laid(wanted, destination)
+        shared = bool(_multiarray_tests.internal_overlap(into, -1))
+        if not shared:
+            into[...] = laid(readings, source)
+        try:
+            copy(source, readings, destination, out)
+            answer = "copied"
+        except Refusal as refusal:
+            answer = f"not copied, refused {refusal.number}"
+        self.copied[answer] += 1
+        self.same("copy", array, answer, "not copied, refused 14" if shared else "copied")
+        self.same("readings", array, numpy.array_equal(out, wanted), True)
+
     def diagonal(self, draw, array, layout):
         """Compares the view that ties two axes; `einsum` makes it of numbers and equal extents."""
         pairs = itertools.combinations(range(array.ndim), 2)
@@ -220,11 +264,13 @@ def main(arrays=3000, seed=20261127):
         array = KINDS[number % len(KINDS)](draw)
         if not comparison.verdict(array):
             comparison.cells(draw, array)
+            comparison.copies(draw, array)
     for _ in range(arrays // 50):
         comparison.scratch(twelve(draw))
     print(f"NumPy {numpy.__version__}, seed {seed}")
-    for verdict, times in sorted(comparison.verdicts.items()):
-        print(times, verdict)
+    for counted in comparison.verdicts, comparison.copied:
+        for what, times in sorted(counted.items()):
+            print(times, what)
     compared, differences = comparison.compared, comparison.differences
     total = sum(comparison.verdicts.values())
     print(f"{total} arrays, {compared} answers compared, {differences} differences")

@@ -19,6 +19,7 @@ STRUCTS = {
 }
 KINDS = {
     **STRUCTS,
+    "int32_t": ctypes.c_int32,
     "int64_t": ctypes.c_int64,
     "size_t": ctypes.c_size_t,
     "uint8_t": ctypes.c_uint8,
@@ -47,7 +48,7 @@ class Border(unittest.TestCase):
         for found in re.finditer(r"^(\w+) (strided_\w+)\(([^)]*)\);", CODE, re.M):
             parameters = [kind_of(one)[1] for one in found[3].split(",")]
             declared[found[2]] = KINDS[found[1]], parameters
-        self.assertEqual(len(declared), 14)
+        self.assertEqual(len(declared), 15)
         self.assertEqual(_library.CALLS, declared)
 
     def test_structs_are_those_of_the_header(self):
@@ -79,7 +80,7 @@ class Border(unittest.TestCase):
 
     def test_version_is_that_of_the_header(self):
         version = re.search(r'#define STRIDED_VERSION "(.*)"', HEADER)
-        self.assertEqual(strided.__version__, version[1] if version else "0.2.0")
+        self.assertEqual(strided.__version__, version[1])
 
 
 if __name__ == "__main__":

@@ -49,6 +49,10 @@ extern "C" {
         axes: *const Axis, axes_len: usize, scratch: *mut u64, scratch_len: usize, found: *mut Found, values: *mut Values,
     ) -> u8;
     pub fn strided_normal_form(layout: *mut Layout) -> u8;
+    pub fn strided_copy(
+        source: *const Layout, from: *const i32, from_len: usize, destination: *const Layout, to: *mut i32, to_len: usize,
+        scratch: *mut u64, scratch_len: usize, values: *mut Values,
+    ) -> u8;
     pub fn strided_write(
         layout: *const Layout, out: *mut u8, out_len: usize, scratch: *mut u64, scratch_len: usize, values: *mut Values,
     ) -> u8;

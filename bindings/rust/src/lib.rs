@@ -252,6 +252,41 @@ pub fn verdict_of(axes: &[Axis]) -> Result<(Verdict, u64), Refusal> {
     Ok((verdict, found.count))
 }
 
+/// Copies readings from one buffer through `source` into another through `destination`: for each index vector the reading at its
+/// offset in `source` is stored at its offset in `destination`. Every other reading of `to` stays as it was. The two layouts need
+/// the same extents.
+///
+/// Offsets count readings. How long the buffers are is said by `from` and `to`; the buffer lengths of the layouts do not matter.
+/// `to` is written only if the verdict on `destination` is [`Verdict::Distinct`]. That verdict may need scratch, which the call asks
+/// for itself. After a refusal `to` is as it was.
+///
+/// Refusals: 12 the extents differ; 13 a buffer is shorter than its layout's highest offset + 1 (never if an extent is 0); 8 there
+/// are more than 2^64 - 1 positions; 9 the memory for scratch could not be had; 14 the verdict on `destination` is not Distinct.
+///
+/// ```
+/// use strided_layouts::{copy, Layout, Refusal};
+/// let shots = Layout::new(6, 0, &[2, 3], &[1, 2])?; // three rows of two
+/// let plan = Layout::new(6, 0, &[2, 3], &[3, 1])?; // the transpose: two rows of three
+/// let mut sheet = [0; 6];
+/// copy(&shots, &[1, 2, 3, 4, 5, 6], &plan, &mut sheet)?;
+/// assert_eq!(sheet, [1, 3, 5, 2, 4, 6]);
+/// assert_eq!(copy(&shots, &[1, 2, 3, 4, 5, 6], &plan, &mut sheet[..5]), Err(Refusal::ShortReadings));
+/// # Ok::<(), Refusal>(())
+/// ```
+pub fn copy(source: &Layout, from: &[i32], destination: &Layout, to: &mut [i32]) -> Result<(), Refusal> {
+    let mut values = Values::default();
+    with_scratch(|scratch| {
+        // SAFETY: as in `Layout::new`.
+        let answer = unsafe {
+            calls::strided_copy(
+                source, from.as_ptr(), from.len(), destination, to.as_mut_ptr(), to.len(), scratch.as_mut_ptr(), scratch.len(),
+                &mut values,
+            )
+        };
+        Refusal::of(answer, values)
+    })
+}
+
 /// The bytes behind the first record: behind as many as the length in the first two says. There are none if that length is
 /// missing, below 13 or past the end. It looks at no other field.
 pub fn step(bytes: &[u8]) -> &[u8] {

@@ -1,5 +1,6 @@
 //! Each call of the wrapper: an answer, and a refusal with its values.
-use strided_layouts::{column_strides, index_order, row_strides, step, validate_bounds, verdict_of, Axis, Layout, Refusal, Verdict};
+use strided_layouts::{column_strides, copy, index_order, row_strides, step, validate_bounds, verdict_of};
+use strided_layouts::{Axis, Layout, Refusal, Verdict};
 
 fn sheet() -> Layout {
     Layout::new(6, 0, &[2, 3], &[1, 2]).unwrap()
@@ -77,6 +78,78 @@ fn verdicts() {
 fn scratch() {
     let threes: Vec<Axis> = (0..12).map(|i| Axis { extent: 3, stride: 100_000 + i }).collect();
     assert_eq!(verdict_of(&threes), Ok((Verdict::Repeated, 0)));
+}
+
+// What stands in the destination's buffer afterwards; a refusal leaves it.
+fn copied(source: &Layout, from: &[i32], destination: &Layout, to: &[i32]) -> Result<Vec<i32>, Refusal> {
+    let mut after = to.to_vec();
+    let answer = copy(source, from, destination, &mut after);
+    assert!(answer.is_ok() || after == to);
+    answer.map(|()| after)
+}
+
+fn layout<const N: usize>(len: u64, offset: i64, extents: [u64; N], strides: [i64; N]) -> Layout {
+    Layout::new(len, offset, &extents, &strides).unwrap()
+}
+
+#[test]
+fn copies() {
+    let turned = layout(6, 0, [2, 3], [3, 1]);
+    assert_eq!(copied(&sheet(), &[1, 2, 3, 4, 5, 6], &turned, &[0; 6]), Ok(vec![1, 3, 5, 2, 4, 6]));
+    let behind_one = layout(5, 1, [3], [1]);
+    assert_eq!(copied(&layout(3, 2, [3], [-1]), &[7, 8, 9], &behind_one, &[-1; 5]), Ok(vec![-1, 9, 8, 7, -1]));
+    let backwards = layout(9, 8, [3], [-3]);
+    assert_eq!(copied(&layout(3, 0, [3], [1]), &[1, 2, 3], &backwards, &[0; 9]), Ok(vec![0, 0, 3, 0, 0, 2, 0, 0, 1]));
+    assert_eq!(copied(&layout(3, 2, [], []), &[5, 6, 7], &layout(2, 1, [], []), &[1, 1]), Ok(vec![1, 7]));
+    let stretched = layout(2, 0, [2, 3], [1, 0]);
+    assert_eq!(copied(&stretched, &[4, 9], &sheet(), &[0; 6]), Ok(vec![4, 9, 4, 9, 4, 9]));
+    assert_eq!(copied(&sheet(), &[i32::MIN; 6], &sheet(), &[i32::MAX; 7]).unwrap()[5..], [i32::MIN, i32::MAX]);
+}
+
+// Nothing is written, and no buffer is too short.
+#[test]
+fn copies_of_no_position() {
+    let (one, other) = (layout(0, 7, [0, 3], [1, 1]), layout(0, -9, [0, 3], [5, 5]));
+    assert_eq!(copied(&one, &[], &other, &[4]), Ok(vec![4]));
+    assert_eq!(copied(&one, &[], &layout(0, 0, [3, 0], [1, 1]), &[]), Err(Refusal::ExtentsDiffer));
+}
+
+#[test]
+fn copies_refused() {
+    assert_eq!(copied(&layout(2, 0, [2, 1], [1, 0]), &[1, 2], &layout(2, 0, [2], [1]), &[0, 0]), Err(Refusal::ExtentsDiffer));
+    // The slice counts, not the layout's length.
+    let roomy = layout(100, 0, [2, 3], [1, 2]);
+    assert_eq!(copied(&sheet(), &[0; 6], &roomy, &[0; 5]), Err(Refusal::ShortReadings));
+    assert_eq!(copied(&roomy, &[0; 5], &sheet(), &[0; 6]), Err(Refusal::ShortReadings));
+    assert_eq!(copied(&sheet(), &[1; 6], &roomy, &[0; 6]), Ok(vec![1; 6]));
+    let stretched = layout(2, 0, [2, 3], [1, 0]);
+    assert_eq!(copied(&sheet(), &[1; 6], &stretched, &[0; 1]), Err(Refusal::ShortReadings));
+    assert_eq!(copied(&sheet(), &[1; 6], &stretched, &[0; 2]), Err(Refusal::NotDistinct));
+    let slip = layout(3, 0, [2, 2], [1, 1]);
+    assert_eq!(copied(&slip, &[1, 2, 3], &slip, &[0; 3]), Err(Refusal::NotDistinct));
+    let wide = |targets: &[u64]| Layout::new(1, 0, &vec![1; targets.len()], &vec![0; targets.len()]).unwrap().broadcast(targets).unwrap();
+    for (targets, refusal) in [
+        (&[1 << 32, 1 << 32][..], Refusal::TooManyPositions),
+        (&[1 << 32, (1 << 32) - 1], Refusal::NotDistinct),
+        (&[(1 << 63) + 1], Refusal::NotDistinct),
+    ] {
+        assert_eq!(copied(&wide(targets), &[5], &wide(targets), &[0]), Err(refusal));
+    }
+}
+
+// The verdict on twelve axes is enumerated, which needs scratch: 11072 words.
+#[test]
+fn copies_with_scratch() {
+    let threes = |last| {
+        let strides = std::array::from_fn(|axis| if axis < 11 { 2 * 3_i64.pow(axis as u32) } else { last });
+        layout(708_587, 0, [3; 12], strides)
+    };
+    let from: Vec<i32> = (0..708_587).collect();
+    let after = copied(&threes(177_147), &from, &threes(177_147), &[-1; 708_587]).unwrap();
+    assert_eq!(after.iter().filter(|&&reading| reading != -1).count(), 3_usize.pow(12));
+    assert!(after.iter().zip(&from).all(|(&reading, &place)| reading == -1 || reading == place));
+    assert_eq!(copied(&threes(177_146), &from, &threes(177_146), &[-1; 708_587]), Err(Refusal::NotDistinct));
+    assert_eq!(copied(&threes(177_147), &from, &threes(177_147), &[-1; 708_586]), Err(Refusal::ShortReadings));
 }
 
 #[test]

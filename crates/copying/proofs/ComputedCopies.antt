@@ -3,11 +3,11 @@ use Rattle.std.proofs.Common.{refl}
 use Rattle.specification.specs.Axis.{offset_sum}
 use Rattle.specification.specs.Readings.{least_buffer, handed_both}
 use Rattle.specification.proofs.Computing.{computing}
-use Rattle.copying.specs.Copy.{copy_handed, distinct_only, copy_refusal, copy_frees, copies, copy_after}
+use Rattle.copying.specs.Copy.{copy_handed, distinct_only, distinct_judged, copy_refusal, copy_frees, copies, copy_after}
 use Rattle.copying.specs.CopyCases.{CopyCases}
 
 pub copy_cases : CopyCases
-unfolding computing offset_sum least_buffer handed_both copy_handed distinct_only copy_refusal copy_frees copies copy_after
+unfolding computing offset_sum least_buffer handed_both copy_handed distinct_only distinct_judged copy_refusal copy_frees copies copy_after
 copy_cases = record {
   copy_transposed = refl;
   copy_turned = refl;

@@ -10,7 +10,7 @@ use Rattle.specification.specs.Normal.{overfull}
 use Rattle.specification.specs.Verdict.{Verdict, Distinct, Repeated, Undecided, Judged, judge, freed_by, words_needed}
 use Rattle.specification.specs.VerdictClaims.{Says}
 use Rattle.specification.specs.Readings.{cell_at}
-use Rattle.copying.specs.Copy.{copy_handed, distinct_only, copy_refusal, copy_frees, copy_after}
+use Rattle.copying.specs.Copy.{copy_handed, distinct_only, distinct_judged, copy_refusal, copy_frees, copy_after}
 use Rattle.copying.specs.CopyClaims.{IsSuited, IsJudgedDistinct, CopyRefused, CopyClaims}
 use Rattle.specification.proofs.OutcomeLaws.{clash, refused-inj, bound, bind_done, bind-refused}
 use Rattle.specification.proofs.AnswerRules.{Answers, only, InOrder, sooner, later, then-answers}
@@ -31,9 +31,10 @@ data VerdictRefused (d : LayoutModel) (words : ℕ) : ℕ → List ℕ → Type 
 
 module _ (d : LayoutModel) (words : ℕ) (a : IsAccepted d) where
   abbrev then_14 : Check
-  then_14 = judge d.axes words >>= λ j. distinct_only j.answer
+  then_14 = distinct_judged d words
 
   told : (j : Judged) → judge d.axes words ≡ done j → then_14 ≡ distinct_only j.answer
+  unfolding distinct_judged
   told j e = bind_done (λ j. distinct_only j.answer) e
 
   eight_is : overfull d.axes ≡ true → judge d.axes words ≡ refused 8 []
@@ -69,6 +70,7 @@ module _ (d : LayoutModel) (words : ℕ) (a : IsAccepted d) where
   others-refused Undecided f = refl
 
   pass-found : then_14 ≡ pass → IsJudgedDistinct d words
+  unfolding distinct_judged
   pass-found e =
       let b = bound e in
       record { judged = b.what; judged_is = b.was; distinct = distinct-passes b.what.answer b.after }
@@ -78,7 +80,7 @@ module _ (d : LayoutModel) (words : ℕ) (a : IsAccepted d) where
   pass-is p = told p.judged p.judged_is ∙ ap distinct_only p.distinct
 
   refusal-found : {n : ℕ} {vs : List ℕ} → then_14 ≡ refused n vs → VerdictRefused d words n vs
-  unfolding distinct_only
+  unfolding distinct_only distinct_judged
   refusal-found {n} {vs} e = go (judge d.axes words) refl
     where
       go : (o : Outcome Judged) → judge d.axes words ≡ o → VerdictRefused d words n vs
@@ -92,6 +94,7 @@ module _ (d : LayoutModel) (words : ℕ) (a : IsAccepted d) where
           judge-refuses r (judge-refused d.axes words r)
 
   refusal_is : {n : ℕ} {vs : List ℕ} → VerdictRefused d words n vs → then_14 ≡ refused n vs
+  unfolding distinct_judged
   refusal_is (eight o) = bind-refused _ (eight_is o)
   refusal_is (nine o h) = bind-refused _ ((verdict_claims.needed d.axes words (words_needed d.axes ∷ [])).1 (h, refl))
   refusal_is (fourteen j e f) = told j e ∙ others-refused j.answer f
@@ -147,7 +150,7 @@ module _ (s d : LayoutModel) (readings room words : ℕ) where
   frees j q e = rw ((handed-answers s d readings room).passes.1 q, e) (verdict_claims.freed_are d.axes words j e)
 
   frees-none : (number : ℕ) (values : List ℕ) → copy_refusal s d readings room words ≡ refused number values → number ≢ 14 → copy_frees s d readings room words ≡ 0
-  unfolding copy_frees copy_refusal freed_by distinct_only ◌>>◌ ◌>>=◌
+  unfolding copy_frees copy_refusal freed_by distinct_only distinct_judged ◌>>◌ ◌>>=◌
   frees-none number values e f = go (copy_handed s d readings room) (judge d.axes words) e
     where
       no-other : (v : Verdict) → distinct_only v ≡ refused number values → ⊥

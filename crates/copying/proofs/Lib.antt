@@ -4,3 +4,9 @@ mod CopyHanded
 mod CopyAnswers
 mod ComputedCopies
 mod CopyingLaws
+mod RunsLaws
+mod SameExtents
+mod SuitedLaws
+mod PositionLaws
+mod SharedLaws
+mod CallLaws

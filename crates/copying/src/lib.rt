@@ -7,14 +7,15 @@
 
 mod runs;
 
-ghost use Rattle.std.specs.Prelude.{◌≡◌, length, nat_eq, take};
+ghost use Rattle.std.specs.Prelude.{◌≡◌, ◌≤◌, length, nat_eq};
 ghost use Rattle.std.specs.Cmp.Lexicographic.{pointwise};
 ghost use Rattle.specification.specs.Axis.{extents, positions};
-ghost use Rattle.specification.specs.Verdict.{ScratchAfter};
+ghost use Rattle.specification.specs.Layout.{rank};
+ghost use Rattle.specification.specs.Verdict.{judge, freed_by, ScratchAfter};
 ghost use Rattle.specification.specs.Readings.{cell_at};
 ghost use Rattle.view.specs.Answers.{outcome_of};
 ghost use Rattle.view.specs.Model.{model_of};
-ghost use Rattle.copying.specs.Copy.{copy_handed, copy_refusal, copy_frees, copies, copy_after};
+ghost use Rattle.copying.specs.Copy.{copy_handed, distinct_judged, copy_refusal, copy_frees, copies, copy_after};
 ghost use Rattle.copying.specs.CopyClaims.{CopyClaims, IsSuited};
 ghost use Rattle.copying.specs.CopyCases.{CopyCases};
 
@@ -25,11 +26,15 @@ use view::readings::reach_both;
 
 /// Whether two layouts have the same extents, axis by axis.
 fn have_same_extents(source: &Layout, destination: &Layout) -> bool
-    ensures { result ≡ pointwise nat_eq (extents (take 16 (model_of source.now).axes)) (extents (take 16 (model_of destination.now).axes)) }
+    requires few { source.now.rank ≤ 16 }
+    requires few_too { destination.now.rank ≤ 16 }
+    ensures { result
+        ≡ pointwise nat_eq (extents (model_of source.now).axes) (extents (model_of destination.now).axes) }
 {
     source.extents().eq(destination.extents())
 }
 
+#[tactic(auto, using(crate::proofs::SuitedLaws::not_handed, crate::proofs::SuitedLaws::extents_differ, crate::proofs::SuitedLaws::source_short, crate::proofs::SuitedLaws::destination_short, crate::proofs::SuitedLaws::suited))]
 /// What is refused before the verdict: 1 and 3 of either layout, 12 for extents that differ, 13 for a buffer that is too short.
 fn refuse_unsuited(
     source: &Layout,
@@ -50,6 +55,20 @@ fn refuse_unsuited(
     Ok(())
 }
 
+/// The refusals 8 and 9 of the verdict on the destination's axes, and 14 for any verdict but Distinct.
+#[tactic(auto, using(crate::proofs::SharedLaws::shared_refused))]
+fn refuse_shared(destination: &Layout, scratch: &mut [u64]) -> Result<(), Refusal>
+    requires { rank (model_of destination.now) ≤ 16 }
+    ensures answer { outcome_of result ≡ distinct_judged (model_of destination.now) (length scratch.old) }
+    ensures freed { ScratchAfter (freed_by (judge (model_of destination.now).axes (length scratch.old)))
+        scratch.old scratch.new }
+{
+    match judge_layout(destination, scratch)? {
+        Judgement::Distinct(_) => Ok(()),
+        Judgement::Repeated(_) | Judgement::Undecided => Err(Refusal::NotDistinct),
+    }
+}
+
 /// Copies the reading of each position.
 fn copy_positions(source: &Layout, from: &[i32], destination: &Layout, to: &mut [i32])
     requires { IsSuited (model_of source.now) (model_of destination.now) (length from.now) (length to.old) }
@@ -59,16 +78,7 @@ fn copy_positions(source: &Layout, from: &[i32], destination: &Layout, to: &mut 
     if destination.is_empty() {
         return;
     }
-    let start = source.offset.0.cast_unsigned();
-    let into_start = destination.offset.0.cast_unsigned();
-    match (source.axes(), destination.axes()) {
-        ([run, others @ ..], [into_run, into_others @ ..]) => {
-            let runs = Runs::new(*run, others, start);
-            let into_runs = Runs::new(*into_run, into_others, into_start);
-            copy_runs(from, runs, to, into_runs);
-        }
-        _ => to[into_start as usize] = from[start as usize],
-    }
+    copy_runs(from, Runs::of(source), to, Runs::of(destination));
 }
 
 /// Copies the reading of each position of one layout to the same position of another. Afterwards the
@@ -82,6 +92,7 @@ fn copy_positions(source: &Layout, from: &[i32], destination: &Layout, to: &mut 
 ///
 /// Only the verdict works in the scratch, as in `judge_layout`: the words that it needs may hold
 /// anything after a copy and after refusal 14, and all words stay after any other refusal.
+#[tactic(auto, using(crate::proofs::CallLaws::refused_before, crate::proofs::CallLaws::free_before, crate::proofs::CallLaws::suited, crate::proofs::CallLaws::few, crate::proofs::CallLaws::free_after, crate::proofs::CallLaws::then_judged), unfolding(crate::specs::Copy::copy_after))]
 pub fn copy(
     source: &Layout,
     from: &[i32],
@@ -97,10 +108,8 @@ pub fn copy(
         (length from.now) (length to.old) (length scratch.old)) scratch.old scratch.new }
 {
     refuse_unsuited(source, from.len(), destination, to.len())?;
-    match judge_layout(destination, scratch)? {
-        Judgement::Distinct(_) => copy_positions(source, from, destination, to),
-        Judgement::Repeated(_) | Judgement::Undecided => return Err(Refusal::NotDistinct),
-    }
+    refuse_shared(destination, scratch)?;
+    copy_positions(source, from, destination, to);
     Ok(())
 }
 

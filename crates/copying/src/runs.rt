@@ -1,13 +1,16 @@
 //! Readings copied run by run: along the first axis of both layouts, from each position of the others.
 ghost use Rattle.std.specs.Prelude.{◌≡◌, ◌<◌, ◌+◌, ◌*◌, ◌∷◌, ◌≤◌, length, All};
 ghost use Rattle.specification.specs.Axis.{positions};
+ghost use Rattle.specification.specs.Layout.{IsAccepted};
+ghost use Rattle.view.specs.Model.{model_of};
 ghost use Rattle.positions.specs.Positions.{IsWalkable, StrideFits, place_at, word_of};
 ghost use Rattle.positions.specs.Runs.{run_at, IsRunIn};
 ghost use Rattle.copying.specs.Copy.{copies};
-ghost use Rattle.copying.specs.Runs.{IsPlacedIn, places_of};
+ghost use Rattle.copying.specs.Runs.{IsPlacedIn, places_of, AreRunsOf};
 
 use axis::Axis;
 use positions::Positions;
+use view::layout::Layout;
 
 /// Places in a buffer: the first, and the step from each to the next. Both are words, whose sums wrap.
 #[derive(Clone, Copy)]
@@ -63,8 +66,27 @@ pub(crate) struct Runs {
 }
 
 impl Runs {
-    /// The first run, from the place of the first position on.
-    pub(crate) fn new(axis: Axis, others: &[Axis], start: u64) -> Runs
+    const ONE: Axis = Axis {
+        extent: 1,
+        stride: 0,
+    };
+
+    /// Those of a layout that has a position. Of no axes it is one run of one reading.
+    #[tactic(auto, using(crate::proofs::RunsLaws::none_walkable))]
+    pub(crate) fn of(layout: &Layout) -> Runs
+        requires accepted { IsAccepted (model_of layout.now) }
+        requires some { 0 < positions (model_of layout.now).axes }
+        ensures { AreRunsOf (model_of layout.now) result }
+    {
+        let start = layout.offset.0.cast_unsigned();
+        match layout.axes().split_first() {
+            Some((axis, others)) => Runs::new(*axis, others, start),
+            None => Runs::new(Runs::ONE, &[], start),
+        }
+    }
+
+    // The first of them, at the place of the first position.
+    fn new(axis: Axis, others: &[Axis], start: u64) -> Runs
         requires { IsWalkable others.now }
         ensures axis { result.axis ≡ axis }
         ensures others { result.others ≡ record { axes = others.now; start = start; number = 0 } }

@@ -1,7 +1,7 @@
 //! The two structs that are C's own, and an answer as its number and values.
 ghost use Rattle.std.specs.Prelude.{◌≡◌, ◌++◌, length, drop};
 ghost use Rattle.view.specs.Answers.{number_of, values_of, outcome_of};
-ghost use Rattle.strided.specs.Crossing.{number_after, places};
+ghost use Rattle.strided.specs.Crossing.{number_after, places, values_after};
 
 use view::layout::Refusal;
 
@@ -47,5 +47,17 @@ pub(crate) fn answer_number(answer: Result<(), Refusal>) -> u8
     match answer {
         Ok(()) => 0,
         Err(why) => why.number(),
+    }
+}
+
+/// The number of an answer: 0, or that of the refusal with its values in the first places.
+pub(crate) fn answer_with_values(answer: Result<(), Refusal>, values: &mut Values) -> u8
+    ensures answer { result ≡ number_after (outcome_of answer) }
+    ensures values { places values.new ≡ values_after (outcome_of answer) values.old }
+{
+    if let Err(why) = answer {
+        refuse(why, values)
+    } else {
+        0
     }
 }

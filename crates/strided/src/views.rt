@@ -7,20 +7,9 @@ ghost use Rattle.view.specs.Answers.{outcome_of};
 ghost use Rattle.view.specs.Model.{model_of, checked_into};
 ghost use Rattle.strided.specs.Crossing.{number_after, places, values_after, result_after};
 
-use crate::crossing::{Values, answer_number, refuse};
+use crate::crossing::{Values, answer_number, answer_with_values};
 use record::normal::normal_form;
-use view::layout::{Layout, Refusal};
-
-/// The number of a view's answer: 0, or that of the refusal with its values in the first places.
-fn answer_view(answer: Result<(), Refusal>, values: &mut Values) -> u8
-    ensures answer { result ≡ number_after (outcome_of answer) }
-    ensures values { places values.new ≡ values_after (outcome_of answer) values.old }
-{
-    match answer {
-        Ok(()) => 0,
-        Err(why) => refuse(why, values),
-    }
-}
+use view::layout::Layout;
 
 /// Check-in of the length and the offset (both in readings) that stand in the layout, with the
 /// axes of two lists: 0, and rank and axes stand in it too.
@@ -55,7 +44,7 @@ pub extern "C" fn strided_permute(layout: &mut Layout, order: &[usize], values: 
     ensures values { places values.new ≡
         values_after (permute (model_of layout.old) order.now).answer values.old }
 {
-    answer_view(layout.permute_in_place(order), values)
+    answer_with_values(layout.permute_in_place(order), values)
 }
 
 /// Tied axes as one axis; two numbers of the list are a pair, and an odd last one is passed over:
@@ -81,7 +70,7 @@ pub extern "C" fn strided_diagonal_view(
     ensures values { places values.new ≡
         values_after (diagonal_view (model_of layout.old) (pairs_of pairs.now)).answer values.old }
 {
-    answer_view(layout.diagonal_by_numbers(pairs), values)
+    answer_with_values(layout.diagonal_by_numbers(pairs), values)
 }
 
 /// The layout stretched to target extents, one for each axis: 0, and the layout is the one after
@@ -100,7 +89,7 @@ pub extern "C" fn strided_broadcast(layout: &mut Layout, targets: &[u64], values
     ensures values { places values.new ≡
         values_after (broadcast (model_of layout.old) targets.now).answer values.old }
 {
-    answer_view(layout.broadcast_in_place(targets), values)
+    answer_with_values(layout.broadcast_in_place(targets), values)
 }
 
 /// The normal form, with axes of extent 1 dropped and neighbours merged, and one axis of extent 0

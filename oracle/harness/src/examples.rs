@@ -1,5 +1,6 @@
-//! Examples of the verdict, the normal form and the record, those of docs/RULES.md among them, held against the reference before it is used.
+//! Examples of the verdict, the normal form, the record and the copy, those of docs/RULES.md among them, held against the reference before it is used.
 
+use crate::copying::copy;
 use crate::input::Layout;
 use crate::record::{normal_form, read, write};
 use crate::reference::{judge, Judged};
@@ -37,7 +38,72 @@ fn records() {
     assert_eq!(read(&bytes, 0), Ok(Layout::of(6, 0, &[6], &[1])));
 }
 
+/// A copy that is done, and what the destination's buffer holds afterwards.
+fn done(source: Layout, from: &[i32], destination: Layout, to: &[i32], after: &[i32]) {
+    let mut found = to.to_vec();
+    let copied = copy(&source, from, &destination, &mut found, 0);
+    assert_eq!((copied.answer, copied.verdict), (Ok(()), Some((1, 0))), "{source:?} {destination:?}");
+    assert_eq!(found, after, "{source:?} {destination:?}");
+}
+
+/// A copy without scratch that is refused; the buffers have so many readings.
+fn refused(number: u8, source: Layout, readings: usize, destination: Layout, room: usize) {
+    let mut to = vec![7; room];
+    let copied = copy(&source, &vec![1; readings], &destination, &mut to, 0);
+    assert_eq!(copied.answer, Err((number, 0)), "{source:?} {destination:?}");
+    assert_eq!(copied.free(), 0, "{source:?} {destination:?}");
+    assert_eq!(to, vec![7; room], "{source:?} {destination:?}");
+}
+
+fn copies() {
+    let of = Layout::of;
+    done(of(6, 0, &[2, 3], &[1, 2]), &[1, 2, 3, 4, 5, 6], of(6, 0, &[2, 3], &[3, 1]), &[0; 6], &[1, 3, 5, 2, 4, 6]);
+    done(of(3, 2, &[3], &[-1]), &[7, 8, 9], of(5, 1, &[3], &[1]), &[-1; 5], &[-1, 9, 8, 7, -1]);
+    done(of(3, 0, &[3], &[1]), &[1, 2, 3], of(9, 8, &[3], &[-3]), &[0; 9], &[0, 0, 3, 0, 0, 2, 0, 0, 1]);
+    done(of(3, 2, &[], &[]), &[5, 6, 7], of(2, 1, &[], &[]), &[1, 1], &[1, 7]);
+    done(of(2, 0, &[2, 3], &[1, 0]), &[4, 9], of(6, 0, &[2, 3], &[1, 2]), &[0; 6], &[4, 9, 4, 9, 4, 9]);
+    done(of(0, 7, &[0, 3], &[1, 1]), &[], of(0, -9, &[0, 3], &[5, 5]), &[4], &[4]);
+    done(of(6, 0, &[2, 3], &[1, 2]), &[0, 1, 2, 3, 4, 5], of(100, 0, &[2, 3], &[1, 2]), &[9; 6], &[0, 1, 2, 3, 4, 5]);
+    refused(14, of(6, 0, &[2, 3], &[1, 2]), 6, of(2, 0, &[2, 3], &[1, 0]), 2);
+    refused(14, of(3, 0, &[2, 2], &[1, 1]), 3, of(3, 0, &[2, 2], &[1, 1]), 3);
+    refused(12, of(2, 0, &[2, 1], &[1, 0]), 2, of(2, 0, &[2], &[1]), 2);
+    refused(12, of(0, 0, &[0, 3], &[1, 1]), 0, of(0, 0, &[3, 0], &[1, 1]), 0);
+    let long = Layout { rank: 17, ..of(1, 0, &[1; 16], &[1; 16]) };
+    refused(1, of(0, 0, &[1], &[1]), 0, long, 1);
+    refused(1, long, 0, of(0, 0, &[1], &[1]), 1);
+    refused(3, of(5, 0, &[2, 3], &[1, 2]), 6, of(9, 0, &[3, 2], &[1, 3]), 9);
+    refused(3, of(9, 0, &[3, 2], &[1, 3]), 9, of(5, 0, &[2, 3], &[1, 2]), 6);
+    refused(13, of(6, 0, &[2, 3], &[1, 2]), 6, of(100, 0, &[2, 3], &[1, 2]), 5);
+    refused(13, of(6, 0, &[2, 3], &[1, 2]), 5, of(100, 0, &[2, 3], &[1, 2]), 6);
+    refused(13, of(2, 0, &[2, 2], &[1, 0]), 1, of(2, 0, &[2, 2], &[1, 0]), 2);
+    for (number, extents) in [(8, &[1 << 32, 1 << 32][..]), (14, &[1 << 32, (1 << 32) - 1]), (14, &[(1 << 63) + 1])] {
+        let one = of(1, 0, extents, &vec![0; extents.len()]);
+        refused(number, one, 1, one, 1);
+    }
+    enumerated_copies();
+}
+
+/// Twelve axes that interleave: positions apart at the last stride, not so at one less.
+fn enumerated_copies() {
+    let layout = |last: i64| {
+        let mut strides: Vec<i64> = (0..12).map(|axis| 2 * 3i64.pow(axis)).collect();
+        strides[11] = last;
+        Layout::of(708_587, 0, &[3; 12], &strides)
+    };
+    let from: Vec<i32> = (0..708_587).collect();
+    let answer = |last: i64, room: usize, words: usize| {
+        let mut to = vec![-1; room];
+        let copied = copy(&layout(last), &from, &layout(last), &mut to, words);
+        (copied.answer, copied.free(), to.into_iter().filter(|&reading| reading >= 0).count())
+    };
+    assert_eq!(answer(177_147, 708_587, 11_071), (Err((9, 11_072)), 0, 0));
+    assert_eq!(answer(177_147, 708_587, 11_072), (Ok(()), 11_072, 531_441));
+    assert_eq!(answer(177_146, 708_587, 11_072), (Err((14, 0)), 11_072, 0));
+    assert_eq!(answer(177_147, 708_586, 11_072), (Err((13, 0)), 0, 0));
+}
+
 pub fn check() {
     verdicts();
     records();
+    copies();
 }

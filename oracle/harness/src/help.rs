@@ -1,7 +1,7 @@
 //! What `help` tells of words and refusals, written from docs/COMMANDS.md and not from the program's code.
 
 /// The words in which usages are written, and what each is.
-const WORDS: [(&str, &str); 12] = [
+const WORDS: [(&str, &str); 14] = [
     ("LEN", "the length of the buffer, a number from 0 to 18446744073709551615, as 24"),
     ("OUTLEN", "how many places the output has, a number from 0 to 18446744073709551615, as 2"),
     ("OFFSET", "the number of the cell where all indices are 0, from -9223372036854775808 to 9223372036854775807, as 0"),
@@ -9,6 +9,8 @@ const WORDS: [(&str, &str); 12] = [
     ("STRIDES", "a stride for each axis, numbers from -9223372036854775808 to 9223372036854775807 with commas between them, at most 64, as 1,-4; - for none"),
     ("LIST", "numbers from 0 to 18446744073709551615 with commas between them, at most 64, as 1,0; - for none"),
     ("PAIRS", "pairs a:b of axes with commas between them, at most 64, as 0:1,1:2; - for none"),
+    ("FROM", "readings to copy, numbers from -2147483648 to 2147483647 with commas between them, at most 64, as 7,-8; - for none"),
+    ("TO", "readings to copy into, numbers from -2147483648 to 2147483647 with commas between them, at most 64, as 0,0; - for none"),
     ("BYTES", "two hexadecimal digits for each byte and nothing between them, as 00ff; - for none"),
     ("WORDS", "how many words of scratch to lend, a number from 0 to 65536, as 1024; left out, as many as are needed"),
     ("ROOM", "how many bytes of output to lend, a number from 0 to 65536, as 64"),
@@ -41,8 +43,8 @@ pub const MORE: [&str; 2] = [
 ];
 
 /// Words behind `help` that are topics, and no commands.
-pub const TOPICS: [&str; 28] = [
-    "words", "refused", "1", "2", "3", "4", "5", "6", "7", "8", "9", "10", "11", "12", "13", "14", "LEN", "OUTLEN", "OFFSET", "EXTENTS", "STRIDES", "LIST", "PAIRS", "BYTES", "WORDS", "ROOM", "COMMAND", "TOPIC",
+pub const TOPICS: [&str; 30] = [
+    "words", "refused", "1", "2", "3", "4", "5", "6", "7", "8", "9", "10", "11", "12", "13", "14", "LEN", "OUTLEN", "OFFSET", "EXTENTS", "STRIDES", "LIST", "PAIRS", "FROM", "TO", "BYTES", "WORDS", "ROOM", "COMMAND", "TOPIC",
 ];
 
 fn lines(rows: &[(&str, &str)]) -> Vec<String> {

@@ -7,24 +7,31 @@ use crate::shapes;
 
 type Axes = (List<u64>, List<i64>);
 
-/// Extents below 6 with strides of a dense array in some order, some with gaps and some reversed.
+/// Extents below 6 with strides of a dense array.
 fn dense(random: &mut Random, rank: usize) -> Axes {
-    let (mut extents, mut strides) = (List::new(), List::new());
+    let mut extents = List::new();
     for _ in 0..rank {
         extents.push(random.between(1, if rank > 8 { 3 } else { 5 }));
-        strides.push(0);
     }
+    let strides = dense_strides(random, extents.slice(), 30);
+    (extents, strides)
+}
+
+/// Strides of a dense array in some order, some with gaps and some reversed; the first step has up to so many bits.
+pub fn dense_strides(random: &mut Random, extents: &[u64], bits: u64) -> List<i64> {
+    let rank = extents.len();
+    let mut strides = List::of(&vec![0; rank]);
     let start = random.below(rank.max(1) as u64) as usize;
-    let mut step = if random.once_in(4) { random.of_width(30) as i64 } else { 1 };
+    let mut step = if random.once_in(4) { random.of_width(bits) as i64 } else { 1 };
     for place in 0..rank {
         let axis = (start + place) % rank;
-        strides.items[axis] = if random.once_in(4) { -step } else { step };
-        step = step.wrapping_mul(extents.items[axis] as i64);
+        strides.items[axis] = if random.once_in(4) { step.wrapping_neg() } else { step };
+        step = step.wrapping_mul(extents[axis] as i64);
         if random.once_in(4) {
             step = step.wrapping_add(random.below(4) as i64);
         }
     }
-    (extents, strides)
+    strides
 }
 
 /// Small extents with strides of any width, so that spans come near the range.
@@ -85,7 +92,7 @@ fn axes(random: &mut Random, rank: usize) -> Axes {
 }
 
 /// Length and offset that just hold the axes, or miss by one, or are anything.
-fn placed(random: &mut Random, extents: &[u64], strides: &[i64]) -> (u64, i64) {
+pub fn placed(random: &mut Random, extents: &[u64], strides: &[i64]) -> (u64, i64) {
     let (low, high) = reach(extents, strides);
     let room = (1i128 << 63) - 1 - (high - low);
     if room < 0 || random.once_in(20) || extents.contains(&0) && random.once_in(2) {
@@ -107,13 +114,18 @@ fn placed(random: &mut Random, extents: &[u64], strides: &[i64]) -> (u64, i64) {
     (len.clamp(0, u64::MAX as i128) as u64, offset.clamp(i64::MIN as i128, i64::MAX as i128) as i64)
 }
 
-/// A layout, in one of 25 cases with a rank that no layout has.
+/// A layout, in one of 50 cases with a rank that no layout has.
 pub fn layout(random: &mut Random) -> Layout {
     let rank = random.rank();
     let (extents, strides) = axes(random, rank);
     let (len, offset) = placed(random, extents.slice(), strides.slice());
-    let mut layout = Layout::of(len, offset, extents.slice(), strides.slice());
-    for place in extents.len..16 {
+    handed(random, len, offset, extents.slice(), strides.slice())
+}
+
+/// A layout with anything in the places past its rank, and in one of 50 cases with a rank that no layout has.
+pub fn handed(random: &mut Random, len: u64, offset: i64, extents: &[u64], strides: &[i64]) -> Layout {
+    let mut layout = Layout::of(len, offset, extents, strides);
+    for place in extents.len()..16 {
         layout.extents[place] = random.word();
         layout.strides[place] = random.word() as i64;
     }

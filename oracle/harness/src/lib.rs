@@ -1,5 +1,7 @@
 //! strided-rs, our library and a reference of our own, on the same inputs.
 
+pub mod copies;
+pub mod copying;
 pub mod examples;
 pub mod help;
 pub mod input;

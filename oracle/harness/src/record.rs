@@ -9,7 +9,7 @@ use strided_view::is_injective_layout;
 pub type Refused = (u8, u64);
 
 /// Fewer than 2^64 positions, or none.
-fn countable(extents: &[u64]) -> bool {
+pub fn countable(extents: &[u64]) -> bool {
     extents.contains(&0) || extents.iter().try_fold(1u64, |product, &extent| product.checked_mul(extent)).is_some()
 }
 
@@ -43,7 +43,7 @@ pub fn normal_form(layout: &Layout) -> Result<Layout, Refused> {
 }
 
 /// The verdict byte with enough scratch, and the words that it needs. Whether an enumeration finds positions apart is asked of strided-rs.
-fn verdict(extents: &[u64], strides: &[i64]) -> (u8, u64) {
+pub fn verdict(extents: &[u64], strides: &[i64]) -> (u8, u64) {
     match judge(extents, strides) {
         Judged::Distinct(_) => (1, 0),
         Judged::Repeated(_) => (2, 0),

@@ -26,6 +26,43 @@ pub fn accepted(layout: &Layout) -> bool {
     low >= 0 && high < 1 << 63 && high < layout.len as i128
 }
 
+/// The positions of an accepted layout in their order, each as its index vector (places past the rank are 0) and its offset.
+pub struct Positions<'a> {
+    layout: &'a Layout,
+    next: Option<[u64; 16]>,
+}
+
+impl Positions<'_> {
+    pub fn of(layout: &Layout) -> Positions<'_> {
+        let is_empty = layout.extents().contains(&0);
+        Positions { layout, next: (!is_empty).then_some([0; 16]) }
+    }
+}
+
+impl Iterator for Positions<'_> {
+    type Item = ([u64; 16], i128);
+
+    fn next(&mut self) -> Option<([u64; 16], i128)> {
+        let index = self.next?;
+        let steps = index.iter().zip(self.layout.strides()).map(|(&place, &stride)| place as i128 * stride as i128);
+        let offset = self.layout.offset as i128 + steps.sum::<i128>();
+        self.next = following(index, self.layout.extents());
+        Some((index, offset))
+    }
+}
+
+/// The index vector behind another, axis 0 the fastest; none behind the last.
+fn following(mut index: [u64; 16], extents: &[u64]) -> Option<[u64; 16]> {
+    for (place, &extent) in index.iter_mut().zip(extents) {
+        *place += 1;
+        if *place < extent {
+            return Some(index);
+        }
+        *place = 0;
+    }
+    None
+}
+
 /// What the rules say of extents and strides.
 #[derive(Clone, Copy, PartialEq, Debug)]
 pub enum Judged {

@@ -1,5 +1,6 @@
 //! Random sessions of the program `layout`: lines, good and malformed, each with what it answers.
 
+use crate::copies::{self, CopyInput};
 use crate::help::TOPICS;
 use crate::input::{Input, Layout, List};
 use crate::random::{Random, EXTENTS, STEPS};
@@ -14,8 +15,9 @@ type Word = Vec<u8>;
 pub struct Asked {
     pub line: Vec<u8>,
     pub answers: Vec<String>,
-    /// The layout that was current before it.
+    /// The layouts that were current and held before it.
     pub before: Layout,
+    pub held: Layout,
 }
 
 struct Maker<'a> {
@@ -45,13 +47,13 @@ const BYTES: [u8; 28] = [
 ];
 
 /// Pieces of words: characters of two to four bytes, parts of them, what is no character though it looks like one, and numbers at the ends of ranges.
-const PIECES: [&[u8]; 46] = [
+const PIECES: [&[u8]; 50] = [
     "é".as_bytes(), "ß".as_bytes(), "€".as_bytes(), "漢".as_bytes(), "🦀".as_bytes(), "\u{85}".as_bytes(), "\u{a0}".as_bytes(), "\u{2028}".as_bytes(), "\u{feff}".as_bytes(),
     "\u{9b}".as_bytes(), "\u{ad}".as_bytes(), "\u{300}".as_bytes(), "\u{61c}".as_bytes(), "\u{200b}".as_bytes(), "\u{202e}".as_bytes(), "\u{2066}".as_bytes(), "\u{fe0f}".as_bytes(),
     "\u{e0041}".as_bytes(), "\u{e000}".as_bytes(),
     b"\xc3", b"\xa9", b"\xe2\x82", b"\xf0\x9f\xa6", b"\xc0\x80", b"\xed\xa0\x80", b"\xf4\x90\x80\x80", b"\xf8\x88\x80\x80\x80", b"\xff\xfe",
     b"18446744073709551615", b"18446744073709551616", b"18446744073709551614", b"9223372036854775807", b"9223372036854775808", b"-9223372036854775808", b"-9223372036854775809",
-    b"65535", b"65536", b"65537", b"-0", b"-1", b"+1", b"0x10", b"1e3", b"340282366920938463463374607431768211456", b"000000000000000000000000000000000000000000007", b"--1",
+    b"2147483647", b"2147483648", b"-2147483648", b"-2147483649", b"65535", b"65536", b"65537", b"-0", b"-1", b"+1", b"0x10", b"1e3", b"340282366920938463463374607431768211456", b"000000000000000000000000000000000000000000007", b"--1",
 ];
 
 impl Maker<'_> {
@@ -69,11 +71,11 @@ impl Maker<'_> {
         if line.contains(&b'\n') || has_other_character(&line) {
             return;
         }
-        let before = self.session.layout;
+        let (before, held) = (self.session.layout, self.session.held);
         let Some(answers) = self.session.answer(&line) else {
             return;
         };
-        self.asked.push(Asked { line, answers, before });
+        self.asked.push(Asked { line, answers, before, held });
     }
 
     /// One line, or two that belong together; after a view its layout is often shown.
@@ -168,7 +170,7 @@ impl Maker<'_> {
     fn good(&mut self) -> Vec<Word> {
         let layout = self.session.layout;
         let random = &mut *self.random;
-        match random.below(20) {
+        match random.below(22) {
             0 => self.drawn(),
             1 => command("normal", &[]),
             2 | 3 => {
@@ -220,6 +222,8 @@ impl Maker<'_> {
                 let layout = layouts::layout(random);
                 self.laid("new", &layout)
             }
+            18 if random.once_in(4) => command("hold", &[]),
+            18 | 19 => self.copied(),
             _ => {
                 let input = layouts::any(random);
                 self.called(&input)
@@ -243,6 +247,24 @@ impl Maker<'_> {
         let words = checked_in("set", self.random.between(1000, 2000), offset, &extents, &strides);
         self.ask(line(&words));
         command("draw", &[])
+    }
+
+    /// A copy: through layouts that were drawn for it, or through those that are there.
+    fn copied(&mut self) -> Vec<Word> {
+        let CopyInput { source, from, destination, to, words } = copies::small(self.random);
+        if !self.once_in(8) {
+            let held = self.laid("set", &destination);
+            self.ask(line(&held));
+            self.ask(b"hold".to_vec());
+            let current = self.laid("set", &source);
+            self.ask(line(&current));
+        }
+        let scratch = match self.below(4) {
+            0 => vec![],
+            1 => self.scratch(destination.extents(), destination.strides()),
+            _ => vec![word(words.min(65_536))],
+        };
+        [command("copy", &[list(&from), list(&to)]), scratch].concat()
     }
 
     fn record(&mut self, layout: &Layout) -> Vec<Word> {

@@ -2,7 +2,7 @@
 
 use crate::input::{joined, Answer, Given, Input, Layout, List};
 use crate::record::{self, Refused};
-use crate::{help, reference, rust};
+use crate::{copying, help, reference, rust};
 use std::collections::BTreeMap;
 use std::fmt::{self, Display};
 
@@ -19,13 +19,15 @@ const ANY_WORDS: usize = 16_777_217;
 
 const UNSIGNED: (i128, i128) = (0, u64::MAX as i128);
 const SIGNED: (i128, i128) = (i64::MIN as i128, i64::MAX as i128);
+const READING: (i128, i128) = (i32::MIN as i128, i32::MAX as i128);
 
 /// Each command with its words, those in brackets may be left out, and what it does.
-pub const COMMANDS: [(&str, &str); 19] = [
+pub const COMMANDS: [(&str, &str); 21] = [
     ("new LEN OFFSET EXTENTS STRIDES", "check a layout in and make it current"),
     ("bounds LEN OFFSET EXTENTS STRIDES", "check the bounds of a layout; the current one stays"),
     ("set LEN OFFSET EXTENTS STRIDES", "make a layout current with no check; of more than 16 axes the first 16 are held"),
     ("show", "the current layout, as LEN OFFSET EXTENTS STRIDES"),
+    ("hold", "keep the current layout as the held one, for copy"),
     ("draw", "the cells that the current layout reaches, each with the positions that share it; at most 200 positions"),
     ("permute LIST", "put the axes into the order of the list"),
     ("diagonal PAIRS", "tie the axes of each pair a:b into one"),
@@ -34,6 +36,7 @@ pub const COMMANDS: [(&str, &str); 19] = [
     ("normal", "the normal form; the current layout stays"),
     ("verdict [WORDS]", "whether two positions of the current layout share a cell, with WORDS words of scratch"),
     ("injective EXTENTS STRIDES [WORDS]", "whether two positions of a layout of these extents and strides share a cell, with WORDS words of scratch"),
+    ("copy FROM TO [WORDS]", "copy readings FROM through the current layout into readings TO through the held one; the answer is TO afterwards"),
     ("record ROOM [WORDS]", "the record of the current layout, in at most ROOM bytes"),
     ("read BYTES [WORDS]", "read a record and make its layout current"),
     ("rest BYTES", "what stands behind the record at the front"),
@@ -172,6 +175,10 @@ impl<'a> Words<'a> {
         self.list(place, What::Number(SIGNED), |entry| number(entry, SIGNED).map(|number| number as i64))
     }
 
+    fn readings(&self, place: usize) -> Said<Vec<i32>> {
+        self.list(place, What::Number(READING), |entry| number(entry, READING).map(|number| number as i32))
+    }
+
     /// The numbers of each pair, one after the other.
     fn pairs(&self, place: usize) -> Said<Vec<u64>> {
         let pair = |entry: &[u8]| {
@@ -247,22 +254,14 @@ fn help(place: usize) -> String {
 /// The positions of a layout, cell by cell; refused as its normal form is.
 fn drawn(layout: &Layout) -> Said<Vec<String>> {
     record::normal_form(layout).map_err(refused)?;
-    let (extents, strides) = (layout.extents(), layout.strides());
+    let extents = layout.extents();
     let positions: u64 = if extents.contains(&0) { 0 } else { extents.iter().product() };
     if positions > DRAWN {
         return Err(Stop::error(format_args!("draw shows at most {DRAWN} positions; the layout has {positions}")));
     }
-    let mut cells: BTreeMap<i64, Vec<String>> = BTreeMap::new();
-    let mut index = vec![0; extents.len()];
-    for _ in 0..positions {
-        let steps: i64 = index.iter().zip(strides).filter(|(&place, _)| place > 0).map(|(&place, stride)| place as i64 * stride).sum();
-        cells.entry(layout.offset + steps).or_default().push(joined(&index));
-        for (place, &extent) in index.iter_mut().zip(extents) {
-            *place = (*place + 1) % extent;
-            if *place > 0 {
-                break;
-            }
-        }
+    let mut cells: BTreeMap<i128, Vec<String>> = BTreeMap::new();
+    for (index, cell) in reference::Positions::of(layout) {
+        cells.entry(cell).or_default().push(joined(&index[..extents.len()]));
     }
     let count = format!("cells {}", cells.len());
     let rows = cells.iter().map(|(cell, shared)| format!("{cell}: {}", shared.join(" ")));
@@ -271,7 +270,10 @@ fn drawn(layout: &Layout) -> Said<Vec<String>> {
 
 /// What the program holds between two lines.
 pub struct Session {
+    /// The current layout.
     pub layout: Layout,
+    /// The layout that was current at the last `hold`.
+    pub held: Layout,
     /// How many difference vectors and positions verdicts may still look at.
     pub budget: u64,
     /// The records that were answered.
@@ -280,7 +282,8 @@ pub struct Session {
 
 impl Session {
     pub fn new(budget: u64) -> Session {
-        Session { layout: Layout::of(0, 0, &[0], &[0]), budget, records: vec![] }
+        let empty = Layout::of(0, 0, &[0], &[0]);
+        Session { layout: empty, held: empty, budget, records: vec![] }
     }
 
     /// The lines that a line answers; none, and nothing changed, if its verdict costs more than the budget.
@@ -339,6 +342,10 @@ impl Session {
             }
             b"set" => self.set(words),
             b"show" => Ok(layout.text()),
+            b"hold" => {
+                self.held = layout;
+                Ok("ok".to_string())
+            }
             b"permute" => {
                 let axes = axes(&words.unsigned(2)?)?;
                 self.viewed(rust::answer(&Input::Permute { layout, axes }))
@@ -364,6 +371,7 @@ impl Session {
                 let (extents, strides, words) = (words.unsigned(2)?, words.signed(3)?, words.scratch(4)?);
                 self.verdict(&extents, &strides, words)
             }
+            b"copy" => self.copy(words),
             b"record" => self.record(words),
             b"read" => self.read(words),
             b"rest" => {
@@ -411,6 +419,13 @@ impl Session {
         let (extents, strides) = (axes(extents)?, axes(strides)?);
         self.spend(extents.slice(), strides.slice())?;
         Ok(rust::answer(&Input::Injective { extents, strides, words }).text())
+    }
+
+    /// A copy comes to the verdict only if 64 readings are enough for each layout: so the verdict costs nothing that counts.
+    fn copy(&self, words: &Words) -> Said<String> {
+        let (from, mut to, words) = (words.readings(2)?, words.readings(3)?, words.scratch(4)?);
+        copying::copy(&self.layout, &from, &self.held, &mut to, words).answer.map_err(refused)?;
+        Ok(joined(&to))
     }
 
     fn record(&mut self, words: &Words) -> Said<String> {

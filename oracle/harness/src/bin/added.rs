@@ -1,15 +1,20 @@
 //! The calls that strided-rs does not have, our library beside the reference: `added SECONDS SEED`.
 
+use harness::copies::CopyInput;
 use harness::input::{joined, Layout};
-use harness::ours::{self, strided_normal_form, strided_read, strided_step, strided_write, Values};
+use harness::ours::{self, strided_copy, strided_normal_form, strided_read, strided_step, strided_write, Values};
 use harness::random::Random;
 use harness::record::{self, Refused};
 use harness::reference::words_needed;
-use harness::{layouts, shapes};
+use harness::{copies, copying, layouts, shapes};
+use std::collections::BTreeMap;
 use std::time::{Duration, Instant};
 
 const PATTERN: u64 = 0xa5c3_96e1_d00d_beef;
 const BYTE: u8 = 0xa5;
+const READING: i32 = 0x3c96_e1d0;
+/// So many readings lie in front of a lent buffer, and behind it.
+const AROUND: usize = 8;
 
 /// A struct that is handed over, and words behind it.
 #[repr(C)]
@@ -35,18 +40,17 @@ const NO_VALUES: Values = Values { first: PATTERN as usize, second: PATTERN as u
 struct Lent {
     layout: Guarded<ours::Layout>,
     values: Guarded<Values>,
+    /// The words that are lent, and four behind them.
     scratch: Vec<u64>,
 }
 
 impl Lent {
     fn of(layout: &Layout, words: usize) -> Lent {
-        Lent { layout: Guarded::of(layout.into()), values: Guarded::of(NO_VALUES), scratch: vec![PATTERN; words] }
+        Lent { layout: Guarded::of(layout.into()), values: Guarded::of(NO_VALUES), scratch: vec![PATTERN; words + 4] }
     }
 
-    /// The words past what was handed over, and scratch but for the words that the enumeration may use.
-    fn kept(&self, layout: &Layout, words: usize) -> bool {
-        let needed = words_needed(layout.extents(), layout.strides()).unwrap_or(0) as usize;
-        let free = if needed <= words { needed } else { 0 };
+    /// The words past what was handed over, and scratch but for the words from its first on that may hold anything.
+    fn kept(&self, free: usize) -> bool {
         self.layout.behind == [PATTERN; 2] && self.values.behind == [PATTERN; 2] && self.scratch.iter().skip(free).all(|&word| word == PATTERN)
     }
 
@@ -69,8 +73,33 @@ impl Lent {
     }
 }
 
+/// How many words of scratch the enumeration of a layout may use, if so many are lent.
+fn free(layout: &Layout, words: usize) -> usize {
+    let needed = words_needed(layout.extents(), layout.strides()).unwrap_or(0) as usize;
+    if needed <= words {
+        needed
+    } else {
+        0
+    }
+}
+
 /// Stands for an answer after which lent memory is not as it should be.
 const CHANGED: Refused = (254, 0);
+
+/// What the reference answers to an input of a call, and the difference, if there is one.
+struct Tried {
+    call: &'static str,
+    answer: String,
+    difference: Option<String>,
+}
+
+fn tried<T>(call: &'static str, answer: &Result<T, Refused>, same: bool, difference: String) -> Tried {
+    let answer = match answer {
+        Ok(_) => "done".to_string(),
+        Err((number, _)) => format!("refused {number}"),
+    };
+    Tried { call, answer, difference: (!same).then_some(difference) }
+}
 
 /// A layout; now and then one whose verdict is enumerated.
 fn layout(random: &mut Random) -> Layout {
@@ -81,19 +110,18 @@ fn layout(random: &mut Random) -> Layout {
     Layout::of(u64::MAX, 1 << 62, extents.slice(), strides.slice())
 }
 
-fn normal(random: &mut Random) -> Result<(), String> {
+fn normal(random: &mut Random) -> Tried {
     let layout = layouts::layout(random);
     let mut lent = Lent::of(&layout, 0);
     // SAFETY: the pointer is that of a layout.
     let number = unsafe { strided_normal_form(lent.layout.at()) };
     let found = if number == 0 { lent.made() } else { Err(lent.refused(number, &layout)) };
-    if found == record::normal_form(&layout) && lent.kept(&layout, 0) {
-        return Ok(());
-    }
-    Err(format!("normal form of {} (rank {}): {number}", layout.text(), layout.rank))
+    let expected = record::normal_form(&layout);
+    let same = found == expected && lent.kept(0);
+    tried("normal form", &expected, same, format!("{} (rank {}): {number}", layout.text(), layout.rank))
 }
 
-fn write(random: &mut Random) -> Result<(), String> {
+fn write(random: &mut Random) -> Tried {
     let layout = layout(random);
     let normal = record::normal_form(&layout).unwrap_or(layout);
     let room = if random.once_in(8) { random.below(280) as usize } else { 13 + 16 * normal.held() + random.below(3) as usize };
@@ -113,11 +141,9 @@ fn write(random: &mut Random) -> Result<(), String> {
         }
         _ => (Err(lent.refused(number, &layout)), 0),
     };
-    let kept = lent.layout.lent == (&layout).into() && lent.values.lent.second == NO_VALUES.second && lent.kept(&normal, words);
-    if found == expected && out[used..].iter().all(|&byte| byte == BYTE) && kept {
-        return Ok(());
-    }
-    Err(format!("record of {} (rank {}), room {room}, {words} words: {number}", layout.text(), layout.rank))
+    let kept = lent.layout.lent == (&layout).into() && lent.values.lent.second == NO_VALUES.second && lent.kept(free(&normal, words));
+    let same = found == expected && out[used..].iter().all(|&byte| byte == BYTE) && kept;
+    tried("writing", &expected, same, format!("{} (rank {}), room {room}, {words} words: {number}", layout.text(), layout.rank))
 }
 
 /// The record of a layout, whole, cut, with bytes behind it or with one byte or one field changed.
@@ -144,7 +170,7 @@ fn bytes(random: &mut Random) -> Vec<u8> {
     bytes
 }
 
-fn read(random: &mut Random) -> Result<(), String> {
+fn read(random: &mut Random) -> Tried {
     let bytes = bytes(random);
     let mut kept_bytes = bytes.clone();
     let whole = record::read(&bytes, usize::MAX);
@@ -159,13 +185,39 @@ fn read(random: &mut Random) -> Result<(), String> {
     };
     let found = if number == 0 { lent.made() } else { Err(lent.refused(number, &before)) };
     // A record that is refused for its verdict may have used scratch, too: then only its words past the need are looked at.
-    let kept = whole.is_err() || lent.kept(&judged, words);
+    let kept = whole.is_err() || lent.kept(free(&judged, words));
     // SAFETY: as above.
     let stepped = unsafe { strided_step(bytes.as_ptr(), bytes.len()) };
-    if found == record::read(&bytes, words) && kept && kept_bytes == bytes && stepped == record::step(&bytes) {
-        return Ok(());
-    }
-    Err(format!("reading {} with {words} words: {number}, stepping over: {stepped}", joined(&bytes)))
+    let expected = record::read(&bytes, words);
+    let same = found == expected && kept && kept_bytes == bytes && stepped == record::step(&bytes);
+    tried("reading", &expected, same, format!("{} with {words} words: {number}, stepping over: {stepped}", joined(&bytes)))
+}
+
+/// A buffer with readings in front of it and behind it.
+fn around(readings: &[i32]) -> Vec<i32> {
+    [&[READING; AROUND], readings, &[READING; AROUND]].concat()
+}
+
+fn copy(random: &mut Random) -> Tried {
+    let CopyInput { source, from, destination, to, words } = copies::copy(random);
+    let mut after = to.clone();
+    let copied = copying::copy(&source, &from, &destination, &mut after, words);
+    let (mut lent_source, mut lent) = (Guarded::of((&source).into()), Lent::of(&destination, words));
+    let (lent_from, mut lent_to) = (around(&from), around(&to));
+    // SAFETY: each pointer is that of a struct or has so many readings or words behind it.
+    let number = unsafe {
+        let (from_at, to_at) = (lent_from[AROUND..].as_ptr(), lent_to[AROUND..].as_mut_ptr());
+        let scratch_at = lent.scratch.as_mut_ptr();
+        strided_copy(lent_source.at(), from_at, from.len(), lent.layout.at(), to_at, to.len(), scratch_at, words, lent.values.at())
+    };
+    let found = if number == 0 { lent.made().map(|_| ()) } else { Err(lent.refused(number, &destination)) };
+    let layouts_kept = lent_source == Guarded::of((&source).into()) && lent.layout.lent == (&destination).into();
+    let buffers = lent_from == around(&from) && lent_to == around(&after);
+    let same = found == copied.answer && layouts_kept && buffers && lent.kept(copied.free());
+    let text = format!("{} (rank {}) to {} (rank {})", source.text(), source.rank, destination.text(), destination.rank);
+    let lengths = format!("{} and {} readings, {words} words", from.len(), to.len());
+    let tried = tried("copy", &copied.answer, same, format!("{text}, {lengths}: {number}, and not {:?}", copied.answer));
+    Tried { answer: copied.kind(&source), ..tried }
 }
 
 fn main() {
@@ -174,21 +226,26 @@ fn main() {
     let mut random = Random::new(words[1]);
     let end = Instant::now() + Duration::from_secs(words[0]);
     let (mut inputs, mut differences) = (0u64, 0u64);
+    let mut answers: BTreeMap<(&str, String), u64> = BTreeMap::new();
     println!("seed {}: the added calls beside the reference", words[1]);
     while inputs % 256 != 0 || Instant::now() < end {
         inputs += 1;
-        let outcome = match random.below(3) {
+        let tried = match random.below(4) {
             0 => normal(&mut random),
             1 => write(&mut random),
-            _ => read(&mut random),
+            2 => read(&mut random),
+            _ => copy(&mut random),
         };
-        if let Err(text) = outcome {
+        *answers.entry((tried.call, tried.answer)).or_default() += 1;
+        if let Some(text) = tried.difference {
             differences += 1;
             if differences <= 20 {
-                println!("difference: {text}");
+                println!("difference in {}: {text}", tried.call);
             }
         }
     }
+    println!("by call and answer:");
+    answers.iter().for_each(|((call, answer), count)| println!("  {call}, {answer}: {count}"));
     println!("{inputs} inputs, {differences} differences");
     std::process::exit(i32::from(differences > 0));
 }

@@ -156,10 +156,12 @@ fn tell(total: &mut Tally, asked: &Asked, answer: &str, answered: &[u8]) {
     if total.printed < PRINTED {
         total.printed += 1;
         println!(
-            "difference at {} (before it {}, rank {})\n  the model: {}\n  {} bytes, the program: {}",
+            "difference at {} (before it {}, rank {}; held {}, rank {})\n  the model: {}\n  {} bytes, the program: {}",
             asked.line.escape_ascii(),
             asked.before.text(),
             asked.before.rank,
+            asked.held.text(),
+            asked.held.rank,
             answer.escape_default(),
             asked.line.len(),
             answered.escape_ascii()

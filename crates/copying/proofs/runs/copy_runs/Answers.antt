@@ -1,8 +1,6 @@
 -- Run by run: the places of a run are those of its positions.
-use Rattle.std.proofs.Common.{◌≡◌, ◌<◌, ◌∙◌, refl, length, Bool, true, false, arith}
-use Rattle.positions.specs.Positions.{word_of, place_at}
-use Rattle.copying.specs.declared.runs.Runs.{Runs}
-use Rattle.copying.proofs.CopyingLaws.{Swept, swept-none, run-placed, swept-on}
+use Rattle.std.proofs.Common.{◌∙◌, refl, length, arith}
+use Rattle.copying.proofs.CopyingLaws.{swept-none, run-placed, swept-on}
 use Rattle.copying.proofs.runs.copy_runs.Goals as goal
 
 pub loop-more-init : goal.loop-more-init
