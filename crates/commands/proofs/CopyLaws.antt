@@ -1,13 +1,12 @@
 -- A copy that lacked words of scratch leaves what it was lent, so a second one answers as if it were the first.
-use Rattle.std.proofs.Common.{◌≡◌, ℤ, ℕ, List, [], ◌∷◌, length, Option, Some, None, Result, Ok, Err, unwrap_or, refl, sym, ap, ◌∙◌}
-use Rattle.specification.specs.Outcome.{Check, done, refused, ◌>>◌, ◌>>=◌}
+use Rattle.std.proofs.Common.{◌≡◌, ℤ, ℕ, List, length, Option, Some, None, Result, Ok, Err, unwrap_or, refl, ap, ◌∙◌}
+use Rattle.specification.specs.Outcome.{Check, ◌>>=◌}
 use Rattle.specification.specs.Layout.{LayoutModel}
 use Rattle.specification.specs.Verdict.{judge}
 use Rattle.specification.proofs.OutcomeLaws.{bind-refused}
-use Rattle.copying.specs.Copy.{copy_handed, distinct_only, copy_refusal, copy_after}
+use Rattle.copying.specs.Copy.{copy_handed, distinct_only, distinct_judged, copy_refusal, copy_after}
 use Rattle.view.specs.Answers.{outcome_of}
 use Rattle.view.specs.declared.layout.Refusal.{Refusal}
-use Rattle.view.specs.declared.layout.Refusal.TheVariants.{ShortScratch}
 use Rattle.commands.specs.Obeyed.{or_most}
 use Rattle.commands.specs.Scratch.{words_lacking}
 use Rattle.commands.proofs.ScratchLaws.{Steady, steady_judge, steady_by, steady_behind, first_answer, second_answer}
@@ -20,7 +19,7 @@ module _ (s d : LayoutModel) (from to : List ℤ) where
   refusal = copy_refusal s d (length from) (length to)
 
   steady_copy : Steady refusal
-  unfolding copy_refusal
+  unfolding copy_refusal distinct_judged
   steady_copy =
       steady_behind (copy_handed s d (length from) (length to)) _
       (steady_by (judge d.axes) (λ o. o >>= λ judged. distinct_only judged.answer) (λ values. bind-refused _ refl) (steady_judge d.axes))
