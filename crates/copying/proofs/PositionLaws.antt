@@ -1,26 +1,15 @@
 -- The runs of two suited layouts: as many on both sides, as long, and in their buffers.
-use Rattle.std.proofs.Common.{◌≡◌, refl, sym, ap, ◌∙◌, ℕ, ◌*◌, ◌<◌, List, [], ◌∷◌, ℤ, true, arith}
+use Rattle.std.proofs.Common.{◌≡◌, refl, sym, ap, ◌∙◌, ℕ, ◌*◌, ◌<◌, List, [], ◌∷◌, ℤ, arith}
 use Rattle.std.proofs.lemmas.Int.{ints}
-use Rattle.specification.specs.Axis.{Axis, positions, product, extents, is_empty}
+use Rattle.specification.specs.Axis.{Axis, positions, product, extents}
 use Rattle.specification.specs.Layout.{LayoutModel, IsAccepted}
 use Rattle.specification.specs.Readings.{cell_at, IsTooShort}
-use Rattle.specification.proofs.NormalLaws.{empty-none}
 use Rattle.specification.proofs.ReadingLaws.{cell_at-below}
 use Rattle.copying.specs.declared.runs.Runs.{Runs}
 use Rattle.copying.specs.Copy.{copies}
 use Rattle.copying.specs.Runs.{IsPlacedIn, places_of, run_axes, AreRunsOf}
 use Rattle.copying.proofs.CopyingLaws.{copies-same}
-
--- no position: nothing is copied
-pub none-copied : (source destination : ℕ → ℕ) (from to : List ℤ) (axes : List Axis) → is_empty axes ≡ true → to ≡ copies source destination from (positions axes) to
-unfolding copies
-none-copied source destination from to axes e = rw (empty-none axes e) refl
-
--- as runs, axes have as many positions
-run-positions : (axes : List Axis) → positions (run_axes axes) ≡ positions axes
-unfolding product
-run-positions [] = omega arith
-run-positions (a ∷ rest) = refl
+use Rattle.copying.proofs.RunsLaws.{run-positions}
 
 run-extents : (xs ys : List Axis) → extents xs ≡ extents ys → extents (run_axes xs) ≡ extents (run_axes ys)
 run-extents [] [] e = refl

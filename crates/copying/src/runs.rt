@@ -3,13 +3,13 @@ ghost use Rattle.std.specs.Prelude.{◌≡◌, ◌<◌, ◌+◌, ◌*◌, ◌∷
 ghost use Rattle.specification.specs.Axis.{positions};
 ghost use Rattle.specification.specs.Layout.{IsAccepted};
 ghost use Rattle.view.specs.Model.{model_of};
-ghost use Rattle.positions.specs.Positions.{IsWalkable, StrideFits, place_at, word_of};
+ghost use Rattle.positions.specs.Positions.{StrideFits, place_at, word_of};
 ghost use Rattle.positions.specs.Runs.{run_at, IsRunIn};
 ghost use Rattle.copying.specs.Copy.{copies};
-ghost use Rattle.copying.specs.Runs.{IsPlacedIn, places_of, AreRunsOf};
+ghost use Rattle.copying.specs.Runs.{IsPlacedIn, places_of, run_axes, AreRunsOf};
 
 use axis::Axis;
-use positions::Positions;
+use positions::{Positions, strides_fit};
 use view::layout::Layout;
 
 /// Places in a buffer: the first, and the step from each to the next. Both are words, whose sums wrap.
@@ -58,41 +58,40 @@ fn copy_run(from: &[i32], source: Run, to: &mut [i32], destination: Run, count: 
     }
 }
 
-/// The runs of axes along the first of them, one after another.
-#[derive(Drop)]
-pub(crate) struct Runs {
-    axis: Axis,
-    others: Positions,
+/// The axis along which runs go, and the others. No axes are one axis with one index.
+fn first_and_others(axes: &[Axis]) -> (Axis, &[Axis])
+    ensures axes { result.0 ∷ result.1.now ≡ run_axes axes.now }
+    ensures fit { All StrideFits axes.now }
+{
+    strides_fit(axes);
+    match axes.split_first() {
+        Some((axis, others)) => (*axis, others),
+        None => (
+            Axis {
+                extent: 1,
+                stride: 0,
+            },
+            &[],
+        ),
+    }
 }
 
-impl Runs {
-    const ONE: Axis = Axis {
-        extent: 1,
-        stride: 0,
-    };
+/// The runs of axes along the first of them, one after another.
+#[derive(Drop)]
+pub(crate) struct Runs<'a> {
+    axis: Axis,
+    others: Positions<'a>,
+}
 
+impl<'a> Runs<'a> {
     /// Those of a layout that has a position. Of no axes it is one run of one reading.
-    #[tactic(auto, using(crate::proofs::RunsLaws::none_walkable))]
-    pub(crate) fn of(layout: &Layout) -> Runs
+    pub(crate) fn of(layout: &'a Layout) -> Runs<'a>
         requires accepted { IsAccepted (model_of layout.now) }
         requires some { 0 < positions (model_of layout.now).axes }
         ensures { AreRunsOf (model_of layout.now) result }
     {
+        let (axis, others) = first_and_others(layout.axes());
         let start = layout.offset.0.cast_unsigned();
-        match layout.axes().split_first() {
-            Some((axis, others)) => Runs::new(*axis, others, start),
-            None => Runs::new(Runs::ONE, &[], start),
-        }
-    }
-
-    // The first of them, at the place of the first position.
-    fn new(axis: Axis, others: &[Axis], start: u64) -> Runs
-        requires { IsWalkable others.now }
-        ensures axis { result.axis ≡ axis }
-        ensures others { result.others ≡ record { axes = others.now; start = start; number = 0 } }
-        ensures fits { StrideFits axis }
-        ensures others_fit { All StrideFits others.now }
-    {
         Runs {
             axis,
             others: Positions::new(others, start),
@@ -112,16 +111,21 @@ impl Runs {
 }
 
 /// Copies every position of two lists of axes with the same extents, of which none is 0, run by run.
-pub(crate) fn copy_runs(from: &[i32], mut source: Runs, to: &mut [i32], mut destination: Runs)
-    requires some { 0 < positions source.others.axes }
-    requires long { 0 < source.axis.extent }
-    requires alike { destination.axis.extent ≡ source.axis.extent }
-    requires as_many { positions destination.others.axes ≡ positions source.others.axes }
-    requires first { source.others.number ≡ 0 }
-    requires into_first { destination.others.number ≡ 0 }
-    requires in_source { IsPlacedIn source.others.start (source.axis ∷ source.others.axes) (length from.now) }
-    requires in_destination { IsPlacedIn destination.others.start (destination.axis ∷ destination.others.axes) (length to.old) }
-    ensures { to.new ≡ copies (places_of source) (places_of destination) from.now (source.axis.extent * positions source.others.axes) to.old }
+pub(crate) fn copy_runs<'a>(
+    from: &[i32],
+    source: &mut Runs<'a>,
+    to: &mut [i32],
+    destination: &mut Runs<'a>,
+)
+    requires some { 0 < positions source.old.others.axes }
+    requires long { 0 < source.old.axis.extent }
+    requires alike { destination.old.axis.extent ≡ source.old.axis.extent }
+    requires as_many { positions destination.old.others.axes ≡ positions source.old.others.axes }
+    requires first { source.old.others.number ≡ 0 }
+    requires into_first { destination.old.others.number ≡ 0 }
+    requires in_source { IsPlacedIn source.old.others.start (source.old.axis ∷ source.old.others.axes) (length from.now) }
+    requires in_destination { IsPlacedIn destination.old.others.start (destination.old.axis ∷ destination.old.others.axes) (length to.old) }
+    ensures { to.new ≡ copies (places_of source.old) (places_of destination.old) from.now (source.old.axis.extent * positions source.old.others.axes) to.old }
 {
     let count = source.axis.extent;
     let mut more = true;

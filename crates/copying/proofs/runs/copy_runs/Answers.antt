@@ -4,19 +4,19 @@ use Rattle.copying.proofs.CopyingLaws.{swept-none, run-placed, swept-on}
 use Rattle.copying.proofs.runs.copy_runs.Goals as goal
 
 pub loop-more-init : goal.loop-more-init
-loop-more-init c = swept-none c.args.source c.args.destination c.args.from.now c.args.to.now c.requires.first c.requires.into_first c.requires.some
+loop-more-init c = swept-none c.args.source.now c.args.destination.now c.args.from.now c.args.to.now c.requires.first c.requires.into_first c.requires.some
 
 pub copy_run-requires-clause-in_source : goal.copy_run-requires-clause-in_source
 copy_run-requires-clause-in_source c =
     let w = c.loop-more.invariant in
-    let s = c.args.source in
+    let s = c.args.source.now in
     run-placed s.others.start s.axis s.others.axes (length c.args.from.now) c.loop-more.source.others.number c.run.result.place c.run.result.step c.requires.in_source w.within
     (c.run.ensures.place ∙ rw (w.start, w.axes) refl) (c.run.ensures.step ∙ rw w.axis refl)
 
 pub copy_run-requires-clause-in_destination : goal.copy_run-requires-clause-in_destination
 copy_run-requires-clause-in_destination c =
     let w = c.loop-more.invariant in
-    let d = c.args.destination in
+    let d = c.args.destination.now in
     let e = c.run-in-loop-more.ensures in
     let placed =
     run-placed d.others.start d.axis d.others.axes (length c.args.to.now) c.loop-more.destination.others.number c.run-in-loop-more.result.place c.run-in-loop-more.result.step c.requires.in_destination
@@ -31,6 +31,6 @@ loop-more-preserved c =
     let q = c.run-in-loop-more.ensures in
     let n = c.next-more.ensures in
     let m = c.next.ensures in
-    swept-on a.source a.destination a.from.now a.to.now w c.requires.alike c.requires.as_many
+    swept-on a.source.now a.destination.now a.from.now a.to.now w c.requires.alike c.requires.as_many
     (c.copy_run.ensures ∙ rw (r.place, r.step, q.place, q.step, w.start, w.axes, w.axis, w.into_start, w.into_axes, w.into_axis, w.alike refl) refl)
     refl n.axes n.start n.within n.on n.last refl m.axes m.start m.on m.last
