@@ -1,4 +1,5 @@
 // Each call of the library, with arguments with which it succeeds.
+use commands::layouts::Layouts;
 use commands::memory::Memory;
 use commands::obey::obey;
 use layouts::{
@@ -155,9 +156,13 @@ fn lines_and_commands(rt: HostRuntime) -> Result<(), Fail> {
     let [name, texts @ ..] = words.as_slice() else {
         return Err(Fail::new("a line without words"));
     };
-    let mut layout = Layout::new(6, ReadingOffset(0), &[2, 3], &[1, 2])?;
+    let sheet = Layout::new(6, ReadingOffset(0), &[2, 3], &[1, 2])?;
+    let mut layouts = Layouts {
+        current: sheet,
+        held: sheet,
+    };
     let mut memory = Memory::new(alloc);
-    let Ok(reply) = obey(alloc, &mut layout, &mut memory, *name, texts) else {
+    let Ok(reply) = obey(alloc, &mut layouts, &mut memory, *name, texts) else {
         return Err(Fail::new("a line that is not obeyed"));
     };
     write!(out, "{reply}")?;
