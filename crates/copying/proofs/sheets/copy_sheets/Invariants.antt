@@ -1,9 +1,9 @@
--- The runs that the walks have passed are copied.
+-- The sheets that the walks have passed are copied.
 use Rattle.std.proofs.Common.{◌-◌}
 use Rattle.std.specs.Prelude.{if◌then◌else◌}
 use Rattle.specification.specs.Axis.{positions}
-use Rattle.copying.proofs.CopyingLaws.{Swept}
-use Rattle.copying.proofs.runs.copy_runs.Given as goal
+use Rattle.copying.proofs.SweepLaws.{Swept}
+use Rattle.copying.proofs.sheets.copy_sheets.Given as goal
 
 abbrev pub invariant-loop-more : goal.invariant-loop-more
 invariant-loop-more l = Swept l.initial.source l.initial.destination l.from l.initial.to l.source l.destination l.more l.to
