@@ -7,7 +7,7 @@ use Rattle.positions.specs.Positions.{place_at, words_at, word_of, StrideFits, I
 use Rattle.positions.proofs.PlaceLaws.{place_of_layout, start_is}
 use Rattle.copying.specs.declared.sheets.Sheet.{Sheet}
 use Rattle.copying.specs.declared.sheets.Sheets.{Sheets}
-use Rattle.copying.specs.Sheets.{one, axes_of, sheet_axes, AreSheetsOf}
+use Rattle.copying.specs.Sheets.{one, axes_of, all_axes, sheet_axes, AreSheetsOf}
 
 -- as sheets, axes have as many positions, and each has the same place
 pub sheet-positions : (axes : List Axis) → positions (sheet_axes axes) ≡ positions axes
@@ -38,9 +38,8 @@ module _ (l : LayoutModel) (a : IsAccepted l) (some : 0 < positions l.axes) wher
       let h : 0 < sheet.run.extent * (sheet.rows.extent * positions others) = rw (ap positions e ∙ sheet-positions l.axes) some in
       record { few = few-others l.axes a.few e; some = grind (arith, ints, h) }
 
-  pub sheets_are : (sheets : Sheets) → All StrideFits l.axes → axes_of sheets.sheet ++ sheets.others.axes ≡ sheet_axes l.axes → sheets.others.number ≡ 0 → sheets.others.start ≡ word_of l.offset → AreSheetsOf l sheets
-  sheets_are sheets f e z s = record {
+  pub sheets_are : (sheets : Sheets) → All StrideFits l.axes → all_axes sheets ≡ sheet_axes l.axes → sheets.start ≡ word_of l.offset → AreSheetsOf l sheets
+  sheets_are sheets f e s = record {
     axes = e;
-    first = z;
     places = λ k h. rw (s, start_is l a some, e) (sheet-places _ l.axes k ∙ place_of_layout l a k f h);
   }

@@ -1,5 +1,5 @@
 -- Copies of the places of some front axes, from each position of the others on: one more of these, and walks on both sides.
-use Rattle.std.proofs.Common.{Bool, true, false, ◌≡◌, refl, sym, ap, ◌∙◌, ℕ, ◌+◌, ◌*◌, ◌<◌, List, [], ◌∷◌, ◌++◌, ℤ, mul-le-mul_left, mod-eq_of_lt, arith}
+use Rattle.std.proofs.Common.{Bool, true, false, ◌≡◌, refl, sym, ap, ◌∙◌, ℕ, ◌+◌, ◌*◌, ◌<◌, List, [], ◌∷◌, ◌++◌, length, ℤ, mul-le-mul_left, mod-eq_of_lt, arith}
 use Rattle.std.proofs.lemmas.Int.{ints}
 use Rattle.std.specs.Prelude.{if◌then◌else◌}
 use Rattle.specification.specs.Axis.{Axis, positions, product, extents}
@@ -7,7 +7,7 @@ use Rattle.positions.specs.Positions.{PositionAt, place_at, words_at, word_of}
 use Rattle.positions.specs.Runs.{run_at, IsRunIn}
 use Rattle.positions.proofs.RunLaws.{place-front}
 use Rattle.copying.specs.Copy.{copies}
-use Rattle.copying.specs.Sheets.{IsPlacedIn, axes_of, places_of}
+use Rattle.copying.specs.Sheets.{IsPlacedIn, axes_of, places_of, positions_of, AreAlike}
 use Rattle.copying.specs.declared.sheets.Sheets.{Sheets}
 use Rattle.copying.proofs.CopyingLaws.{copies-same, copies-split}
 
@@ -92,55 +92,52 @@ module _ (source destination : Sheets) (from before : List ℤ) where
   copied_of n = copies (places_of source) (places_of destination) from n before
 
   -- the sheets that the walks have passed are copied; both stand at the same one
-  pub record Swept (at into : Sheets) (more : Bool) (after : List ℤ) : Type 0 where
-    pub sheet : at.sheet ≡ source.sheet
-    pub axes : at.others.axes ≡ source.others.axes
-    pub start : at.others.start ≡ source.others.start
-    pub into_sheet : into.sheet ≡ destination.sheet
-    pub into_axes : into.others.axes ≡ destination.others.axes
-    pub into_start : into.others.start ≡ destination.others.start
-    pub within : at.others.number < positions source.others.axes
-    pub alike : more ≡ true → into.others.number ≡ at.others.number
-    pub copied : after ≡ copied_of (size * passed more at.others source.others.axes)
+  pub record Swept (at into : PositionAt) (more : Bool) (after : List ℤ) : Type 0 where
+    pub axes : at.axes ≡ source.others.now
+    pub start : at.start ≡ source.start
+    pub into_axes : into.axes ≡ destination.others.now
+    pub into_start : into.start ≡ destination.start
+    pub within : at.number < positions source.others.now
+    pub alike : more ≡ true → into.number ≡ at.number
+    pub copied : after ≡ copied_of (size * passed more at source.others.now)
 
-  pub swept-none : source.others.number ≡ 0 → destination.others.number ≡ 0 → 0 < positions source.others.axes → Swept source destination true before
+  pub swept-none : 0 < positions source.others.now
+      → Swept (record { axes = source.others.now; start = source.start; number = 0 }) (record { axes = destination.others.now; start = destination.start; number = 0 }) true before
   unfolding copies
-  swept-none z w h =
-      let n : size * source.others.number ≡ 0 = rw z (omega arith) in
-      record { sheet = refl; axes = refl; start = refl; into_sheet = refl; into_axes = refl; into_start = refl; within = rw z h; alike = λ e. rw (z, w) refl; copied = rw n refl }
+  swept-none h =
+      let n : size * 0 ≡ 0 = omega arith in
+      record { axes = refl; start = refl; into_axes = refl; into_start = refl; within = h; alike = λ e. refl; copied = rw n refl }
 
   -- a sheet is copied from the places of a position of the others
   abbrev pub sheet_copied : ℕ → List ℤ → List ℤ
-  sheet_copied r = copies (place_at (place_at source.others.start source.others.axes r) (axes_of source.sheet)) (place_at (place_at destination.others.start destination.others.axes r) (axes_of destination.sheet)) from size
+  sheet_copied r = copies (place_at (place_at source.start source.others.now r) (axes_of source.sheet)) (place_at (place_at destination.start destination.others.now r) (axes_of destination.sheet)) from size
 
   -- both walks have gone on to the next sheet
-  pub swept-on : {at into at' into' : Sheets} {more other : Bool} {after after' : List ℤ} → Swept at into true after
-      → extents (axes_of destination.sheet) ≡ extents (axes_of source.sheet) → positions destination.others.axes ≡ positions source.others.axes
-      → after' ≡ sheet_copied at.others.number after
-      → at'.sheet ≡ at.sheet → at'.others.axes ≡ at.others.axes → at'.others.start ≡ at.others.start → at'.others.number < positions at'.others.axes
-      → (more ≡ true → at'.others.number ≡ at.others.number + 1) → (more ≡ false → at.others.number + 1 ≡ positions at.others.axes)
-      → into'.sheet ≡ into.sheet → into'.others.axes ≡ into.others.axes → into'.others.start ≡ into.others.start
-      → (other ≡ true → into'.others.number ≡ into.others.number + 1) → (other ≡ false → into.others.number + 1 ≡ positions into.others.axes)
+  pub swept-on : {at into at' into' : PositionAt} {more other : Bool} {after after' : List ℤ} → Swept at into true after → AreAlike source destination
+      → after' ≡ sheet_copied at.number after
+      → at'.axes ≡ at.axes → at'.start ≡ at.start → at'.number < positions at'.axes → (more ≡ true → at'.number ≡ at.number + 1) → (more ≡ false → at.number + 1 ≡ positions at.axes)
+      → into'.axes ≡ into.axes → into'.start ≡ into.start → (other ≡ true → into'.number ≡ into.number + 1) → (other ≡ false → into.number + 1 ≡ positions into.axes)
       → Swept at' into' more after'
-  swept-on {at} {into} {at'} {into'} {more} {other} w e n c x a s l on last ix ia is ion ilast = record {
-    sheet = x ∙ w.sheet;
+  swept-on {at} {into} {at'} {into'} {more} {other} w e c a s l on last ia is ion ilast = record {
     axes = a ∙ w.axes;
     start = s ∙ w.start;
-    into_sheet = ix ∙ w.into_sheet;
     into_axes = ia ∙ w.into_axes;
     into_start = is ∙ w.into_start;
     within = omega (arith, l, ap positions (a ∙ w.axes));
     alike = λ m. together m other refl;
-    copied = c ∙ ap (sheet_copied at.others.number) w.copied
-        ∙ copies-front source.others.start destination.others.start (axes_of source.sheet) (axes_of destination.sheet) source.others.axes destination.others.axes from at.others.number before (ap product e)
+    copied = c ∙ ap (sheet_copied at.number) w.copied
+        ∙ copies-front source.start destination.start (axes_of source.sheet) (axes_of destination.sheet) source.others.now destination.others.now from at.number before (ap product e.alike)
         ∙ ap (λ (k : ℕ). copied_of (size * k)) (sym (gone more refl));
   }
     where
-      together : more ≡ true → (b : Bool) → other ≡ b → into'.others.number ≡ at'.others.number
+      n : positions destination.others.now ≡ positions source.others.now
+      n = ap product e.others_alike
+
+      together : more ≡ true → (b : Bool) → other ≡ b → into'.number ≡ at'.number
       together m true q = omega (arith, ion q, on m, w.alike refl)
       together m false q = absurd (omega (arith, ilast q, on m, w.alike refl, l, n, ap positions (a ∙ w.axes), ap positions w.into_axes))
 
-      gone : (b : Bool) → more ≡ b → passed more at'.others source.others.axes ≡ at.others.number + 1
+      gone : (b : Bool) → more ≡ b → passed more at' source.others.now ≡ at.number + 1
       gone true m = rw m (on m)
       gone false m = rw m (omega (arith, last m, ap positions w.axes))
 
@@ -152,3 +149,22 @@ no-row place into run rows run' rows' from to = let n : run.extent * 0 ≡ 0 = o
 pub all-rows : (run rows : Axis) → run.extent * rows.extent ≡ positions (run ∷ rows ∷ [])
 unfolding product
 all-rows run rows = omega arith
+
+-- ---- one sheet
+
+pub none-other : (axes : List Axis) → length axes ≡ 0 → axes ≡ []
+none-other [] h = refl
+none-other (a ∷ rest) h = absurd (omega (arith, h))
+
+pub none-too : (axes : List Axis) → extents axes ≡ [] → axes ≡ []
+none-too [] e = refl
+none-too (a ∷ rest) e = absurd (omega (arith, ap length e))
+
+-- of no other axes it is the whole copy
+pub one-sheet : (source destination : Sheets) (from to : List ℤ) → source.others.now ≡ [] → destination.others.now ≡ []
+    → copies (place_at source.start (axes_of source.sheet)) (place_at destination.start (axes_of destination.sheet)) from (positions (axes_of source.sheet)) to
+    ≡ copies (places_of source) (places_of destination) from (positions_of source) to
+unfolding product
+one-sheet source destination from to e f =
+    let n : positions (axes_of source.sheet) * 1 ≡ positions (axes_of source.sheet) = omega arith in
+    rw (e, f, n) refl

@@ -82,9 +82,7 @@ fn copy_positions(source: &Layout, from: &[i32], destination: &Layout, to: &mut 
     ensures { to.new ≡ copies (cell_at (model_of source.now)) (cell_at (model_of destination.now)) from.now
         (positions (model_of destination.now).axes) to.old }
 {
-    let mut sheets = Sheets::of(source);
-    let mut into_sheets = Sheets::of(destination);
-    copy_sheets(from, &mut sheets, to, &mut into_sheets);
+    copy_sheets(from, Sheets::of(source), to, Sheets::of(destination));
 }
 
 /// Copies the reading of each position of one layout to the same position of another. Afterwards the

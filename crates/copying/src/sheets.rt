@@ -1,11 +1,11 @@
 //! Readings copied sheet by sheet: the first two axes of both layouts, from each position of the others.
-ghost use Rattle.std.specs.Prelude.{◌≡◌, ◌<◌, ◌*◌, ◌∷◌, ◌++◌, length, All};
+ghost use Rattle.std.specs.Prelude.{◌≡◌, ◌<◌, ◌++◌, length, All};
 ghost use Rattle.specification.specs.Axis.{extents, positions};
 ghost use Rattle.specification.specs.Layout.{IsAccepted};
 ghost use Rattle.view.specs.Model.{model_of};
 ghost use Rattle.positions.specs.Positions.{StrideFits, place_at};
 ghost use Rattle.copying.specs.Copy.{copies};
-ghost use Rattle.copying.specs.Sheets.{IsPlacedIn, axes_of, places_of, sheet_axes, AreSheetsOf};
+ghost use Rattle.copying.specs.Sheets.{IsPlacedIn, axes_of, all_axes, places_of, positions_of, sheet_axes, AreSheetsOf, AreAlike};
 
 use crate::runs::{Run, copy_run};
 use axis::Axis;
@@ -80,11 +80,12 @@ fn sheet_and_others(axes: &[Axis]) -> (Sheet, &[Axis])
     }
 }
 
-/// The sheets of a layout, one after another.
-#[derive(Drop)]
+/// The sheets of a layout: the first two axes, from each position of the others.
+#[derive(Clone, Copy)]
 pub(crate) struct Sheets<'a> {
     sheet: Sheet,
-    others: Positions<'a>,
+    others: &'a [Axis],
+    start: u64,
 }
 
 impl<'a> Sheets<'a> {
@@ -95,38 +96,60 @@ impl<'a> Sheets<'a> {
         ensures { AreSheetsOf (model_of layout.now) result }
     {
         let (sheet, others) = sheet_and_others(layout.axes());
-        let start = layout.offset.0.cast_unsigned();
         Sheets {
             sheet,
-            others: Positions::new(others, start),
+            others,
+            start: layout.offset.0.cast_unsigned(),
         }
     }
 }
 
-/// Copies every position of two layouts with the same extents, of which none is 0, sheet by sheet.
-pub(crate) fn copy_sheets<'a>(
-    from: &[i32],
-    source: &mut Sheets<'a>,
-    to: &mut [i32],
-    destination: &mut Sheets<'a>,
-)
-    requires some { 0 < positions source.old.others.axes }
-    requires long { 0 < source.old.sheet.run.extent }
-    requires alike { extents (axes_of destination.old.sheet) ≡ extents (axes_of source.old.sheet) }
-    requires as_many { positions destination.old.others.axes ≡ positions source.old.others.axes }
-    requires first { source.old.others.number ≡ 0 }
-    requires into_first { destination.old.others.number ≡ 0 }
-    requires in_source { IsPlacedIn source.old.others.start (axes_of source.old.sheet ++ source.old.others.axes) (length from.now) }
-    requires in_destination { IsPlacedIn destination.old.others.start (axes_of destination.old.sheet ++ destination.old.others.axes) (length to.old) }
-    ensures { to.new ≡ copies (places_of source.old) (places_of destination.old) from.now
-        (positions (axes_of source.old.sheet) * positions source.old.others.axes) to.old }
+/// Copies the sheets of two layouts with the same extents, of which none is 0, one after another.
+fn copy_walked<'a>(from: &[i32], source: Sheets<'a>, to: &mut [i32], destination: Sheets<'a>)
+    requires suited { AreAlike source destination }
+    requires in_source { IsPlacedIn source.start (all_axes source) (length from.now) }
+    requires in_destination { IsPlacedIn destination.start (all_axes destination) (length to.old) }
+    ensures { to.new ≡ copies (places_of source.entry) (places_of destination.entry) from.now (positions_of source.entry) to.old }
 {
-    let (sheet, into_sheet) = (source.sheet, destination.sheet);
+    let mut at = Positions::new(source.others, source.start);
+    let mut into = Positions::new(destination.others, destination.start);
     let mut more = true;
     while more {
-        let (place, into) = (source.others.place(), destination.others.place());
-        copy_rows(from, sheet, place, to, into_sheet, into);
-        more = source.others.next();
-        destination.others.next();
+        copy_rows(
+            from,
+            source.sheet,
+            at.place(),
+            to,
+            destination.sheet,
+            into.place(),
+        );
+        more = at.next();
+        into.next();
+    }
+}
+
+/// Copies every position of two layouts with the same extents, of which none is 0. One sheet needs no walk.
+pub(crate) fn copy_sheets<'a>(
+    from: &[i32],
+    source: Sheets<'a>,
+    to: &mut [i32],
+    destination: Sheets<'a>,
+)
+    requires suited { AreAlike source destination }
+    requires in_source { IsPlacedIn source.start (all_axes source) (length from.now) }
+    requires in_destination { IsPlacedIn destination.start (all_axes destination) (length to.old) }
+    ensures { to.new ≡ copies (places_of source.entry) (places_of destination.entry) from.now (positions_of source.entry) to.old }
+{
+    if source.others.is_empty() {
+        copy_rows(
+            from,
+            source.sheet,
+            source.start,
+            to,
+            destination.sheet,
+            destination.start,
+        );
+    } else {
+        copy_walked(from, source, to, destination);
     }
 }
