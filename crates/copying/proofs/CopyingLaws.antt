@@ -1,12 +1,8 @@
 -- Copies of some positions, then of others; one more; and of places that are the same.
-use Rattle.std.proofs.Common.{Bool, true, false, ◌≡◌, refl, sym, ap, ◌∙◌, ℕ, zero, suc, ◌+◌, ◌*◌, ◌-◌, ◌^◌, ◌<◌, ◌≤◌, List, ◌∷◌, ℤ, pos, length, get_or, slice_set, slice_index_or, add-one, mul-le-mul_left, arith}
+use Rattle.std.proofs.Common.{◌≡◌, refl, ap, ◌∙◌, ℕ, zero, suc, ◌+◌, ◌-◌, ◌^◌, ◌<◌, ◌≤◌, List, ℤ, pos, length, get_or, slice_set, slice_index_or, add-one, arith}
 use Rattle.std.proofs.Math.Seq.{paste}
 use Rattle.std.proofs.lemmas.List.Edits.{paste_none, paste_more}
 use native.Mathlib.Decide.{dec_lt}
-use Rattle.specification.specs.Axis.{Axis, positions, product}
-use Rattle.positions.specs.Positions.{PositionAt, place_at, word_of}
-use Rattle.std.specs.Prelude.{if◌then◌else◌}
-use Rattle.positions.proofs.RunLaws.{place-run}
 use Rattle.positions.specs.Runs.{run_at, IsRunIn}
 use Rattle.copying.specs.Copy.{copies}
 

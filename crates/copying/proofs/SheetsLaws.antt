@@ -1,13 +1,13 @@
 -- The sheets of an accepted layout: each position has the place that it has in the layout.
-use Rattle.std.proofs.Common.{◌≡◌, refl, sym, ap, ◌∙◌, ℕ, ◌+◌, ◌*◌, ◌/◌, ◌%◌, ◌^◌, ◌<◌, ◌≤◌, List, [], ◌∷◌, ◌++◌, length, All, arith}
+use Rattle.std.proofs.Common.{◌≡◌, refl, ap, ◌∙◌, ℕ, ◌+◌, ◌*◌, ◌/◌, ◌%◌, ◌<◌, ◌≤◌, List, [], ◌∷◌, ◌++◌, length, All, arith}
 use Rattle.std.proofs.lemmas.Int.{ints}
-use Rattle.specification.specs.Axis.{Axis, positions, product, extents}
+use Rattle.specification.specs.Axis.{Axis, positions, product}
 use Rattle.specification.specs.Layout.{LayoutModel, IsAccepted}
 use Rattle.positions.specs.Positions.{place_at, words_at, word_of, StrideFits, IsWalkable}
 use Rattle.positions.proofs.PlaceLaws.{place_of_layout, start_is}
 use Rattle.copying.specs.declared.sheets.Sheet.{Sheet}
 use Rattle.copying.specs.declared.sheets.Sheets.{Sheets}
-use Rattle.copying.specs.Sheets.{one, axes_of, all_axes, sheet_axes, AreSheetsOf}
+use Rattle.copying.specs.Sheets.{axes_of, all_axes, sheet_axes, AreSheetsOf}
 
 -- as sheets, axes have as many positions, and each has the same place
 pub sheet-positions : (axes : List Axis) → positions (sheet_axes axes) ≡ positions axes

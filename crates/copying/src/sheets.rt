@@ -104,7 +104,9 @@ impl<'a> Sheets<'a> {
     }
 }
 
-/// Copies the sheets of two layouts with the same extents, of which none is 0, one after another.
+/// Copies the sheets of two layouts with the same extents, of which none is 0, one after another. It is a call of its own, so that
+/// a copy of one sheet has no room for two walks to set up.
+#[inline(never)]
 fn copy_walked<'a>(from: &[i32], source: Sheets<'a>, to: &mut [i32], destination: Sheets<'a>)
     requires suited { AreAlike source destination }
     requires in_source { IsPlacedIn source.start (all_axes source) (length from.now) }

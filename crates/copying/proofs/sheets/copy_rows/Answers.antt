@@ -1,5 +1,5 @@
 -- Row by row.
-use Rattle.std.proofs.Common.{◌≡◌, refl, sym, ap, ◌∙◌, length, rules, arith, ℕ, ◌+◌, ◌%◌, ◌^◌}
+use Rattle.std.proofs.Common.{◌≡◌, ap, ◌∙◌, length, rules, arith, ℕ}
 use Rattle.positions.proofs.RunLaws.{run_at-zero, run_at-add_one}
 use Rattle.positions.specs.Positions.{word_of, place_at}
 use Rattle.copying.specs.Copy.{copies}

@@ -1,5 +1,5 @@
 -- One sheet has no other axes, on both sides.
-use Rattle.std.proofs.Common.{◌≡◌, ◌∙◌, [], ap, length, rules}
+use Rattle.std.proofs.Common.{◌≡◌, ◌∙◌, ap, length, rules}
 use Rattle.specification.specs.Axis.{extents}
 use Rattle.copying.proofs.SweepLaws.{none-other, none-too, one-sheet}
 use Rattle.copying.proofs.sheets.copy_sheets.Goals as goal

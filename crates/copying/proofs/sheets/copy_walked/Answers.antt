@@ -1,7 +1,6 @@
 -- Sheet by sheet: the places of a sheet are those of its positions.
-use Rattle.std.proofs.Common.{◌≡◌, ◌<◌, ◌∙◌, refl, ap, length, rules, arith, Bool, true, false, ◌-◌}
-use Rattle.std.specs.Prelude.{if◌then◌else◌}
-use Rattle.specification.specs.Axis.{product, positions}
+use Rattle.std.proofs.Common.{◌∙◌, refl, ap, length, arith}
+use Rattle.specification.specs.Axis.{product}
 use Rattle.copying.specs.Sheets.{axes_of}
 use Rattle.copying.proofs.SweepLaws.{swept-none, front-placed, swept-on}
 use Rattle.copying.proofs.sheets.copy_walked.Goals as goal

@@ -1,5 +1,5 @@
 -- The axes of the layout, as sheets.
-use Rattle.std.proofs.Common.{◌≡◌, ◌≤◌, ap, subst, ◌∙◌, All, arith, rules}
+use Rattle.std.proofs.Common.{◌≤◌, ap, subst, ◌∙◌, All, arith, rules}
 use Rattle.specification.specs.Layout.{IsAccepted}
 use Rattle.view.specs.declared.layout.Layout.{Layout}
 use Rattle.view.specs.Model.{model_of}
