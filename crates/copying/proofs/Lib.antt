@@ -4,7 +4,8 @@ mod CopyHanded
 mod CopyAnswers
 mod ComputedCopies
 mod CopyingLaws
-mod RunsLaws
+mod SweepLaws
+mod SheetsLaws
 mod SameExtents
 mod SuitedLaws
 mod PositionLaws

@@ -6,6 +6,7 @@
 #![tactic(auto)]
 
 mod runs;
+mod sheets;
 
 ghost use Rattle.std.specs.Prelude.{◌≡◌, ◌≤◌, ◌<◌, length, nat_eq, IfOk};
 ghost use Rattle.std.specs.Cmp.Lexicographic.{pointwise};
@@ -22,7 +23,7 @@ ghost use Rattle.copying.specs.CopyClaims.{CopyClaims, IsSuited};
 ghost use Rattle.copying.specs.CopyCases.{CopyCases};
 
 use injectivity::{Judgement, judge_layout};
-use runs::{Runs, copy_runs};
+use sheets::{Sheets, copy_sheets};
 use view::bounds::Reach;
 use view::layout::{Layout, Refusal};
 use view::readings::reach_both;
@@ -81,9 +82,7 @@ fn copy_positions(source: &Layout, from: &[i32], destination: &Layout, to: &mut 
     ensures { to.new ≡ copies (cell_at (model_of source.now)) (cell_at (model_of destination.now)) from.now
         (positions (model_of destination.now).axes) to.old }
 {
-    let mut runs = Runs::of(source);
-    let mut into_runs = Runs::of(destination);
-    copy_runs(from, &mut runs, to, &mut into_runs);
+    copy_sheets(from, Sheets::of(source), to, Sheets::of(destination));
 }
 
 /// Copies the reading of each position of one layout to the same position of another. Afterwards the
