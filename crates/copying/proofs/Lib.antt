@@ -1,9 +1,9 @@
 -- The laws of copying, lowest first.
-pub mod CopyLaws
+pub mod CopiesLaws
 mod CopyHanded
 mod CopyAnswers
 mod ComputedCopies
-mod CopyingLaws
+mod SweepLaws
 mod RunsLaws
 mod SameExtents
 mod SuitedLaws

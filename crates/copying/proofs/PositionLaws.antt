@@ -9,7 +9,7 @@ use Rattle.specification.proofs.ReadingLaws.{cell_at-below}
 use Rattle.copying.specs.declared.runs.Runs.{Runs}
 use Rattle.copying.specs.Copy.{copies}
 use Rattle.copying.specs.Runs.{IsPlacedIn, places_of, run_axes, AreRunsOf}
-use Rattle.copying.proofs.CopyingLaws.{copies-same}
+use Rattle.copying.proofs.CopiesLaws.{copies-same}
 
 -- no position: nothing is copied
 pub none-copied : (source destination : ℕ → ℕ) (from to : List ℤ) (axes : List Axis) → is_empty axes ≡ true → to ≡ copies source destination from (positions axes) to

@@ -1,8 +1,11 @@
 //! Copying readings from one buffer to another, each through a layout.
 //!
 //! The readings are copied run by run along the first axis. A step along a run is two additions, or
-//! the whole run is one copy of memory if it is dense on both sides; nothing is divided. Nothing is
-//! allocated.
+//! the whole run is one copy of memory if it is dense on both sides. Nothing is divided, and nothing
+//! is allocated.
+//!
+//! `copy` says that it is right: its answer, the destination and the scratch are what the
+//! definitions of `Copy` say. What those mean is `CopyClaims`, which `copies_hold` promises.
 #![tactic(auto)]
 
 mod runs;
@@ -34,8 +37,9 @@ fn have_same_extents(source: &Layout, destination: &Layout) -> bool
     source.extents().eq(destination.extents())
 }
 
+/// What is refused before the verdict: 1 and 3 of either layout, 12 for extents that differ, and 13
+/// for a buffer that is too short.
 #[tactic(auto, using(crate::proofs::SuitedLaws::not_handed, crate::proofs::SuitedLaws::extents_differ, crate::proofs::SuitedLaws::source_short, crate::proofs::SuitedLaws::destination_short, crate::proofs::SuitedLaws::suited))]
-/// What is refused before the verdict: 1 and 3 of either layout, 12 for extents that differ, 13 for a buffer that is too short.
 fn refuse_unsuited(
     source: &Layout,
     readings: usize,
@@ -69,7 +73,7 @@ fn refuse_shared(destination: &Layout, scratch: &mut [u64]) -> Result<(), Refusa
     }
 }
 
-/// Copies the reading of each position.
+/// Copies the reading of each position. An empty layout has none.
 fn copy_positions(source: &Layout, from: &[i32], destination: &Layout, to: &mut [i32])
     requires { IsSuited (model_of source.now) (model_of destination.now) (length from.now) (length to.old) }
     ensures { to.new ≡ copies (cell_at (model_of source.now)) (cell_at (model_of destination.now)) from.now

@@ -1,4 +1,5 @@
-//! Readings copied run by run: along the first axis of both layouts, from each position of the others.
+//! Readings copied run by run: a run goes along the first axis of both layouts, and there is one for
+//! each position of the other axes.
 ghost use Rattle.std.specs.Prelude.{◌≡◌, ◌<◌, ◌+◌, ◌*◌, ◌∷◌, ◌≤◌, length, All};
 ghost use Rattle.specification.specs.Axis.{positions};
 ghost use Rattle.specification.specs.Layout.{IsAccepted};
@@ -19,22 +20,21 @@ struct Run {
     step: u64,
 }
 
-/// Copies readings along a run on each side. The sums wrap, as a negative step does.
+/// Copies the readings of a run one by one. The sums wrap: a step below 0 is a large word.
 fn copy_strided(from: &[i32], source: Run, to: &mut [i32], destination: Run, count: u64)
     requires in_source { IsRunIn source.place source.step count (length from.now) }
     requires in_destination { IsRunIn destination.place destination.step count (length to.old) }
     ensures { to.new ≡ copies (run_at source.place source.step) (run_at destination.place destination.step) from.now count to.old }
 {
-    let mut s = source.place;
-    let mut d = destination.place;
+    let (mut place, mut into) = (source.place, destination.place);
     for _i in 0..count {
-        to[d as usize] = from[s as usize];
-        s = s.wrapping_add(source.step);
-        d = d.wrapping_add(destination.step);
+        to[into as usize] = from[place as usize];
+        place = place.wrapping_add(source.step);
+        into = into.wrapping_add(destination.step);
     }
 }
 
-/// Copies readings that stand side by side on both sides.
+/// Copies readings that stand side by side in both buffers.
 fn copy_dense(from: &[i32], source: usize, to: &mut [i32], destination: usize, count: usize)
     requires in_source { source + count ≤ length from.now }
     requires in_destination { destination + count ≤ length to.old }
@@ -43,7 +43,7 @@ fn copy_dense(from: &[i32], source: usize, to: &mut [i32], destination: usize, c
     to[destination..destination + count].copy_from_slice(&from[source..source + count]);
 }
 
-/// Copies a run: as one part of the buffers if both steps are 1.
+/// Copies a run: as a whole if its readings stand side by side in both buffers, else one by one.
 fn copy_run(from: &[i32], source: Run, to: &mut [i32], destination: Run, count: u64)
     requires some { 0 < count }
     requires in_source { IsRunIn source.place source.step count (length from.now) }
@@ -58,7 +58,8 @@ fn copy_run(from: &[i32], source: Run, to: &mut [i32], destination: Run, count: 
     }
 }
 
-/// The runs of axes along the first of them, one after another.
+/// The runs of some axes, one after another: the axis that they go along, and a walk over the
+/// positions of the others.
 #[derive(Drop)]
 pub(crate) struct Runs {
     axis: Axis,
@@ -66,12 +67,13 @@ pub(crate) struct Runs {
 }
 
 impl Runs {
+    // One index: the run of a layout that has no axes.
     const ONE: Axis = Axis {
         extent: 1,
         stride: 0,
     };
 
-    /// Those of a layout that has a position. Of no axes it is one run of one reading.
+    /// The runs of a layout that has a position. Without axes it has one run, of one reading.
     #[tactic(auto, using(crate::proofs::RunsLaws::none_walkable))]
     pub(crate) fn of(layout: &Layout) -> Runs
         requires accepted { IsAccepted (model_of layout.now) }
@@ -85,7 +87,7 @@ impl Runs {
         }
     }
 
-    // The first of them, at the place of the first position.
+    // The runs along an axis, from the first on, which begins at `start`.
     fn new(axis: Axis, others: &[Axis], start: u64) -> Runs
         requires { IsWalkable others.now }
         ensures axis { result.axis ≡ axis }
@@ -111,7 +113,7 @@ impl Runs {
     }
 }
 
-/// Copies every position of two lists of axes with the same extents, of which none is 0, run by run.
+/// Copies each run of a layout to the same run of another. Both have the same extents, and none is 0.
 pub(crate) fn copy_runs(from: &[i32], mut source: Runs, to: &mut [i32], mut destination: Runs)
     requires some { 0 < positions source.others.axes }
     requires long { 0 < source.axis.extent }

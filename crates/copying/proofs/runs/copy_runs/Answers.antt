@@ -1,6 +1,6 @@
 -- Run by run: the places of a run are those of its positions.
 use Rattle.std.proofs.Common.{◌∙◌, refl, length, arith}
-use Rattle.copying.proofs.CopyingLaws.{swept-none, run-placed, swept-on}
+use Rattle.copying.proofs.SweepLaws.{run-placed, swept-none, swept-on}
 use Rattle.copying.proofs.runs.copy_runs.Goals as goal
 
 pub loop-more-init : goal.loop-more-init

@@ -2,7 +2,7 @@
 use Rattle.std.proofs.Common.{◌-◌}
 use Rattle.std.specs.Prelude.{if◌then◌else◌}
 use Rattle.specification.specs.Axis.{positions}
-use Rattle.copying.proofs.CopyingLaws.{Swept}
+use Rattle.copying.proofs.SweepLaws.{Swept}
 use Rattle.copying.proofs.runs.copy_runs.Given as goal
 
 abbrev pub invariant-loop-more : goal.invariant-loop-more

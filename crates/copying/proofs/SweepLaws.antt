@@ -1,73 +1,29 @@
--- Copies of some positions, then of others; one more; and of places that are the same.
-use Rattle.std.proofs.Common.{Bool, true, false, ◌≡◌, refl, sym, ap, ◌∙◌, ℕ, zero, suc, ◌+◌, ◌*◌, ◌-◌, ◌^◌, ◌<◌, ◌≤◌, List, ◌∷◌, ℤ, pos, length, get_or, slice_set, slice_index_or, add-one, mul-le-mul_left, arith}
-use Rattle.std.proofs.Math.Seq.{paste}
-use Rattle.std.proofs.lemmas.List.Edits.{paste_none, paste_more}
-use native.Mathlib.Decide.{dec_lt}
+-- The sweep of the code over two layouts: two walks side by side, and at each step of theirs the copy of a run.
+use Rattle.std.proofs.Common.{Bool, true, false, ◌≡◌, refl, sym, ap, ◌∙◌, ℕ, ◌+◌, ◌*◌, ◌<◌, List, ◌∷◌, ℤ, mul-le-mul_left, arith}
+use Rattle.std.specs.Prelude.{if◌then◌else◌}
 use Rattle.specification.specs.Axis.{Axis, positions, product}
 use Rattle.positions.specs.Positions.{PositionAt, place_at, word_of}
-use Rattle.std.specs.Prelude.{if◌then◌else◌}
+use Rattle.positions.specs.Runs.{run_at, IsRunIn}
 use Rattle.positions.proofs.RunLaws.{place-run}
+use Rattle.copying.specs.Copy.{copies}
 use Rattle.copying.specs.Runs.{IsPlacedIn, places_of}
 use Rattle.copying.specs.declared.runs.Runs.{Runs}
-use Rattle.positions.specs.Runs.{run_at, IsRunIn}
-use Rattle.copying.specs.Copy.{copies}
+use Rattle.copying.proofs.CopiesLaws.{copies-same, copies-split}
 
-pub copies-add_one : (source destination : ℕ → ℕ) (from : List ℤ) (k : ℕ) (to : List ℤ)
-    → copies source destination from (k + 1) to ≡ slice_set (copies source destination from k to) (destination k) (slice_index_or from (source k) (pos 0))
-unfolding copies
-copies-add_one source destination from k to = rw (add-one k) refl
+-- the places of run r
+abbrev pub run_of : Runs → ℕ → ℕ → ℕ
+run_of runs r = run_at (place_at runs.others.start runs.others.axes r) (word_of runs.axis.stride)
 
-pub copies-split : (source destination : ℕ → ℕ) (from : List ℤ) (m n : ℕ) (to : List ℤ)
-    → copies source destination from (n + m) to ≡ copies (λ i. source (i + m)) (λ i. destination (i + m)) from n (copies source destination from m to)
-unfolding copies
-copies-split source destination from m zero to = let e : 0 + m ≡ m = omega arith in rw e refl
-copies-split source destination from m (suc n) to =
-    let e : suc n + m ≡ suc (n + m) = omega arith in
-    rw e (ap (λ (l : List ℤ). slice_set l (destination (n + m)) (slice_index_or from (source (n + m)) (pos 0))) (copies-split source destination from m n to))
-
-pub copies-same : (s t d e : ℕ → ℕ) (from : List ℤ) (n : ℕ) (to : List ℤ) → ((i : ℕ) → i < n → s i ≡ t i) → ((i : ℕ) → i < n → d i ≡ e i) → copies s d from n to ≡ copies t e from n to
-unfolding copies
-copies-same s t d e from zero to f g = refl
-copies-same s t d e from (suc n) to f g =
-    rw (f n (omega arith), g n (omega arith), copies-same s t d e from n to (λ i h. f i (omega arith)) (λ i h. g i (omega arith))) refl
-
--- a dense run stands in the list as a part of it: one that did not would have its end for a place
-pub dense-within : (start n size : ℕ) → 0 < n → start < 2 ^ 64 → size < 2 ^ 64 → IsRunIn start 1 n size → start + n ≤ size
-dense-within start n size h f g r = go (dec_lt size (start + n)) (r 0 h)
-  where
-    go : Dec (size < start + n) → run_at start 1 0 < size → start + n ≤ size
-    go (no k) l = omega arith
-    go (yes k) l = absurd (omega (arith, r (size - start) (omega arith)))
-
--- readings side by side: the copies are those that stand in a part
-pub copies-dense : (source destination : ℕ) (from part : List ℤ) (n : ℕ) (to : List ℤ) → n ≤ length part → destination + n ≤ length to
-    → ((i : ℕ) → i < n → get_or part i (pos 0) ≡ get_or from (source + i) (pos 0)) → copies (λ i. source + i) (λ i. destination + i) from n to ≡ paste to destination part n
-unfolding copies
-copies-dense source destination from part zero to h k f = paste_none to destination part
-copies-dense source destination from part (suc n) to h k f =
-    rw (copies-dense source destination from part n to (omega arith) (omega arith) (λ i l. f i (omega arith)), ← f n (omega arith))
-    (paste_more to destination part n (pos 0) (omega arith) (omega arith) ∙ ap (λ (k : ℕ). paste to destination part k) (add-one n))
-
--- a dense run as places side by side
-pub run-dense : (start n size i : ℕ) → start + n ≤ size → size < 2 ^ 64 → i < n → start + i ≡ run_at start 1 i
-run-dense start n size i h f l = omega arith
-
--- how many runs are copied: as many as the walk has passed, or all if there is no more
-abbrev pub passed_runs : Bool → PositionAt → List Axis → ℕ
-passed_runs more at rest = if more then at.number else positions rest
-
--- the run where a walk stands is in a list that has all places
+-- a run of a walk is in a list that has the place of every position
 pub run-placed : (start : ℕ) (a : Axis) (rest : List Axis) (size r place step : ℕ) → IsPlacedIn start (a ∷ rest) size → r < positions rest → place ≡ place_at start rest r → step ≡ word_of a.stride
     → IsRunIn place step a.extent size
 unfolding product
 run-placed start a rest size r place step f h p s i k =
     rw (p, s, ← place-run start a rest r i k) (f (i + a.extent * r) (omega (arith, k, mul-le-mul_left a.extent h)))
 
--- ---- two walks side by side; each stands at a run, from its first one on
-
--- a run, by its place and its step
-abbrev pub run_of : Runs → ℕ → ℕ → ℕ
-run_of runs r = run_at (place_at runs.others.start runs.others.axes r) (word_of runs.axis.stride)
+-- how many runs are copied: as many as the walk has passed, or all if there is no more
+abbrev pub passed_runs : Bool → PositionAt → List Axis → ℕ
+passed_runs more at rest = if more then at.number else positions rest
 
 module _ (source destination : Runs) (from before : List ℤ) where
   -- the first n positions are copied
