@@ -12,7 +12,7 @@ def replayed(crate):
     refusals many, and `draw`, if it answers `cells N`, N more."""
     lines, answers = f"crates/{crate}/{PROGRAMS[crate]}", FILES[f"crates/{crate}/stdout"].split("\n")[:-1]
     variants = lambda enum: sum(1 for name in CODE if re.match(rf"commands::{enum}::[A-Z][a-z]", name))
-    commands = variants("command::(?:Change|Query)")
+    commands = int(re.search(r"COMMANDS: \[Command; (\d+)\]", FILES["crates/commands/src/command.rt"])[1])
     many = {"help": commands + 2, "help words": variants("usage_word::UsageWord"), "help refused": variants("kind::Kind")}
     told = []
     for _, line in lines_of(lines):

@@ -7,7 +7,8 @@ use Rattle.words.specs.Spelled.{lent}
 use Rattle.words.specs.Texts.{misspelled_word}
 use Rattle.words.specs.Words.{Told, ◌>>=◌, Numbered, or_told, one_word, two_words, four_words, up_to_one_word, one_or_two_words, two_or_three_words}
 use Rattle.commands.specs.declared.command.Change.TheVariants.{Read}
-use Rattle.commands.specs.declared.command.Query.TheVariants.{Verdict, Injective, Record}
+use Rattle.commands.specs.declared.command.Query.{Query}
+use Rattle.commands.specs.declared.command.Query.TheVariants.{Verdict, Injective, Copy, Record}
 use Rattle.commands.specs.Obeyed.{words_given}
 use Rattle.commands.specs.Asking.{is_lent, is_lent_if, change_asks, query_asks}
 
@@ -64,13 +65,23 @@ verdict_asks usage [] w e = ap is_lent_if (same (up_to_one_word usage []) None w
 verdict_asks usage (a ∷ []) w e = ap is_lent_if (same (up_to_one_word usage (a ∷ [])) (Some (2, a)) w refl e)
 verdict_asks usage (a ∷ b ∷ more) w e = cc
 
+-- with two words or with three
+module _ (query : Query) (two_ask : (a b : List ℕ) → query_asks query (a ∷ b ∷ []) ≡ true) (three_ask : (a b c : List ℕ) → query_asks query (a ∷ b ∷ c ∷ []) ≡ true) where
+  two_or_three_ask : (usage : List ℕ) (words : List (List ℕ)) (w : Numbered × Numbered × Option Numbered) → two_or_three_words usage words ≡ Ok w → query_asks query words ≡ true
+  unfolding two_or_three_words
+  two_or_three_ask usage [] w e = cc
+  two_or_three_ask usage (a ∷ []) w e = cc
+  two_or_three_ask usage (a ∷ b ∷ []) w e = two_ask a b
+  two_or_three_ask usage (a ∷ b ∷ c ∷ []) w e = three_ask a b c
+  two_or_three_ask usage (a ∷ b ∷ c ∷ d ∷ more) w e = cc
+
 pub injective_asks : (usage : List ℕ) (words : List (List ℕ)) (w : Numbered × Numbered × Option Numbered) → two_or_three_words usage words ≡ Ok w → query_asks Injective words ≡ true
-unfolding two_or_three_words query_asks
-injective_asks usage [] w e = cc
-injective_asks usage (a ∷ []) w e = cc
-injective_asks usage (a ∷ b ∷ []) w e = refl
-injective_asks usage (a ∷ b ∷ c ∷ []) w e = refl
-injective_asks usage (a ∷ b ∷ c ∷ d ∷ more) w e = cc
+unfolding query_asks
+injective_asks = two_or_three_ask Injective (λ a b. refl) (λ a b c. refl)
+
+pub copy_asks : (usage : List ℕ) (words : List (List ℕ)) (w : Numbered × Numbered × Option Numbered) → two_or_three_words usage words ≡ Ok w → query_asks Copy words ≡ true
+unfolding query_asks
+copy_asks = two_or_three_ask Copy (λ a b. refl) (λ a b c. refl)
 
 pub record_asks : (usage : List ℕ) (words : List (List ℕ)) (w : Numbered × Option Numbered) → one_or_two_words usage words ≡ Ok w → query_asks Record words ≡ (is_lent w.0.1 && is_lent_if w.1)
 unfolding one_or_two_words query_asks

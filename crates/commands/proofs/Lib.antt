@@ -1,4 +1,5 @@
 pub mod ScratchLaws
+pub mod CopyLaws
 pub mod RecordText
 pub mod Named
 pub mod Topics

@@ -4,7 +4,7 @@ use Rattle.std.proofs.lemmas.Option.{none-some}
 use Rattle.commands.specs.declared.command.Command.{Command}
 use Rattle.commands.specs.declared.command.Command.TheVariants as command
 use Rattle.commands.specs.declared.command.Change.TheVariants.{New, Set, Permute, Diagonal, Broadcast, Read}
-use Rattle.commands.specs.declared.command.Query.TheVariants.{Bounds, Show, Draw, Offset, Normal, Verdict, Injective, Record, Rest, Order, Column, Row, Help}
+use Rattle.commands.specs.declared.command.Query.TheVariants.{Bounds, Show, Draw, Offset, Normal, Verdict, Injective, Copy, Record, Rest, Order, Column, Row, Help}
 use Rattle.commands.specs.Commands.{name_of, named, EachIsNamed}
 
 pub each : EachIsNamed
@@ -13,6 +13,7 @@ each (command.Change New) = refl
 each (command.Query Bounds) = refl
 each (command.Change Set) = refl
 each (command.Query Show) = refl
+each command.Hold = refl
 each (command.Query Draw) = refl
 each (command.Change Permute) = refl
 each (command.Change Diagonal) = refl
@@ -21,6 +22,7 @@ each (command.Query Offset) = refl
 each (command.Query Normal) = refl
 each (command.Query Verdict) = refl
 each (command.Query Injective) = refl
+each (command.Query Copy) = refl
 each (command.Query Record) = refl
 each (command.Change Read) = refl
 each (command.Query Rest) = refl

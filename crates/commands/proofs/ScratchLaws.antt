@@ -4,7 +4,7 @@ use Rattle.std.proofs.Common.{◌≡◌, not, ◌||◌, eqb, ltb, ℤ, ◌⊎◌
 use Rattle.std.proofs.lemmas.Bool.{lt-ltb, le-ltb, cases_lt}
 use Rattle.std.proofs.lemmas.List.{take_at}
 use Rattle.specification.specs.Axis.{Axis}
-use Rattle.specification.specs.Outcome.{Outcome, done, refused, refuse_if, ◌>>◌, ◌>>=◌}
+use Rattle.specification.specs.Outcome.{Outcome, Check, done, refused, refuse_if, ◌>>◌, ◌>>=◌}
 use Rattle.specification.specs.Search.{ActiveAxis, span_sum, total, words_for}
 use Rattle.specification.specs.Verdict.{Plan, answered, enumerated, plan_of, carry_out, judge, words_of}
 use Rattle.specification.proofs.OutcomeLaws.{clash, refused-inj, refuse-yes, refuse-no, bind-refused}
@@ -108,6 +108,12 @@ pub steady_checked : {A : Type 0} (t : Bool) (number : ℕ) (values : List ℕ) 
 unfolding refuse_if ◌>>◌
 steady_checked true number values f s = steady_same (refused number values)
 steady_checked false number values f s = s
+
+-- a steady call behind a chain of rules
+pub steady_behind : {A : Type 0} (rules : Check) (f : ℕ → Outcome A) → Steady f → Steady (λ words. rules >> f words)
+unfolding ◌>>◌
+steady_behind (done u) f s = s
+steady_behind (refused number values) f s = steady_same (refused number values)
 
 -- a steady call that goes on with an answer
 pub steady_bound : {A B : Type 0} (o : Outcome A) (f : A → ℕ → Outcome B) → ((a : A) → Steady (f a)) → Steady (λ words. o >>= λ a. f a words)

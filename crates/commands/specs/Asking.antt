@@ -5,7 +5,7 @@ use Rattle.commands.specs.declared.command.Command.TheVariants as command
 use Rattle.commands.specs.declared.command.Change.{Change}
 use Rattle.commands.specs.declared.command.Change.TheVariants.{New, Set, Permute, Diagonal, Broadcast, Read}
 use Rattle.commands.specs.declared.command.Query.{Query}
-use Rattle.commands.specs.declared.command.Query.TheVariants.{Bounds, Offset, Verdict, Injective, Record, Rest, Order, Column, Row}
+use Rattle.commands.specs.declared.command.Query.TheVariants.{Bounds, Offset, Verdict, Injective, Copy, Record, Rest, Order, Column, Row}
 use Rattle.commands.specs.Commands.{named}
 use Rattle.words.specs.Spelled.{unsigned, signed, lent}
 use Rattle.words.specs.Words.{Numbered}
@@ -41,6 +41,8 @@ query_asks Verdict [] = true
 query_asks Verdict (words ∷ []) = is_lent words
 query_asks Injective (extents ∷ strides ∷ []) = true
 query_asks Injective (extents ∷ strides ∷ words ∷ []) = true
+query_asks Copy (from ∷ to ∷ []) = true
+query_asks Copy (from ∷ to ∷ words ∷ []) = true
 query_asks Record (room ∷ []) = is_lent room
 query_asks Record (room ∷ words ∷ []) = is_lent room && is_lent words
 query_asks Rest (bytes ∷ []) = true
@@ -52,6 +54,7 @@ query_asks other words = false
 -- a command with the words behind its name
 abbrev pub asks_for_memory : Command → List (List ℕ) → Bool
 asks_for_memory (command.Change change) words = change_asks change words
+asks_for_memory command.Hold words = false
 asks_for_memory (command.Query query) words = query_asks query words
 
 -- a line by its name and the words behind it; a name of no command asks for none

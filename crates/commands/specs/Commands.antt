@@ -5,7 +5,7 @@ use Rattle.std.specs.Cmp.Lexicographic.{pointwise}
 use Rattle.commands.specs.declared.command.Command.{Command}
 use Rattle.commands.specs.declared.command.Command.TheVariants as command
 use Rattle.commands.specs.declared.command.Change.TheVariants.{New, Set, Permute, Diagonal, Broadcast, Read}
-use Rattle.commands.specs.declared.command.Query.TheVariants.{Bounds, Show, Draw, Offset, Normal, Verdict, Injective, Record, Rest, Order, Column, Row, Help}
+use Rattle.commands.specs.declared.command.Query.TheVariants.{Bounds, Show, Draw, Offset, Normal, Verdict, Injective, Copy, Record, Rest, Order, Column, Row, Help}
 
 -- the word that a line begins with
 unfoldable pub name_of : Command → List ℕ
@@ -13,6 +13,7 @@ name_of (command.Change New) = codes "new"
 name_of (command.Query Bounds) = codes "bounds"
 name_of (command.Change Set) = codes "set"
 name_of (command.Query Show) = codes "show"
+name_of command.Hold = codes "hold"
 name_of (command.Query Draw) = codes "draw"
 name_of (command.Change Permute) = codes "permute"
 name_of (command.Change Diagonal) = codes "diagonal"
@@ -21,6 +22,7 @@ name_of (command.Query Offset) = codes "offset"
 name_of (command.Query Normal) = codes "normal"
 name_of (command.Query Verdict) = codes "verdict"
 name_of (command.Query Injective) = codes "injective"
+name_of (command.Query Copy) = codes "copy"
 name_of (command.Query Record) = codes "record"
 name_of (command.Change Read) = codes "read"
 name_of (command.Query Rest) = codes "rest"
@@ -35,6 +37,7 @@ usage_of (command.Change New) = codes "new LEN OFFSET EXTENTS STRIDES"
 usage_of (command.Query Bounds) = codes "bounds LEN OFFSET EXTENTS STRIDES"
 usage_of (command.Change Set) = codes "set LEN OFFSET EXTENTS STRIDES"
 usage_of (command.Query Show) = codes "show"
+usage_of command.Hold = codes "hold"
 usage_of (command.Query Draw) = codes "draw"
 usage_of (command.Change Permute) = codes "permute LIST"
 usage_of (command.Change Diagonal) = codes "diagonal PAIRS"
@@ -43,6 +46,7 @@ usage_of (command.Query Offset) = codes "offset LIST"
 usage_of (command.Query Normal) = codes "normal"
 usage_of (command.Query Verdict) = codes "verdict [WORDS]"
 usage_of (command.Query Injective) = codes "injective EXTENTS STRIDES [WORDS]"
+usage_of (command.Query Copy) = codes "copy FROM TO [WORDS]"
 usage_of (command.Query Record) = codes "record ROOM [WORDS]"
 usage_of (command.Change Read) = codes "read BYTES [WORDS]"
 usage_of (command.Query Rest) = codes "rest BYTES"
@@ -57,6 +61,7 @@ meaning_of (command.Change New) = codes "check a layout in and make it current"
 meaning_of (command.Query Bounds) = codes "check the bounds of a layout; the current one stays"
 meaning_of (command.Change Set) = codes "make a layout current with no check; of more than 16 axes the first 16 are held"
 meaning_of (command.Query Show) = codes "the current layout, as LEN OFFSET EXTENTS STRIDES"
+meaning_of command.Hold = codes "keep the current layout as the held one, for copy"
 meaning_of (command.Query Draw) = codes "the cells that the current layout reaches, each with the positions that share it; at most 200 positions"
 meaning_of (command.Change Permute) = codes "put the axes into the order of the list"
 meaning_of (command.Change Diagonal) = codes "tie the axes of each pair a:b into one"
@@ -65,6 +70,7 @@ meaning_of (command.Query Offset) = codes "the offset of an index vector"
 meaning_of (command.Query Normal) = codes "the normal form; the current layout stays"
 meaning_of (command.Query Verdict) = codes "whether two positions of the current layout share a cell, with WORDS words of scratch"
 meaning_of (command.Query Injective) = codes "whether two positions of a layout of these extents and strides share a cell, with WORDS words of scratch"
+meaning_of (command.Query Copy) = codes "copy readings FROM through the current layout into readings TO through the held one; the answer is TO afterwards"
 meaning_of (command.Query Record) = codes "the record of the current layout, in at most ROOM bytes"
 meaning_of (command.Change Read) = codes "read a record and make its layout current"
 meaning_of (command.Query Rest) = codes "what stands behind the record at the front"
@@ -80,10 +86,10 @@ help_line command = usage_of command ++ codes ": " ++ meaning_of command
 -- every command, in the order of `help`
 abbrev pub commands : List Command
 commands =
-    command.Change New ∷ command.Query Bounds ∷ command.Change Set ∷ command.Query Show ∷ command.Query Draw ∷ command.Change Permute
-    ∷ command.Change Diagonal ∷ command.Change Broadcast ∷ command.Query Offset ∷ command.Query Normal ∷ command.Query Verdict
-    ∷ command.Query Injective ∷ command.Query Record ∷ command.Change Read ∷ command.Query Rest ∷ command.Query Order
-    ∷ command.Query Column ∷ command.Query Row ∷ command.Query Help ∷ []
+    command.Change New ∷ command.Query Bounds ∷ command.Change Set ∷ command.Query Show ∷ command.Hold ∷ command.Query Draw
+    ∷ command.Change Permute ∷ command.Change Diagonal ∷ command.Change Broadcast ∷ command.Query Offset ∷ command.Query Normal
+    ∷ command.Query Verdict ∷ command.Query Injective ∷ command.Query Copy ∷ command.Query Record ∷ command.Change Read
+    ∷ command.Query Rest ∷ command.Query Order ∷ command.Query Column ∷ command.Query Row ∷ command.Query Help ∷ []
 
 -- the command with a name
 abbrev pub named : List ℕ → Option Command

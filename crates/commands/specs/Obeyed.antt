@@ -1,8 +1,8 @@
--- What a command answers, and the layout after it: each by the definition of the call that it makes. Assumes nothing.
+-- What a command answers, and the layouts after it: each by the definition of the call that it makes. Assumes nothing.
 use Rattle.std.specs.Prelude.{ℕ, ℤ, List, ◌==◌, length, take, codes, Option, Some, None, Ok, Err, if◌then◌else◌}
 use Rattle.std.specs.Fmt.{decimal, signed_decimal}
 use Rattle.specification.specs.Axis.{axes_of_lists}
-use Rattle.specification.specs.Outcome.{Outcome, done, refused}
+use Rattle.specification.specs.Outcome.{Outcome, done, refused, pass}
 use Rattle.specification.specs.Layout.{LayoutModel}
 use Rattle.specification.specs.CheckIn.{check_in}
 use Rattle.specification.specs.Views.{After, permute, broadcast, diagonal_view}
@@ -15,19 +15,21 @@ use Rattle.view.specs.Ties.{pairs_in}
 use Rattle.record.specs.Reading.{layout_read}
 use Rattle.injectivity.specs.Judgement.{axes_judged, told_of}
 use Rattle.injectivity.specs.Text.{verdict_text}
+use Rattle.copying.specs.Copy.{copy_refusal, copy_after}
 use Rattle.commands.specs.declared.command.Command.{Command}
 use Rattle.commands.specs.declared.command.Command.TheVariants as command
 use Rattle.commands.specs.declared.command.Change.{Change}
 use Rattle.commands.specs.declared.command.Change.TheVariants.{New, Set, Permute, Diagonal, Broadcast, Read}
 use Rattle.commands.specs.declared.command.Query.{Query}
-use Rattle.commands.specs.declared.command.Query.TheVariants.{Bounds, Show, Draw, Offset, Normal, Verdict, Injective, Record, Rest, Order, Column, Row, Help}
-use Rattle.words.specs.declared.fault.Form.TheVariants.{Unsigned, Signed, Pair, Lent}
+use Rattle.commands.specs.declared.command.Query.TheVariants.{Bounds, Show, Draw, Offset, Normal, Verdict, Injective, Copy, Record, Rest, Order, Column, Row, Help}
+use Rattle.words.specs.declared.fault.Form.TheVariants.{Unsigned, Signed, Pair, Lent, Reading}
 use Rattle.commands.specs.Commands.{named, usage_of}
+use Rattle.commands.specs.Layouts.{Layouts}
 use Rattle.commands.specs.Topics.{topic_named, topic_text, all_help}
 use Rattle.commands.specs.Replies.{bytes_text}
 use Rattle.drawing.specs.Drawn.{Picture, picture, too_many, drawn}
 use Rattle.view.specs.Printed.{list_text, layout_text}
-use Rattle.words.specs.Spelled.{unsigned, signed, lent, pair}
+use Rattle.words.specs.Spelled.{unsigned, signed, lent, reading, pair}
 use Rattle.words.specs.Texts.{refusal_text, unknown_command, unknown_topic, unequal_lists, too_many_to_draw}
 use Rattle.words.specs.Words.{Told, ◌>>=◌, Numbered, no_word, one_word, two_words, four_words, up_to_one_word, one_or_two_words, two_or_three_words, one_of, list_of, bytes_of}
 
@@ -168,6 +170,15 @@ injective_text (extents, strides, words) = do
   words ← words_given words
   judged_text (verdict extents strides (or_most words))
 
+-- readings FROM through the current layout copied into readings TO through the held one: TO afterwards
+unfoldable pub copied_text : Layouts → Numbered × Numbered × Option Numbered → Told (List ℕ)
+copied_text ls (from, to, words) = do
+  from ← list_of reading Reading from
+  to ← list_of reading Reading to
+  words ← words_given words
+  copied ← told (copy_refusal ls.current ls.held (length from) (length to) (or_most words))
+  Ok (list_text signed_decimal (copy_after pass ls.current ls.held from to))
+
 unfoldable pub record_text : LayoutModel → Numbered × Option Numbered → Told (List ℕ)
 record_text l (room, words) = do
   room ← one_of lent Lent room
@@ -202,73 +213,85 @@ help_text (Some (number, name)) = elim (topic_named name) [
   | Some topic ↦ Ok (topic_text topic)
 ]
 
--- what a command prints that leaves the layout, of the words behind the name
-unfoldable pub answer_text : LayoutModel → Query → List ℕ → List (List ℕ) → Told (List ℕ)
-answer_text l Bounds usage words = do
+-- what a command prints that leaves the layouts, of the words behind the name
+unfoldable pub answer_text : Layouts → Query → List ℕ → List (List ℕ) → Told (List ℕ)
+answer_text ls Bounds usage words = do
   four ← four_words usage words
   bounds_text four
-answer_text l Show usage words = do
+answer_text ls Show usage words = do
   none ← no_word usage words
-  Ok (layout_text l)
-answer_text l Draw usage words = do
+  Ok (layout_text ls.current)
+answer_text ls Draw usage words = do
   none ← no_word usage words
-  drawn_text l
-answer_text l Offset usage words = do
+  drawn_text ls.current
+answer_text ls Offset usage words = do
   index ← one_word usage words
-  offset_text l index
-answer_text l Normal usage words = do
+  offset_text ls.current index
+answer_text ls Normal usage words = do
   none ← no_word usage words
-  normal_text l
-answer_text l Verdict usage words = do
+  normal_text ls.current
+answer_text ls Verdict usage words = do
   scratch ← up_to_one_word usage words
-  verdict_of l scratch
-answer_text l Injective usage words = do
+  verdict_of ls.current scratch
+answer_text ls Injective usage words = do
   three ← two_or_three_words usage words
   injective_text three
-answer_text l Record usage words = do
+answer_text ls Copy usage words = do
+  three ← two_or_three_words usage words
+  copied_text ls three
+answer_text ls Record usage words = do
   two ← one_or_two_words usage words
-  record_text l two
-answer_text l Rest usage words = do
+  record_text ls.current two
+answer_text ls Rest usage words = do
   bytes ← one_word usage words
   rest_text bytes
-answer_text l Order usage words = do
+answer_text ls Order usage words = do
   two ← two_words usage words
   order_text two
-answer_text l Column usage words = do
+answer_text ls Column usage words = do
   extents ← one_word usage words
   dense_text col_major extents
-answer_text l Row usage words = do
+answer_text ls Row usage words = do
   extents ← one_word usage words
   dense_text row_major extents
-answer_text l Help usage words = do
+answer_text ls Help usage words = do
   topic ← up_to_one_word usage words
   help_text topic
 
 -- ---- a line
 
--- a text to print, and the layout afterwards
+-- a text to print, and the layouts afterwards
 pub record Answered : Type 0 where
   pub text : List ℕ
-  pub layout : LayoutModel
+  pub layouts : Layouts
 
-abbrev pub changed : LayoutModel → Answered
-changed l = record { text = codes "ok"; layout = l }
+-- the layout that a command made is the current one; the held one stays
+abbrev pub changed : Layouts → LayoutModel → Answered
+changed ls next = record { text = codes "ok"; layouts = record { current = next; held = ls.held } }
 
-abbrev pub asked : LayoutModel → List ℕ → Answered
-asked l text = record { text = text; layout = l }
+-- the current layout is held; it stays the current one
+abbrev pub kept : Layouts → Answered
+kept ls = record { text = codes "ok"; layouts = record { current = ls.current; held = ls.current } }
+
+-- both layouts stay
+abbrev pub asked : Layouts → List ℕ → Answered
+asked ls text = record { text = text; layouts = ls }
 
 -- a command with the words behind its name
-unfoldable pub run : LayoutModel → Command → List (List ℕ) → Told Answered
-run l (command.Change change) words = do
-  next ← next_layout l change (usage_of (command.Change change)) words
-  Ok (changed next)
-run l (command.Query query) words = do
-  text ← answer_text l query (usage_of (command.Query query)) words
-  Ok (asked l text)
+unfoldable pub run : Layouts → Command → List (List ℕ) → Told Answered
+run ls (command.Change change) words = do
+  next ← next_layout ls.current change (usage_of (command.Change change)) words
+  Ok (changed ls next)
+run ls command.Hold words = do
+  none ← no_word (usage_of command.Hold) words
+  Ok (kept ls)
+run ls (command.Query query) words = do
+  text ← answer_text ls query (usage_of (command.Query query)) words
+  Ok (asked ls text)
 
 -- a line by its name and the words behind it
-unfoldable pub obeyed : LayoutModel → List ℕ → List (List ℕ) → Told Answered
-obeyed l name words = elim (named name) [
+unfoldable pub obeyed : Layouts → List ℕ → List (List ℕ) → Told Answered
+obeyed ls name words = elim (named name) [
   | None ↦ Err (unknown_command 1 name)
-  | Some command ↦ run l command words
+  | Some command ↦ run ls command words
 ]

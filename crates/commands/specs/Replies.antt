@@ -22,6 +22,7 @@ reply_text (reply.Current l) = layout_text (model_of l)
 reply_text (reply.Drawn drawing) = picture_text (model_of drawing.layout)
 reply_text (reply.Offset z) = signed_decimal z
 reply_text (reply.Judged judgement) = judgement_text judgement
+reply_text (reply.Readings readings) = list_text signed_decimal readings.items
 reply_text (reply.Bytes digits) = string_bytes digits
 reply_text (reply.Order axes) = list_text decimal axes.items
 reply_text (reply.Strides dense) = list_text signed_decimal dense

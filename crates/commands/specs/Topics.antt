@@ -68,6 +68,8 @@ word_texts usage.Extents = record { name = codes "EXTENTS"; meaning = codes "an 
 word_texts usage.Strides = record { name = codes "STRIDES"; meaning = codes "a stride for each axis, numbers from -9223372036854775808 to 9223372036854775807 with commas between them, at most 64, as 1,-4; - for none" }
 word_texts usage.List = record { name = codes "LIST"; meaning = codes "numbers from 0 to 18446744073709551615 with commas between them, at most 64, as 1,0; - for none" }
 word_texts usage.Pairs = record { name = codes "PAIRS"; meaning = codes "pairs a:b of axes with commas between them, at most 64, as 0:1,1:2; - for none" }
+word_texts usage.From = record { name = codes "FROM"; meaning = codes "readings to copy, numbers from -2147483648 to 2147483647 with commas between them, at most 64, as 7,-8; - for none" }
+word_texts usage.To = record { name = codes "TO"; meaning = codes "readings to copy into, numbers from -2147483648 to 2147483647 with commas between them, at most 64, as 0,0; - for none" }
 word_texts usage.Bytes = record { name = codes "BYTES"; meaning = codes "two hexadecimal digits for each byte and nothing between them, as 00ff; - for none" }
 word_texts usage.Words = record { name = codes "WORDS"; meaning = codes "how many words of scratch to lend, a number from 0 to 65536, as 1024; left out, as many as are needed" }
 word_texts usage.Room = record { name = codes "ROOM"; meaning = codes "how many bytes of output to lend, a number from 0 to 65536, as 64" }
@@ -81,7 +83,7 @@ word_line word = (word_texts word).name ++ codes ": " ++ (word_texts word).meani
 abbrev pub usage_words : List UsageWord
 usage_words =
     usage.Len ∷ usage.OutLen ∷ usage.Offset ∷ usage.Extents ∷ usage.Strides ∷ usage.List ∷ usage.Pairs
-    ∷ usage.Bytes ∷ usage.Words ∷ usage.Room ∷ usage.Command ∷ usage.Topic ∷ []
+    ∷ usage.From ∷ usage.To ∷ usage.Bytes ∷ usage.Words ∷ usage.Room ∷ usage.Command ∷ usage.Topic ∷ []
 
 -- the word that usages write so
 abbrev pub word_named : List ℕ → Option UsageWord

@@ -15,7 +15,7 @@ pub enum Change {
     Read,
 }
 
-/// A command that answers and leaves the current layout.
+/// A command that answers and leaves both layouts.
 #[derive(Clone, Copy)]
 pub enum Query {
     Bounds,
@@ -25,6 +25,7 @@ pub enum Query {
     Normal,
     Verdict,
     Injective,
+    Copy,
     Record,
     Rest,
     Order,
@@ -36,15 +37,18 @@ pub enum Query {
 #[derive(Clone, Copy)]
 pub enum Command {
     Change(Change),
+    /// The current layout is kept as the held one.
+    Hold,
     Query(Query),
 }
 
 /// Each command, in the order of `help`.
-pub const COMMANDS: [Command; 19] = [
+pub const COMMANDS: [Command; 21] = [
     Command::Change(Change::New),
     Command::Query(Query::Bounds),
     Command::Change(Change::Set),
     Command::Query(Query::Show),
+    Command::Hold,
     Command::Query(Query::Draw),
     Command::Change(Change::Permute),
     Command::Change(Change::Diagonal),
@@ -53,6 +57,7 @@ pub const COMMANDS: [Command; 19] = [
     Command::Query(Query::Normal),
     Command::Query(Query::Verdict),
     Command::Query(Query::Injective),
+    Command::Query(Query::Copy),
     Command::Query(Query::Record),
     Command::Change(Change::Read),
     Command::Query(Query::Rest),
@@ -77,6 +82,7 @@ impl Command {
             Command::Query(Query::Bounds) => "bounds",
             Command::Change(Change::Set) => "set",
             Command::Query(Query::Show) => "show",
+            Command::Hold => "hold",
             Command::Query(Query::Draw) => "draw",
             Command::Change(Change::Permute) => "permute",
             Command::Change(Change::Diagonal) => "diagonal",
@@ -85,6 +91,7 @@ impl Command {
             Command::Query(Query::Normal) => "normal",
             Command::Query(Query::Verdict) => "verdict",
             Command::Query(Query::Injective) => "injective",
+            Command::Query(Query::Copy) => "copy",
             Command::Query(Query::Record) => "record",
             Command::Change(Change::Read) => "read",
             Command::Query(Query::Rest) => "rest",
@@ -125,6 +132,7 @@ impl Command {
             Command::Query(Query::Bounds) => "bounds LEN OFFSET EXTENTS STRIDES",
             Command::Change(Change::Set) => "set LEN OFFSET EXTENTS STRIDES",
             Command::Query(Query::Show) => "show",
+            Command::Hold => "hold",
             Command::Query(Query::Draw) => "draw",
             Command::Change(Change::Permute) => "permute LIST",
             Command::Change(Change::Diagonal) => "diagonal PAIRS",
@@ -133,6 +141,7 @@ impl Command {
             Command::Query(Query::Normal) => "normal",
             Command::Query(Query::Verdict) => "verdict [WORDS]",
             Command::Query(Query::Injective) => "injective EXTENTS STRIDES [WORDS]",
+            Command::Query(Query::Copy) => "copy FROM TO [WORDS]",
             Command::Query(Query::Record) => "record ROOM [WORDS]",
             Command::Change(Change::Read) => "read BYTES [WORDS]",
             Command::Query(Query::Rest) => "rest BYTES",
@@ -155,6 +164,7 @@ impl Command {
                 "make a layout current with no check; of more than 16 axes the first 16 are held"
             }
             Command::Query(Query::Show) => "the current layout, as LEN OFFSET EXTENTS STRIDES",
+            Command::Hold => "keep the current layout as the held one, for copy",
             Command::Query(Query::Draw) =>
                 "the cells that the current layout reaches, each with the positions that share it; at most 200 positions",
             Command::Change(Change::Permute) => "put the axes into the order of the list",
@@ -168,6 +178,8 @@ impl Command {
             }
             Command::Query(Query::Injective) =>
                 "whether two positions of a layout of these extents and strides share a cell, with WORDS words of scratch",
+            Command::Query(Query::Copy) =>
+                "copy readings FROM through the current layout into readings TO through the held one; the answer is TO afterwards",
             Command::Query(Query::Record) =>
                 "the record of the current layout, in at most ROOM bytes",
             Command::Change(Change::Read) => "read a record and make its layout current",

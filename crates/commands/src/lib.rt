@@ -4,6 +4,7 @@
 mod change;
 pub mod command;
 pub mod kind;
+pub mod layouts;
 pub mod memory;
 pub mod obey;
 mod query;

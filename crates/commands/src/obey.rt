@@ -4,13 +4,15 @@ ghost use Rattle.view.specs.Model.{model_of};
 ghost use Rattle.words.specs.Words.{Gives, MemoryOnlyIf};
 ghost use Rattle.commands.specs.Asking.{change_asks, query_asks, asks_for_memory, line_asks};
 ghost use Rattle.commands.specs.Replies.{reply_text};
+ghost use Rattle.commands.specs.Layouts.{layouts_of};
 ghost use Rattle.commands.specs.Obeyed.{next_layout, answer_text, run, obeyed};
 
 use crate::change::{broadcast, diagonal, new_layout, permute, read, set_layout};
 use crate::command::{Change, Command, Query};
+use crate::layouts::Layouts;
 use crate::memory::Memory;
 use crate::query::{
-    bounds, column, draw, help, injective, normal, offset, order, record, rest, row, verdict,
+    bounds, column, copy, draw, help, injective, normal, offset, order, record, rest, row, verdict,
 };
 use crate::reply::Reply;
 use std::alloc::Global;
@@ -42,19 +44,20 @@ fn next_layout<'a>(
     }
 }
 
-// What a command answers that leaves the layout, with the words behind its name.
-#[tactic(auto, using(crate::proofs::Asked::one, crate::proofs::Asked::two, crate::proofs::Asked::four, crate::proofs::Asked::verdict_asks, crate::proofs::Asked::injective_asks, crate::proofs::Asked::record_asks), unfolding(crate::specs::Obeyed::answer_text, crate::specs::Asking::query_asks))]
+// What a command answers that leaves both layouts, with the words behind its name.
+#[tactic(auto, using(crate::proofs::Asked::one, crate::proofs::Asked::two, crate::proofs::Asked::four, crate::proofs::Asked::verdict_asks, crate::proofs::Asked::injective_asks, crate::proofs::Asked::copy_asks, crate::proofs::Asked::record_asks), unfolding(crate::specs::Obeyed::answer_text, crate::specs::Asking::query_asks))]
 fn answer<'a>(
     alloc: Global,
-    current: &Layout,
+    layouts: &Layouts,
     memory: &mut Memory,
     query: Query,
     words: Words<'a>,
 ) -> Result<Reply, Problem<'a>>
-    ensures told { Gives reply_text result (answer_text (model_of current.now) query
+    ensures told { Gives reply_text result (answer_text (layouts_of layouts.now) query
         words.entry.usage.now (map (λ text. text.now) words.entry.texts.now)) }
     ensures memory { MemoryOnlyIf (query_asks query (map (λ text. text.now) words.entry.texts.now)) result }
 {
+    let current = &layouts.current;
     match query {
         Query::Bounds => bounds(alloc, words.four()?),
         Query::Show => {
@@ -72,6 +75,7 @@ fn answer<'a>(
         }
         Query::Verdict => verdict(current, memory, words.up_to_one()?),
         Query::Injective => injective(alloc, memory, words.two_or_three()?),
+        Query::Copy => copy(alloc, layouts, memory, words.two_or_three()?),
         Query::Record => record(alloc, current, memory, words.one_or_two()?),
         Query::Rest => rest(alloc, words.one()?),
         Query::Order => order(alloc, words.two()?),
@@ -81,19 +85,19 @@ fn answer<'a>(
     }
 }
 
-// What a command answers with the words behind its name, or why it is not obeyed; then the current layout stays.
+// What a command answers with the words behind its name, or why it is not obeyed; then both layouts stay.
 #[tactic(auto, unfolding(crate::specs::Obeyed::run))]
 fn run<'a>(
     alloc: Global,
-    current: &mut Layout,
+    layouts: &mut Layouts,
     memory: &mut Memory,
     command: Command,
     texts: &'a [&'a [u8]],
 ) -> Result<Reply, Problem<'a>>
-    ensures told { Gives (λ reply. record { text = reply_text reply; layout = model_of current.new }) result
-        (run (model_of current.old) command (map (λ text. text.now) texts.now)) }
+    ensures told { Gives (λ reply. record { text = reply_text reply; layouts = layouts_of layouts.new }) result
+        (run (layouts_of layouts.old) command (map (λ text. text.now) texts.now)) }
     ensures memory { MemoryOnlyIf (asks_for_memory command (map (λ text. text.now) texts.now)) result }
-    ensures kept { OnErr result (current.new ≡ current.old) }
+    ensures kept { OnErr result (layouts.new ≡ layouts.old) }
 {
     let words = Words {
         usage: command.usage(),
@@ -101,29 +105,34 @@ fn run<'a>(
     };
     match command {
         Command::Change(change) => {
-            *current = next_layout(alloc, current, memory, change, words)?;
+            layouts.current = next_layout(alloc, &layouts.current, memory, change, words)?;
             Ok(Reply::Done)
         }
-        Command::Query(query) => answer(alloc, current, memory, query, words),
+        Command::Hold => {
+            words.none()?;
+            layouts.held = layouts.current;
+            Ok(Reply::Done)
+        }
+        Command::Query(query) => answer(alloc, layouts, memory, query, words),
     }
 }
 
-/// What a line of a name and words behind it answers, or why it is not obeyed; then the current layout stays.
+/// What a line of a name and words behind it answers, or why it is not obeyed; then both layouts stay.
 #[tactic(auto, unfolding(crate::specs::Obeyed::obeyed))]
 pub fn obey<'a>(
     alloc: Global,
-    current: &mut Layout,
+    layouts: &mut Layouts,
     memory: &mut Memory,
     name: &'a [u8],
     texts: &'a [&'a [u8]],
 ) -> Result<Reply, Problem<'a>>
-    ensures told { Gives (λ reply. record { text = reply_text reply; layout = model_of current.new }) result
-        (obeyed (model_of current.old) name.now (map (λ text. text.now) texts.now)) }
+    ensures told { Gives (λ reply. record { text = reply_text reply; layouts = layouts_of layouts.new }) result
+        (obeyed (layouts_of layouts.old) name.now (map (λ text. text.now) texts.now)) }
     ensures memory { MemoryOnlyIf (line_asks name.now (map (λ text. text.now) texts.now)) result }
-    ensures kept { OnErr result (current.new ≡ current.old) }
+    ensures kept { OnErr result (layouts.new ≡ layouts.old) }
 {
     match Command::named(name) {
-        Some(command) => run(alloc, current, memory, command, texts),
+        Some(command) => run(alloc, layouts, memory, command, texts),
         None => Err(Fault::UnknownCommand(Word::new(1, name)).into()),
     }
 }

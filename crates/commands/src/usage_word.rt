@@ -14,6 +14,8 @@ pub enum UsageWord {
     Strides,
     List,
     Pairs,
+    From,
+    To,
     Bytes,
     Words,
     Room,
@@ -22,7 +24,7 @@ pub enum UsageWord {
 }
 
 /// Each word of a usage.
-pub const USAGE_WORDS: [UsageWord; 12] = [
+pub const USAGE_WORDS: [UsageWord; 14] = [
     UsageWord::Len,
     UsageWord::OutLen,
     UsageWord::Offset,
@@ -30,6 +32,8 @@ pub const USAGE_WORDS: [UsageWord; 12] = [
     UsageWord::Strides,
     UsageWord::List,
     UsageWord::Pairs,
+    UsageWord::From,
+    UsageWord::To,
     UsageWord::Bytes,
     UsageWord::Words,
     UsageWord::Room,
@@ -81,6 +85,14 @@ impl UsageWord {
             UsageWord::Pairs => (
                 "PAIRS",
                 "pairs a:b of axes with commas between them, at most 64, as 0:1,1:2; - for none",
+            ),
+            UsageWord::From => (
+                "FROM",
+                "readings to copy, numbers from -2147483648 to 2147483647 with commas between them, at most 64, as 7,-8; - for none",
+            ),
+            UsageWord::To => (
+                "TO",
+                "readings to copy into, numbers from -2147483648 to 2147483647 with commas between them, at most 64, as 0,0; - for none",
             ),
             UsageWord::Bytes => (
                 "BYTES",

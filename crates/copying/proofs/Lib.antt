@@ -1,10 +1,11 @@
 -- The laws of copying, lowest first.
-pub mod CopiesLaws
+pub mod CopyLaws
 mod CopyHanded
 mod CopyAnswers
 mod ComputedCopies
+mod CopyingLaws
 mod SweepLaws
-mod RunsLaws
+mod SheetsLaws
 mod SameExtents
 mod SuitedLaws
 mod PositionLaws

@@ -1,65 +1,63 @@
--- The runs of two suited layouts: as many on both sides, as long, and in their buffers.
-use Rattle.std.proofs.Common.{◌≡◌, refl, sym, ap, ◌∙◌, ℕ, ◌*◌, ◌<◌, List, [], ◌∷◌, ℤ, true, arith}
+-- The sheets of two suited layouts: as many on both sides, as large, and in their buffers.
+use Rattle.std.proofs.Common.{◌≡◌, refl, sym, ap, ◌∙◌, ℕ, ◌*◌, ◌<◌, List, [], ◌∷◌, ◌++◌, ℤ, arith}
 use Rattle.std.proofs.lemmas.Int.{ints}
-use Rattle.specification.specs.Axis.{Axis, positions, product, extents, is_empty}
+use Rattle.specification.specs.Axis.{Axis, positions, product, extents}
 use Rattle.specification.specs.Layout.{LayoutModel, IsAccepted}
 use Rattle.specification.specs.Readings.{cell_at, IsTooShort}
-use Rattle.specification.proofs.NormalLaws.{empty-none}
 use Rattle.specification.proofs.ReadingLaws.{cell_at-below}
-use Rattle.copying.specs.declared.runs.Runs.{Runs}
+use Rattle.copying.specs.declared.sheets.Sheets.{Sheets}
 use Rattle.copying.specs.Copy.{copies}
-use Rattle.copying.specs.Runs.{IsPlacedIn, places_of, run_axes, AreRunsOf}
-use Rattle.copying.proofs.CopiesLaws.{copies-same}
+use Rattle.copying.specs.Sheets.{IsPlacedIn, axes_of, places_of, positions_of, sheet_axes, AreSheetsOf, AreAlike}
+use Rattle.copying.proofs.CopyingLaws.{copies-same}
+use Rattle.copying.proofs.SheetsLaws.{sheet-positions, walkable}
+use Rattle.copying.proofs.SweepLaws.{positions-front}
 
--- no position: nothing is copied
-pub none-copied : (source destination : ℕ → ℕ) (from to : List ℤ) (axes : List Axis) → is_empty axes ≡ true → to ≡ copies source destination from (positions axes) to
-unfolding copies
-none-copied source destination from to axes e = rw (empty-none axes e) refl
+sheet-extents : (xs ys : List Axis) → extents xs ≡ extents ys → extents (sheet_axes xs) ≡ extents (sheet_axes ys)
+sheet-extents [] [] e = refl
+sheet-extents [] (b ∷ ys) e = grind (arith, ints, e)
+sheet-extents (a ∷ xs) [] e = grind (arith, ints, e)
+sheet-extents (a ∷ []) (b ∷ []) e = grind (arith, ints, e)
+sheet-extents (a ∷ []) (b ∷ d ∷ ys) e = grind (arith, ints, e)
+sheet-extents (a ∷ c ∷ xs) (b ∷ []) e = grind (arith, ints, e)
+sheet-extents (a ∷ c ∷ xs) (b ∷ d ∷ ys) e = e
 
--- as runs, axes have as many positions
-run-positions : (axes : List Axis) → positions (run_axes axes) ≡ positions axes
-unfolding product
-run-positions [] = omega arith
-run-positions (a ∷ rest) = refl
+-- the sheets of one layout
+module _ {l : LayoutModel} {sheets : Sheets} (a : AreSheetsOf l sheets) where
+  counted : positions (axes_of sheets.sheet ++ sheets.others.now) ≡ positions l.axes
+  counted = ap positions a.axes ∙ sheet-positions l.axes
 
-run-extents : (xs ys : List Axis) → extents xs ≡ extents ys → extents (run_axes xs) ≡ extents (run_axes ys)
-run-extents [] [] e = refl
-run-extents [] (b ∷ ys) e = grind (arith, ints, e)
-run-extents (a ∷ xs) [] e = grind (arith, ints, e)
-run-extents (a ∷ xs) (b ∷ ys) e = e
-
--- the runs of one layout
-module _ {l : LayoutModel} {runs : Runs} (a : AreRunsOf l runs) where
-  pub counted : runs.axis.extent * positions runs.others.axes ≡ positions l.axes
+  pub long : 0 < positions l.axes → 0 < sheets.sheet.run.extent
   unfolding product
-  counted = ap positions a.axes ∙ run-positions l.axes
+  long h =
+      let w : 0 < sheets.sheet.run.extent * (sheets.sheet.rows.extent * positions sheets.others.now) = rw counted h in
+      grind (arith, ints, w)
 
-  pub both-some : 0 < positions l.axes → (0 < runs.axis.extent) × (0 < positions runs.others.axes)
-  both-some h = grind (arith, ints, counted)
-
-  pub placed : (size : ℕ) → IsAccepted l → ¬ (IsTooShort l size) → IsPlacedIn runs.others.start (runs.axis ∷ runs.others.axes) size
-  unfolding product
+  pub placed : (size : ℕ) → IsAccepted l → ¬ (IsTooShort l size) → IsPlacedIn sheets.start (axes_of sheets.sheet ++ sheets.others.now) size
   placed size b f k h =
       let i : k < positions l.axes = rw counted at h in
       rw (a.places k i) (cell_at-below l b size f k i)
 
 -- of two with the same extents
-module _ {s d : LayoutModel} {runs into : Runs} (a : AreRunsOf s runs) (b : AreRunsOf d into) (e : extents s.axes ≡ extents d.axes) where
-  same : into.axis.extent ∷ extents into.others.axes ≡ runs.axis.extent ∷ extents runs.others.axes
-  same = ap extents b.axes ∙ sym (run-extents s.axes d.axes e) ∙ sym (ap extents a.axes)
+module _ {s d : LayoutModel} {sheets into : Sheets} (a : AreSheetsOf s sheets) (b : AreSheetsOf d into) (e : extents s.axes ≡ extents d.axes) where
+  same : into.sheet.run.extent ∷ into.sheet.rows.extent ∷ extents into.others.now ≡ sheets.sheet.run.extent ∷ sheets.sheet.rows.extent ∷ extents sheets.others.now
+  same = ap extents b.axes ∙ sym (sheet-extents s.axes d.axes e) ∙ sym (ap extents a.axes)
 
-  pub alike : into.axis.extent ≡ runs.axis.extent
-  alike = grind (arith, ints, same)
+  rest : {x y z w : ℕ} {xs ys : List ℕ} → x ∷ z ∷ xs ≡ y ∷ w ∷ ys → xs ≡ ys
+  rest p = grind (arith, ints, p)
 
-  pub as_many : positions into.others.axes ≡ positions runs.others.axes
-  as_many = ap product (rest same)
-    where
-      rest : {x y : ℕ} {xs ys : List ℕ} → x ∷ xs ≡ y ∷ ys → xs ≡ ys
-      rest p = grind (arith, ints, p)
+  pub are-alike : IsAccepted s → IsAccepted d → 0 < positions s.axes → 0 < positions d.axes → AreAlike sheets into
+  are-alike f g h k = record {
+    long = long a h;
+    walkable = walkable s f h a.axes;
+    into_walkable = walkable d g k b.axes;
+    alike = grind (arith, ints, same);
+    others_alike = rest same;
+  }
 
-  -- the copies of the runs are those of the positions
-  pub runs-copied : (from to : List ℤ) → copies (places_of runs) (places_of into) from (runs.axis.extent * positions runs.others.axes) to
+  -- the copies of the sheets are those of the positions
+  pub sheets-copied : (from to : List ℤ) → copies (places_of sheets) (places_of into) from (positions_of sheets) to
       ≡ copies (cell_at s) (cell_at d) from (positions d.axes) to
-  runs-copied from to =
+  sheets-copied from to =
       let n : positions s.axes ≡ positions d.axes = ap product e in
-      rw (counted a, n) (copies-same (places_of runs) (cell_at s) (places_of into) (cell_at d) from (positions d.axes) to (λ i h. a.places i (rw n h)) b.places)
+      rw (← positions-front (axes_of sheets.sheet) sheets.others.now, counted a, n)
+      (copies-same (places_of sheets) (cell_at s) (places_of into) (cell_at d) from (positions d.axes) to (λ i h. a.places i (rw n h)) b.places)

@@ -7,7 +7,7 @@ use Rattle.specification.specs.Axis.{extents}
 use Rattle.specification.specs.Outcome.{done, refused, refuse_if, pass, ◌>>◌}
 use Rattle.specification.specs.Layout.{LayoutModel}
 use Rattle.view.specs.Reach.{Ends}
-use Rattle.view.specs.Readings.{reach_of_both, is_past}
+use Rattle.view.specs.Readings.{reach_of_both, layout_ends, is_past}
 use Rattle.view.proofs.ReadingLaws.{past-short}
 use Rattle.copying.specs.Copy.{copy_handed}
 
@@ -33,3 +33,8 @@ module _ (s d : LayoutModel) (readings room : ℕ) where
       pub suited : is_past e readings ≡ false → is_past f room ≡ false → pass ≡ copy_handed s d readings room
       unfolding copy_handed reach_of_both refuse_if ◌>>◌
       suited h k = grind (arith, ints, past-short s readings, past-short d room)
+
+    -- the reach that is handed on
+    pub reach_is : f ≡ layout_ends d
+    unfolding reach_of_both ◌>>◌
+    reach_is = grind (arith, ints, reach)

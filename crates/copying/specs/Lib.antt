@@ -1,5 +1,5 @@
 -- What the contracts and claims on copying cite.
-pub mod Runs
+pub mod Sheets
 pub mod Copy
 pub mod CopyClaims
 pub mod CopyCases

@@ -1,29 +1,30 @@
 //! Copying readings from one buffer to another, each through a layout.
 //!
 //! The readings are copied run by run along the first axis. A step along a run is two additions, or
-//! the whole run is one copy of memory if it is dense on both sides. Nothing is divided, and nothing
-//! is allocated.
-//!
-//! `copy` says that it is right: its answer, the destination and the scratch are what the
-//! definitions of `Copy` say. What those mean is `CopyClaims`, which `copies_hold` promises.
+//! the whole run is one copy of memory if it is dense on both sides; nothing is divided. Nothing is
+//! allocated.
 #![tactic(auto)]
 
 mod runs;
+mod sheets;
 
-ghost use Rattle.std.specs.Prelude.{◌≡◌, ◌≤◌, length, nat_eq};
+ghost use Rattle.std.specs.Prelude.{◌≡◌, ◌≤◌, ◌<◌, length, nat_eq, IfOk};
 ghost use Rattle.std.specs.Cmp.Lexicographic.{pointwise};
 ghost use Rattle.specification.specs.Axis.{extents, positions};
 ghost use Rattle.specification.specs.Layout.{rank};
 ghost use Rattle.specification.specs.Verdict.{judge, freed_by, ScratchAfter};
 ghost use Rattle.specification.specs.Readings.{cell_at};
-ghost use Rattle.view.specs.Answers.{outcome_of};
+ghost use Rattle.view.specs.Answers.{outcome_of, outcome_by};
+ghost use Rattle.view.specs.Reach.{ends_of};
+ghost use Rattle.view.specs.Readings.{layout_ends};
 ghost use Rattle.view.specs.Model.{model_of};
 ghost use Rattle.copying.specs.Copy.{copy_handed, distinct_judged, copy_refusal, copy_frees, copies, copy_after};
 ghost use Rattle.copying.specs.CopyClaims.{CopyClaims, IsSuited};
 ghost use Rattle.copying.specs.CopyCases.{CopyCases};
 
 use injectivity::{Judgement, judge_layout};
-use runs::{Runs, copy_runs};
+use sheets::{Sheets, copy_sheets};
+use view::bounds::Reach;
 use view::layout::{Layout, Refusal};
 use view::readings::reach_both;
 
@@ -37,17 +38,18 @@ fn have_same_extents(source: &Layout, destination: &Layout) -> bool
     source.extents().eq(destination.extents())
 }
 
-/// What is refused before the verdict: 1 and 3 of either layout, 12 for extents that differ, and 13
-/// for a buffer that is too short.
-#[tactic(auto, using(crate::proofs::SuitedLaws::not_handed, crate::proofs::SuitedLaws::extents_differ, crate::proofs::SuitedLaws::source_short, crate::proofs::SuitedLaws::destination_short, crate::proofs::SuitedLaws::suited))]
-fn refuse_unsuited(
+#[tactic(auto, using(crate::proofs::SuitedLaws::not_handed, crate::proofs::SuitedLaws::extents_differ, crate::proofs::SuitedLaws::source_short, crate::proofs::SuitedLaws::destination_short, crate::proofs::SuitedLaws::suited, crate::proofs::SuitedLaws::reach_is))]
+/// The reach of the destination, unless something is refused before the verdict: 1 and 3 of either layout, 12 for extents that
+/// differ, 13 for a buffer that is too short.
+fn suited_reach(
     source: &Layout,
     readings: usize,
     destination: &Layout,
     room: usize,
-) -> Result<(), Refusal>
-    ensures { outcome_of result
+) -> Result<Reach, Refusal>
+    ensures answer { outcome_by (λ reach. tt) result
         ≡ copy_handed (model_of source.now) (model_of destination.now) readings room }
+    ensures reach { IfOk result (λ reach. ends_of reach ≡ layout_ends (model_of destination.now)) }
 {
     let (reach, into_reach) = reach_both(source, destination)?;
     if !have_same_extents(source, destination) {
@@ -56,7 +58,7 @@ fn refuse_unsuited(
     if reach.is_past(readings) || into_reach.is_past(room) {
         return Err(Refusal::ShortReadings);
     }
-    Ok(())
+    Ok(into_reach)
 }
 
 /// The refusals 8 and 9 of the verdict on the destination's axes, and 14 for any verdict but Distinct.
@@ -73,16 +75,14 @@ fn refuse_shared(destination: &Layout, scratch: &mut [u64]) -> Result<(), Refusa
     }
 }
 
-/// Copies the reading of each position. An empty layout has none.
+/// Copies the reading of each position.
 fn copy_positions(source: &Layout, from: &[i32], destination: &Layout, to: &mut [i32])
-    requires { IsSuited (model_of source.now) (model_of destination.now) (length from.now) (length to.old) }
+    requires some { 0 < positions (model_of destination.now).axes }
+    requires suited { IsSuited (model_of source.now) (model_of destination.now) (length from.now) (length to.old) }
     ensures { to.new ≡ copies (cell_at (model_of source.now)) (cell_at (model_of destination.now)) from.now
         (positions (model_of destination.now).axes) to.old }
 {
-    if destination.is_empty() {
-        return;
-    }
-    copy_runs(from, Runs::of(source), to, Runs::of(destination));
+    copy_sheets(from, Sheets::of(source), to, Sheets::of(destination));
 }
 
 /// Copies the reading of each position of one layout to the same position of another. Afterwards the
@@ -111,9 +111,12 @@ pub fn copy(
     ensures freed { ScratchAfter (copy_frees (model_of source.now) (model_of destination.now)
         (length from.now) (length to.old) (length scratch.old)) scratch.old scratch.new }
 {
-    refuse_unsuited(source, from.len(), destination, to.len())?;
+    let reach = suited_reach(source, from.len(), destination, to.len())?;
     refuse_shared(destination, scratch)?;
-    copy_positions(source, from, destination, to);
+    match reach {
+        Reach::Empty => {}
+        Reach::Between(..) => copy_positions(source, from, destination, to),
+    }
     Ok(())
 }
 

@@ -1,4 +1,5 @@
 -- The words of the crates below in which the contracts of these calls speak of the code's structs.
+pub use Rattle.copying.specs.Copy
 pub use Rattle.injectivity.specs.Judgement
 pub use Rattle.injectivity.specs.Meaning
 pub use Rattle.record.specs.Calls

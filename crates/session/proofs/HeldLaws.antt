@@ -3,16 +3,16 @@ use Rattle.std.proofs.Common.{◌≡◌, ◌≤◌, ℕ, List, Bool, true, false
 use Rattle.std.specs.Prelude.{nat_lt}
 use Rattle.std.proofs.lemmas.Bool.{lt-ltb, le-ltb, cases_lt}
 use Rattle.std.proofs.lemmas.List.{take_all}
-use Rattle.specification.specs.Layout.{LayoutModel}
 use Rattle.lines.specs.Lines.{Holds}
 use Rattle.lines.specs.declared.line.Line.{Line}
+use Rattle.commands.specs.Layouts.{Layouts}
 use Rattle.session.specs.Session.{answered, by_length}
 
-pub answered-held : (l : LayoutModel) (line : Line) (whole : List ℕ) → Holds line whole → answered l whole ≡ by_length l line.is_long line.bytes.items
+pub answered-held : (ls : Layouts) (line : Line) (whole : List ℕ) → Holds line whole → answered ls whole ≡ by_length ls line.is_long line.bytes.items
 unfolding answered
-answered-held l line whole held = by_case line.is_long refl
+answered-held ls line whole held = by_case line.is_long refl
   where
-    by_case : (long : Bool) → line.is_long ≡ long → by_length l (nat_lt 4096 (length whole)) whole ≡ by_length l long line.bytes.items
+    by_case : (long : Bool) → line.is_long ≡ long → by_length ls (nat_lt 4096 (length whole)) whole ≡ by_length ls long line.bytes.items
     by_case true e = rw (lt-ltb 4096 (length whole) (held.longer.0 e)) refl
     by_case false e =
         let few : length whole ≤ 4096 = elim (cases_lt 4096 (length whole)) [

@@ -9,7 +9,7 @@ use Rattle.lines.specs.Mark.{without_mark, IsBehindMark}
 use Rattle.lines.specs.declared.failure.Failure.{Failure}
 use Rattle.lines.specs.declared.failure.Failure.TheVariants.{Read, Write, Memory, Endless}
 use Rattle.session.specs.declared.end.Ended.{Ended}
-use Rattle.session.specs.Session.{answered_in_order, written_for, obeyed_for, empty_layout, lines_in, output_of, all_obeyed, Answers}
+use Rattle.session.specs.Session.{answered_in_order, written_for, obeyed_for, empty_layouts, lines_in, output_of, all_obeyed, Answers}
 
 -- if the bytes are known, `read` has them without the mark
 abbrev pub Reads : Option (List ℕ) → Option (List ℕ) → Type 0
@@ -52,22 +52,22 @@ no_answer (Err why) (Some bytes) before after other keeps = by_why why other
 -- ---- what each clause of the lines says of all that was read
 
 pub front : (was read before mid after : Option (List ℕ)) → Reads was read → Keeps before mid
-    → IfSome read (λ bytes. AppendsFront mid after (written_for empty_layout (lines_of bytes))) → IfSome was (λ bytes. AppendsFront before after (output_of bytes))
+    → IfSome read (λ bytes. AppendsFront mid after (written_for empty_layouts (lines_of bytes))) → IfSome was (λ bytes. AppendsFront before after (output_of bytes))
 unfolding output_of
 front None read before mid after reads keeps h = tt
 front (Some bytes) read before mid after reads keeps h =
-    let (n, added) : AppendsFront mid after (written_for empty_layout (lines_in bytes)) = rw reads at h in
+    let (n, added) : AppendsFront mid after (written_for empty_layouts (lines_in bytes)) = rw reads at h in
     (n, flushed before mid after _ keeps added)
 
 pub whole : (result : Result Ended Failure) (was read before mid after : Option (List ℕ)) → Reads was read → Keeps before mid
-    → OnOk result (IfSome read (λ bytes. Appends mid after (written_for empty_layout (lines_of bytes)))) → OnOk result (IfSome was (λ bytes. Appends before after (output_of bytes)))
+    → OnOk result (IfSome read (λ bytes. Appends mid after (written_for empty_layouts (lines_of bytes)))) → OnOk result (IfSome was (λ bytes. Appends before after (output_of bytes)))
 unfolding output_of
 whole (Err why) was read before mid after reads keeps h = tt
 whole (Ok ended) None read before mid after reads keeps h = tt
 whole (Ok ended) (Some bytes) read before mid after reads keeps h = flushed before mid after _ keeps (rw reads at h)
 
 pub obeyed : (result : Result Ended Failure) (was read : Option (List ℕ)) → Reads was read
-    → IfOk result (λ ended. IfSome read (λ bytes. ended.all_obeyed ≡ obeyed_for empty_layout (lines_of bytes))) → IfOk result (λ ended. IfSome was (λ bytes. ended.all_obeyed ≡ all_obeyed bytes))
+    → IfOk result (λ ended. IfSome read (λ bytes. ended.all_obeyed ≡ obeyed_for empty_layouts (lines_of bytes))) → IfOk result (λ ended. IfSome was (λ bytes. ended.all_obeyed ≡ all_obeyed bytes))
 unfolding all_obeyed
 obeyed (Err why) was read reads h = tt
 obeyed (Ok ended) None read reads h = tt

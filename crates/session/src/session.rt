@@ -2,11 +2,12 @@
 ghost use Rattle.std.specs.Prelude.{◌≡◌, ◌≢◌, [], map, string_bytes, OnOk, OnErr, IfOk, IfErr, IfSome, IsTrue};
 ghost use Rattle.std.specs.Io.KnownBytes.{Appends};
 ghost use Rattle.lines.specs.Lines.{AppendsFront, lines_of};
-ghost use Rattle.view.specs.Model.{model_of};
-ghost use Rattle.session.specs.Session.{begins_with, empty_layout, text_of, no_fault, by_words, words_ask, by_length, written_for, obeyed_for, lines_in, output_of, all_obeyed, Answers};
+ghost use Rattle.commands.specs.Layouts.{layouts_of};
+ghost use Rattle.session.specs.Session.{begins_with, empty_layouts, text_of, no_fault, by_words, words_ask, by_length, written_for, obeyed_for, lines_in, output_of, all_obeyed, Answers};
 
 use crate::end::Ended;
 use axis::Axis;
+use commands::layouts::Layouts;
 use commands::memory::Memory;
 use commands::obey::obey;
 use commands::reply::Reply;
@@ -20,16 +21,20 @@ use view::layout::{Layout, MOST_AXES, ReadingOffset};
 use words::fault::{Fault, Problem};
 use words::word::first_words;
 
-// At the start the layout is empty.
+// At the start both layouts are empty.
 #[tactic(auto, unfolding(view::specs::Table::table))]
-fn empty() -> Layout
-    ensures { model_of result ≡ empty_layout }
+fn empty() -> Layouts
+    ensures { layouts_of result ≡ empty_layouts }
 {
-    Layout {
+    let none = Layout {
         len: 0,
         offset: ReadingOffset(0),
         rank: 1,
         axes: [Axis::NONE; MOST_AXES],
+    };
+    Layouts {
+        current: none,
+        held: none,
     }
 }
 
@@ -66,16 +71,16 @@ fn is_comment(name: &[u8]) -> bool
 #[tactic(auto, unfolding(crate::specs::Session::by_words))]
 fn answer_words<'a>(
     alloc: Global,
-    layout: &mut Layout,
+    layouts: &mut Layouts,
     memory: &mut Memory,
     words: &'a [&'a [u8]],
 ) -> Result<Response<'a>, AllocError>
     ensures text { IfOk result (λ answer. text_of answer
-        ≡ (by_words (model_of layout.old) (map (λ word. word.now) words.now)).text) }
-    ensures layout { OnOk result (model_of layout.new
-        ≡ (by_words (model_of layout.old) (map (λ word. word.now) words.now)).layout) }
+        ≡ (by_words (layouts_of layouts.old) (map (λ word. word.now) words.now)).text) }
+    ensures layouts { OnOk result (layouts_of layouts.new
+        ≡ (by_words (layouts_of layouts.old) (map (λ word. word.now) words.now)).layouts) }
     ensures obeyed { IfOk result (λ answer. no_fault answer
-        ≡ (by_words (model_of layout.old) (map (λ word. word.now) words.now)).all_obeyed) }
+        ≡ (by_words (layouts_of layouts.old) (map (λ word. word.now) words.now)).all_obeyed) }
     ensures memory { OnErr result (IsTrue (words_ask (map (λ word. word.now) words.now))) }
 {
     let [name, texts @ ..] = words else {
@@ -84,7 +89,7 @@ fn answer_words<'a>(
     if is_comment(*name) {
         return Ok(Response::Nothing);
     }
-    match obey(alloc, layout, memory, *name, texts) {
+    match obey(alloc, layouts, memory, *name, texts) {
         Ok(reply) => Ok(Response::Reply(reply)),
         Err(Problem::Told(fault)) => Ok(Response::Fault(fault)),
         Err(Problem::Memory) => Err(AllocError),
@@ -95,26 +100,26 @@ fn answer_words<'a>(
 #[tactic(auto, using(crate::proofs::FirstWords::by_front, crate::proofs::FirstWords::asked_has_text))]
 fn answer(
     alloc: Global,
-    layout: &mut Layout,
+    layouts: &mut Layouts,
     memory: &mut Memory,
     line: &Line,
     text: &mut String,
 ) -> Result<bool, AllocError>
     ensures text { OnOk result (string_bytes text.new
-        ≡ (by_length (model_of layout.old) line.now.is_long line.now.bytes.items).text) }
-    ensures layout { OnOk result (model_of layout.new
-        ≡ (by_length (model_of layout.old) line.now.is_long line.now.bytes.items).layout) }
+        ≡ (by_length (layouts_of layouts.old) line.now.is_long line.now.bytes.items).text) }
+    ensures layouts { OnOk result (layouts_of layouts.new
+        ≡ (by_length (layouts_of layouts.old) line.now.is_long line.now.bytes.items).layouts) }
     ensures obeyed { IfOk result (λ obeyed. obeyed
-        ≡ (by_length (model_of layout.old) line.now.is_long line.now.bytes.items).all_obeyed) }
+        ≡ (by_length (layouts_of layouts.old) line.now.is_long line.now.bytes.items).all_obeyed) }
     ensures memory { OnErr result
-        ((by_length (model_of layout.old) line.now.is_long line.now.bytes.items).text ≢ []) }
+        ((by_length (layouts_of layouts.old) line.now.is_long line.now.bytes.items).text ≢ []) }
 {
     if line.is_long {
         print(text, Response::Fault(Fault::LongLine))?;
         return Ok(false);
     }
     let words = first_words(line.bytes.as_slice());
-    let answer = answer_words(alloc, layout, memory, words.as_slice())?;
+    let answer = answer_words(alloc, layouts, memory, words.as_slice())?;
     let obeyed = !matches!(&answer, Response::Fault(_));
     print(text, answer)?;
     Ok(obeyed)
@@ -127,15 +132,15 @@ fn answer_lines<R: BufRead, W: Write>(
     out: &mut W,
 ) -> Result<Ended, Failure>
     ensures whole { OnOk result (IfSome (R.remaining input.old) (λ bytes.
-        Appends (W.contents out.old) (W.contents out.new) (written_for empty_layout (lines_of bytes)))) }
+        Appends (W.contents out.old) (W.contents out.new) (written_for empty_layouts (lines_of bytes)))) }
     ensures front { IfSome (R.remaining input.old) (λ bytes.
-        AppendsFront (W.contents out.old) (W.contents out.new) (written_for empty_layout (lines_of bytes))) }
+        AppendsFront (W.contents out.old) (W.contents out.new) (written_for empty_layouts (lines_of bytes))) }
     ensures answers { IfErr result (λ why. IfSome (R.remaining input.old) (λ bytes.
         Answers why (W.contents out.old) (W.contents out.new) (lines_of bytes))) }
     ensures obeyed { IfOk result (λ ended. IfSome (R.remaining input.old) (λ bytes.
-        ended.all_obeyed ≡ obeyed_for empty_layout (lines_of bytes))) }
+        ended.all_obeyed ≡ obeyed_for empty_layouts (lines_of bytes))) }
 {
-    let mut layout = empty();
+    let mut layouts = empty();
     let mut memory = Memory::new(alloc);
     let mut line = Line::new();
     let mut text = String::new(alloc);
@@ -144,7 +149,7 @@ fn answer_lines<R: BufRead, W: Write>(
         if !line.read(input, out)? {
             return Ok(Ended { all_obeyed });
         }
-        all_obeyed &= answer(alloc, &mut layout, &mut memory, &line, &mut text)?;
+        all_obeyed &= answer(alloc, &mut layouts, &mut memory, &line, &mut text)?;
         match write_front(out, text.as_bytes()) {
             Ok(()) => {}
             Err(error) => return Err(Failure::Write(error)),

@@ -1,11 +1,13 @@
 // Each call of the library, with arguments with which it succeeds.
+use commands::layouts::Layouts;
 use commands::memory::Memory;
 use commands::obey::obey;
 use layouts::{
-    Axis, AxisPair, BytePlace, Call, Judgement, Layout, Reach, ReadingOffset, Viewed, after,
-    checked_col_major_strides, checked_element_count, checked_row_major_strides, fuse_by_numbers,
-    index_order_into, is_injective_axes, is_injective_layout, judge_layout, make_in_place,
-    normal_form, read_record, run, same_readings, step_over, validate_bounds, write_record,
+    Axis, AxisPair, BytePlace, Call, Judgement, Layout, Reach, ReadingOffset, Refusal, Viewed,
+    after, checked_col_major_strides, checked_element_count, checked_row_major_strides, copy,
+    fuse_by_numbers, index_order_into, is_injective_axes, is_injective_layout, judge_layout,
+    make_in_place, normal_form, read_record, run, same_readings, step_over, validate_bounds,
+    write_record,
 };
 use lines::line::Line;
 use lines::write::write_front;
@@ -104,6 +106,28 @@ fn verdicts_and_records(rt: HostRuntime) -> Result<(), Fail> {
 }
 
 #[test]
+fn copies(rt: HostRuntime) -> Result<(), Fail> {
+    let at = ReadingOffset(0);
+    let shots = [1, 2, 3, 4, 5, 6];
+    let mut sheet = [0; 6];
+    // six shots in two columns of three, onto a sheet where each column is a row
+    let columns = Layout::new(6, at, &[2, 3], &[1, 2])?;
+    let rows = Layout::new(6, at, &[2, 3], &[3, 1])?;
+    copy(&columns, &shots, &rows, &mut sheet, &mut [])?;
+    assert_eq!(rt; sheet, [1, 3, 5, 2, 4, 6]);
+    let turned = rows.permute(&[1, 0]).accepted()?;
+    let other_extents = copy(&columns, &[0; 6], &turned, &mut sheet, &mut []);
+    assert_eq!(rt; other_extents, Err(Refusal::ExtentsDiffer));
+    let one_short = copy(&columns, &[0; 5], &rows, &mut sheet, &mut []);
+    assert_eq!(rt; one_short, Err(Refusal::ShortReadings));
+    let shared = Layout::new(6, at, &[2, 3], &[1, 1])?;
+    let on_one_cell = copy(&columns, &[0; 6], &shared, &mut sheet, &mut []);
+    assert_eq!(rt; on_one_cell, Err(Refusal::NotDistinct));
+    assert_eq!(rt; sheet, [1, 3, 5, 2, 4, 6]);
+    Ok(())
+}
+
+#[test]
 fn strides_and_numbers(rt: HostRuntime) -> Result<(), Fail> {
     assert_eq!(rt;
         checked_col_major_strides(&[2, 3, 4])?.as_slice(),
@@ -132,9 +156,13 @@ fn lines_and_commands(rt: HostRuntime) -> Result<(), Fail> {
     let [name, texts @ ..] = words.as_slice() else {
         return Err(Fail::new("a line without words"));
     };
-    let mut layout = Layout::new(6, ReadingOffset(0), &[2, 3], &[1, 2])?;
+    let sheet = Layout::new(6, ReadingOffset(0), &[2, 3], &[1, 2])?;
+    let mut layouts = Layouts {
+        current: sheet,
+        held: sheet,
+    };
     let mut memory = Memory::new(alloc);
-    let Ok(reply) = obey(alloc, &mut layout, &mut memory, *name, texts) else {
+    let Ok(reply) = obey(alloc, &mut layouts, &mut memory, *name, texts) else {
         return Err(Fail::new("a line that is not obeyed"));
     };
     write!(out, "{reply}")?;

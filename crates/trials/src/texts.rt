@@ -35,8 +35,14 @@ fn each_refusal_is_a_sentence(rt: HostRuntime) -> Result<(), Fail> {
         (Refusal::ShortOutput(29), "29 bytes of output are needed"),
         (Refusal::NotARecord, "the bytes are not a record"),
         (Refusal::ExtentsDiffer, "the two layouts differ in extents"),
-        (Refusal::ShortReadings, "a buffer is shorter than its layout needs"),
-        (Refusal::NotDistinct, "the verdict on the destination is not distinct"),
+        (
+            Refusal::ShortReadings,
+            "a buffer is shorter than its layout needs",
+        ),
+        (
+            Refusal::NotDistinct,
+            "the verdict on the destination is not distinct",
+        ),
     ];
     for (why, sentence) in sentences {
         let text = format!(in rt.alloc(); "{why}")?;

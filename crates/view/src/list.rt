@@ -37,6 +37,15 @@ impl Entry for usize {
     ghost prints = { λ _. refl };
 }
 
+impl Entry for i32 {
+    ghost use Rattle.std.specs.Prelude.{refl};
+    ghost use Rattle.std.specs.Fmt.{signed_decimal};
+
+    ghost text = { signed_decimal };
+
+    ghost prints = { λ _. refl };
+}
+
 impl Entry for i64 {
     ghost use Rattle.std.specs.Prelude.{refl};
     ghost use Rattle.std.specs.Fmt.{signed_decimal};

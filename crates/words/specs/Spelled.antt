@@ -1,5 +1,6 @@
--- What texts spell: numbers, pairs of axes, and sizes that are lent. Assumes nothing.
-use Rattle.std.specs.Prelude.{ℕ, ℤ, ◌+◌, List, Option, Some, None, ◌==◌, nat_le, take, drop, if◌then◌else◌}
+-- What texts spell: numbers, pairs of axes, sizes that are lent, and readings. Assumes nothing.
+use Rattle.std.specs.Prelude.{Bool, ℕ, ℤ, pos, negsuc, ◌+◌, ◌-◌, ◌^◌, ◌&&◌, List, Option, Some, None, option_and_then, ◌==◌, nat_le, take, drop, if◌then◌else◌}
+use Rattle.std.specs.Int.Signed.{le_z}
 use Rattle.std.specs.List.{position}
 use Rattle.spelling.specs.Number.{unsigned_of, signed_of}
 use Rattle.view.specs.declared.diagonal.AxisPair.{AxisPair}
@@ -20,6 +21,14 @@ lent_of None = None
 -- a number up to 65536
 abbrev pub lent : List ℕ → Option Lent
 lent text = lent_of (unsigned text)
+
+-- from -2^31 to 2^31 - 1, the range of a reading
+abbrev pub is_reading : ℤ → Bool
+is_reading z = le_z (negsuc (2 ^ 31 - 1)) z && le_z z (pos (2 ^ 31 - 1))
+
+-- a number of 32 bits with its sign
+abbrev pub reading : List ℕ → Option ℤ
+reading text = option_and_then (λ z. if is_reading z then Some z else None) (signed text)
 
 abbrev pub both : Option ℕ → Option ℕ → Option AxisPair
 both (Some a) (Some b) = Some (record { 0 = a; 1 = b })

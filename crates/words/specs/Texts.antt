@@ -11,7 +11,7 @@ use Rattle.words.specs.Shown.{shown}
 use Rattle.words.specs.declared.place.Place.{Place}
 use Rattle.words.specs.declared.place.Place.TheVariants as place
 use Rattle.words.specs.declared.fault.Form.{Form}
-use Rattle.words.specs.declared.fault.Form.TheVariants.{Unsigned, Signed, Pair, Lent}
+use Rattle.words.specs.declared.fault.Form.TheVariants.{Unsigned, Signed, Pair, Lent, Reading}
 use Rattle.words.specs.declared.fault.Fault.{Fault}
 use Rattle.words.specs.declared.fault.Fault.TheVariants.{LongLine, UnknownCommand, UnknownTopic, WordCount, UnequalLists, Misspelled, ManyEntries, OddDigits, BadDigit, TooManyToDraw, Refused}
 
@@ -57,6 +57,8 @@ misfit Signed false = codes " is no number: write digits, as 24 or -24"
 misfit Pair number = codes " is no pair of axes: write a:b, as 0:1"
 misfit Lent true = codes " is outside the range from 0 to 65536"
 misfit Lent false = codes " is no number: write digits, as 24"
+misfit Reading true = codes " is outside the range from -2147483648 to 2147483647"
+misfit Reading false = codes " is no number: write digits, as 24 or -24"
 
 -- an entry that is no number may be several that have no commas between them
 unfoldable pub commas : Bool → List ℕ

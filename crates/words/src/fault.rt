@@ -16,6 +16,7 @@ pub enum Form {
     Signed,
     Pair,
     Lent,
+    Reading,
 }
 
 /// What a line is answered that is not obeyed.

@@ -57,8 +57,9 @@ impl fmt::Display for Misfit<'_> {
                 " is outside the range from -9223372036854775808 to 9223372036854775807"
             }
             (Form::Lent, true) => " is outside the range from 0 to 65536",
+            (Form::Reading, true) => " is outside the range from -2147483648 to 2147483647",
             (Form::Unsigned | Form::Lent, false) => " is no number: write digits, as 24",
-            (Form::Signed, false) => " is no number: write digits, as 24 or -24",
+            (Form::Signed | Form::Reading, false) => " is no number: write digits, as 24 or -24",
             (Form::Pair, _) => " is no pair of axes: write a:b, as 0:1",
         })
     }

@@ -1,8 +1,8 @@
 // What a word, or an entry of a list, can spell.
 ghost use Rattle.std.specs.Prelude.{◌≡◌, ◌<◌, List, ℕ, Option, IfSome, length};
 ghost use Rattle.words.specs.declared.fault.Form.{Form};
-ghost use Rattle.words.specs.declared.fault.Form.TheVariants.{Unsigned, Signed, Pair, Lent as lent_form};
-ghost use Rattle.words.specs.Spelled.{unsigned, signed, lent, colon, pair};
+ghost use Rattle.words.specs.declared.fault.Form.TheVariants.{Unsigned, Signed, Pair, Lent as lent_form, Reading};
+ghost use Rattle.words.specs.Spelled.{unsigned, signed, lent, reading, colon, pair};
 
 use crate::fault::Form;
 use spelling::number::{read_signed, read_unsigned};
@@ -115,5 +115,20 @@ impl Spelled for Lent {
         } else {
             None
         }
+    }
+}
+
+// A reading of a buffer.
+impl Spelled for i32 {
+    ghost spelled = { reading };
+
+    ghost form = { Reading };
+
+    fn form() -> Form {
+        Form::Reading
+    }
+
+    fn read(text: &[u8]) -> Option<i32> {
+        i32::try_from(i64::read(text)?).ok()
     }
 }

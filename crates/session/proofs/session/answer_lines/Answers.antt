@@ -5,7 +5,7 @@ use Rattle.session.proofs.Owed.{at_start, kept, answers, writes, writes-front, f
 use Rattle.session.proofs.session.answer_lines.Goals as goal
 
 pub loop-init : goal.loop-init
-loop-init g c = rw c.empty-layout.ensures (at_start (g.R.Read.remaining c.args.input.now) (g.W.Write.contents c.args.out.now))
+loop-init g c = rw c.empty-layouts.ensures (at_start (g.R.Read.remaining c.args.input.now) (g.W.Write.contents c.args.out.now))
 
 pub returns-in_err-read-clause-front : goal.returns-in_err-read-clause-front
 returns-in_err-read-clause-front g c = front _ _ _ _ _ _ (kept _ _ _ _ _ _ _ c.loop.invariant c.in_err-read.ensures.kept)
@@ -23,27 +23,27 @@ returns-in_err-all_obeyed-clause-front g c = front _ _ _ _ _ _ (kept _ _ _ _ _ _
 pub returns-in-Err-clause-front : goal.returns-in-Err-clause-front
 returns-in-Err-clause-front g c =
     let more = rw c.if-not-branch.false at c.in_ok-read.ensures.more in
-    let owed = answers _ _ _ _ _ _ _ _ _ _ (kept _ _ _ _ _ _ _ c.loop.invariant c.in_ok-read.ensures.kept) more c.in_ok-read.ensures.line c.in_ok-read.ensures.rest c.in_ok-all_obeyed.ensures.text c.in_ok-all_obeyed.ensures.layout c.in_ok-all_obeyed.ensures.obeyed in
+    let owed = answers _ _ _ _ _ _ _ _ _ _ (kept _ _ _ _ _ _ _ c.loop.invariant c.in_ok-read.ensures.kept) more c.in_ok-read.ensures.line c.in_ok-read.ensures.rest c.in_ok-all_obeyed.ensures.text c.in_ok-all_obeyed.ensures.layouts c.in_ok-all_obeyed.ensures.obeyed in
     writes-front _ _ _ _ _ _ _ owed (rw c.as_bytes.ensures.value at c.write_front.ensures.front)
 
 pub returns-then-line-clause-whole : goal.returns-then-line-clause-whole
 returns-then-line-clause-whole g c =
     let more = rw c.if-not-branch.false at c.in_ok-read.ensures.more in
-    let owed = answers _ _ _ _ _ _ _ _ _ _ (kept _ _ _ _ _ _ _ c.loop.invariant c.in_ok-read.ensures.kept) more c.in_ok-read.ensures.line c.in_ok-read.ensures.rest c.in_ok-all_obeyed.ensures.text c.in_ok-all_obeyed.ensures.layout c.in_ok-all_obeyed.ensures.obeyed in
+    let owed = answers _ _ _ _ _ _ _ _ _ _ (kept _ _ _ _ _ _ _ c.loop.invariant c.in_ok-read.ensures.kept) more c.in_ok-read.ensures.line c.in_ok-read.ensures.rest c.in_ok-all_obeyed.ensures.text c.in_ok-all_obeyed.ensures.layouts c.in_ok-all_obeyed.ensures.obeyed in
     let text = rw c.as_bytes.ensures.value at c.in-Ok.ensures.all in
     whole _ _ _ _ _ (kept _ _ _ _ _ _ _ (writes _ _ _ _ _ _ _ owed text) c.flush.ensures.bytes) (at_last _ _ _ _ _ _ _ c.loop.invariant (c.in_ok-read.ensures.last c.if-line.true))
 
 pub returns-then-line-clause-front : goal.returns-then-line-clause-front
 returns-then-line-clause-front g c =
     let more = rw c.if-not-branch.false at c.in_ok-read.ensures.more in
-    let owed = answers _ _ _ _ _ _ _ _ _ _ (kept _ _ _ _ _ _ _ c.loop.invariant c.in_ok-read.ensures.kept) more c.in_ok-read.ensures.line c.in_ok-read.ensures.rest c.in_ok-all_obeyed.ensures.text c.in_ok-all_obeyed.ensures.layout c.in_ok-all_obeyed.ensures.obeyed in
+    let owed = answers _ _ _ _ _ _ _ _ _ _ (kept _ _ _ _ _ _ _ c.loop.invariant c.in_ok-read.ensures.kept) more c.in_ok-read.ensures.line c.in_ok-read.ensures.rest c.in_ok-all_obeyed.ensures.text c.in_ok-all_obeyed.ensures.layouts c.in_ok-all_obeyed.ensures.obeyed in
     let text = rw c.as_bytes.ensures.value at c.in-Ok.ensures.all in
     front _ _ _ _ _ _ (kept _ _ _ _ _ _ _ (writes _ _ _ _ _ _ _ owed text) c.flush.ensures.bytes)
 
 pub loop-preserved : goal.loop-preserved
 loop-preserved g c =
     let more = rw c.if-not-branch.false at c.in_ok-read.ensures.more in
-    let owed = answers _ _ _ _ _ _ _ _ _ _ (kept _ _ _ _ _ _ _ c.loop.invariant c.in_ok-read.ensures.kept) more c.in_ok-read.ensures.line c.in_ok-read.ensures.rest c.in_ok-all_obeyed.ensures.text c.in_ok-all_obeyed.ensures.layout c.in_ok-all_obeyed.ensures.obeyed in
+    let owed = answers _ _ _ _ _ _ _ _ _ _ (kept _ _ _ _ _ _ _ c.loop.invariant c.in_ok-read.ensures.kept) more c.in_ok-read.ensures.line c.in_ok-read.ensures.rest c.in_ok-all_obeyed.ensures.text c.in_ok-all_obeyed.ensures.layouts c.in_ok-all_obeyed.ensures.obeyed in
     let text = rw c.as_bytes.ensures.value at c.in-Ok.ensures.all in
     writes _ _ _ _ _ _ _ owed text
 
@@ -67,13 +67,13 @@ returns-then-not-branch-clause-obeyed g c =
 pub returns-in_err-map_err-clause-front : goal.returns-in_err-map_err-clause-front
 returns-in_err-map_err-clause-front g c =
     let more = rw c.if-not-branch.false at c.in_ok-read.ensures.more in
-    let owed = answers _ _ _ _ _ _ _ _ _ _ (kept _ _ _ _ _ _ _ c.loop.invariant c.in_ok-read.ensures.kept) more c.in_ok-read.ensures.line c.in_ok-read.ensures.rest c.in_ok-all_obeyed.ensures.text c.in_ok-all_obeyed.ensures.layout c.in_ok-all_obeyed.ensures.obeyed in
+    let owed = answers _ _ _ _ _ _ _ _ _ _ (kept _ _ _ _ _ _ _ c.loop.invariant c.in_ok-read.ensures.kept) more c.in_ok-read.ensures.line c.in_ok-read.ensures.rest c.in_ok-all_obeyed.ensures.text c.in_ok-all_obeyed.ensures.layouts c.in_ok-all_obeyed.ensures.obeyed in
     let text = rw c.as_bytes.ensures.value at c.in-Ok.ensures.all in
     front _ _ _ _ _ _ (kept _ _ _ _ _ _ _ (writes _ _ _ _ _ _ _ owed text) c.flush.ensures.bytes)
 
 pub returns-then-line-clause-obeyed : goal.returns-then-line-clause-obeyed
 returns-then-line-clause-obeyed g c =
     let more = rw c.if-not-branch.false at c.in_ok-read.ensures.more in
-    let owed = answers _ _ _ _ _ _ _ _ _ _ (kept _ _ _ _ _ _ _ c.loop.invariant c.in_ok-read.ensures.kept) more c.in_ok-read.ensures.line c.in_ok-read.ensures.rest c.in_ok-all_obeyed.ensures.text c.in_ok-all_obeyed.ensures.layout c.in_ok-all_obeyed.ensures.obeyed in
+    let owed = answers _ _ _ _ _ _ _ _ _ _ (kept _ _ _ _ _ _ _ c.loop.invariant c.in_ok-read.ensures.kept) more c.in_ok-read.ensures.line c.in_ok-read.ensures.rest c.in_ok-all_obeyed.ensures.text c.in_ok-all_obeyed.ensures.layouts c.in_ok-all_obeyed.ensures.obeyed in
     let text = rw c.as_bytes.ensures.value at c.in-Ok.ensures.all in
     whole_told _ _ _ _ _ _ (writes _ _ _ _ _ _ _ owed text) (at_last _ _ _ _ _ _ _ c.loop.invariant (c.in_ok-read.ensures.last c.if-line.true))
