@@ -18,7 +18,7 @@ use Rattle.specification.proofs.JudgeLaws.{Judging, is_judged, too_few, judging}
 use Rattle.specification.proofs.VerdictLaws.{verdict_claims}
 use Rattle.specification.proofs.VerdictRefusals.{Refusal, judge-refused}
 use Rattle.specification.proofs.ReadingLaws.{cell_at-below, cell-offset, cells-apart}
-use Rattle.copying.proofs.CopyLaws.{length-copies, slice_get-copies_other, slice_get-copies_written}
+use Rattle.copying.proofs.CopiesLaws.{length-copies, slice_get-copies_other, slice_get-copies_written}
 use Rattle.copying.proofs.CopyHanded.{SuitRefused, handed-answers, not-held}
 
 -- ---- the verdict, and 14
@@ -183,6 +183,7 @@ copy_claims = record {
       );
   others = λ s d from to i f. slice_get-copies_other (cell_at s) (cell_at d) from (positions d.axes) to i f;
   as_long = λ s d from to. length-copies (cell_at s) (cell_at d) from (positions d.axes) to;
+  refused_leaves = λ s d from to number values. refl;
   frees = frees;
   frees_none = frees-none;
 }

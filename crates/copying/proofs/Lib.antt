@@ -1,9 +1,10 @@
 -- The laws of copying, lowest first.
-pub mod CopyLaws
+pub mod CopiesLaws
 mod CopyHanded
 mod CopyAnswers
 mod ComputedCopies
-mod CopyingLaws
+mod FrontLaws
+mod RowsLaws
 mod SweepLaws
 mod SheetsLaws
 mod SameExtents

@@ -1,4 +1,4 @@
--- The sheets of two suited layouts: as many on both sides, as large, and in their buffers.
+-- The sheets of two suited layouts: on both sides as many, as large, and in their buffers.
 use Rattle.std.proofs.Common.{◌≡◌, refl, sym, ap, ◌∙◌, ℕ, ◌*◌, ◌<◌, List, [], ◌∷◌, ◌++◌, ℤ, arith}
 use Rattle.std.proofs.lemmas.Int.{ints}
 use Rattle.specification.specs.Axis.{Axis, positions, product, extents}
@@ -8,9 +8,9 @@ use Rattle.specification.proofs.ReadingLaws.{cell_at-below}
 use Rattle.copying.specs.declared.sheets.Sheets.{Sheets}
 use Rattle.copying.specs.Copy.{copies}
 use Rattle.copying.specs.Sheets.{IsPlacedIn, axes_of, places_of, positions_of, sheet_axes, AreSheetsOf, AreAlike}
-use Rattle.copying.proofs.CopyingLaws.{copies-same}
+use Rattle.copying.proofs.CopiesLaws.{copies-same}
 use Rattle.copying.proofs.SheetsLaws.{sheet-positions, walkable}
-use Rattle.copying.proofs.SweepLaws.{positions-front}
+use Rattle.copying.proofs.FrontLaws.{positions-front}
 
 sheet-extents : (xs ys : List Axis) → extents xs ≡ extents ys → extents (sheet_axes xs) ≡ extents (sheet_axes ys)
 sheet-extents [] [] e = refl

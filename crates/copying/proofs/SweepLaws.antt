@@ -1,81 +1,12 @@
--- Copies of the places of some front axes, from each position of the others on: one more of these, and walks on both sides.
-use Rattle.std.proofs.Common.{Bool, true, false, ◌≡◌, refl, sym, ap, ◌∙◌, ℕ, ◌+◌, ◌*◌, ◌<◌, List, [], ◌∷◌, ◌++◌, length, ℤ, mul-le-mul_left, mod-eq_of_lt, arith}
-use Rattle.std.proofs.lemmas.Int.{ints}
+-- The sheets of two layouts: copied by two walks side by side, or at once if there is one.
+use Rattle.std.proofs.Common.{Bool, true, false, ◌≡◌, refl, sym, ap, ◌∙◌, ℕ, ◌+◌, ◌*◌, ◌<◌, List, [], ◌∷◌, length, ℤ, arith}
 use Rattle.std.specs.Prelude.{if◌then◌else◌}
 use Rattle.specification.specs.Axis.{Axis, positions, product, extents}
-use Rattle.positions.specs.Positions.{PositionAt, place_at, words_at, word_of}
-use Rattle.positions.specs.Runs.{run_at, IsRunIn}
-use Rattle.positions.proofs.RunLaws.{place-front}
+use Rattle.positions.specs.Positions.{PositionAt, place_at}
 use Rattle.copying.specs.Copy.{copies}
-use Rattle.copying.specs.Sheets.{IsPlacedIn, axes_of, places_of, positions_of, AreAlike}
+use Rattle.copying.specs.Sheets.{axes_of, places_of, positions_of, AreAlike}
 use Rattle.copying.specs.declared.sheets.Sheets.{Sheets}
-use Rattle.copying.proofs.CopyingLaws.{copies-same, copies-split}
-
-pub positions-front : (xs ys : List Axis) → positions (xs ++ ys) ≡ positions xs * positions ys
-unfolding product
-positions-front [] ys = omega arith
-positions-front (a ∷ xs) ys = omega (arith, ap (λ (n : ℕ). a.extent * n) (positions-front xs ys))
-
--- the front axes at position r of the others are in a list that has all places
-pub front-placed : (start : ℕ) (xs ys : List Axis) (size r place : ℕ) → IsPlacedIn start (xs ++ ys) size → r < positions ys → place ≡ place_at start ys r → IsPlacedIn place xs size
-front-placed start xs ys size r place f h p k i =
-    rw (p, ← place-front start xs ys r k i) (f (k + positions xs * r) (rw (positions-front xs ys) (omega (arith, i, mul-le-mul_left (positions xs) h))))
-
--- copies of the front axes at one position more of the others
-pub copies-front : (s d : ℕ) (xs xs' ys ys' : List Axis) (from : List ℤ) (r : ℕ) (to : List ℤ) → positions xs' ≡ positions xs
-    → copies (place_at (place_at s ys r) xs) (place_at (place_at d ys' r) xs') from (positions xs) (copies (place_at s (xs ++ ys)) (place_at d (xs' ++ ys')) from (positions xs * r) to)
-    ≡ copies (place_at s (xs ++ ys)) (place_at d (xs' ++ ys')) from (positions xs * (r + 1)) to
-copies-front s d xs xs' ys ys' from r to e =
-    let m = positions xs in
-    let n : m * (r + 1) ≡ m + m * r = omega arith in
-    let f = place_at s (xs ++ ys) in
-    let g = place_at d (xs' ++ ys') in
-    rw n (
-    copies-same _ (λ i. f (i + m * r)) _ (λ i. g (i + m * r)) from m _
-    (λ i h. sym (place-front s xs ys r i h))
-    (λ i h. sym (ap (λ (x : ℕ). g (i + x * r)) (sym e) ∙ place-front d xs' ys' r i (omega (arith, e, h))))
-    ∙ sym (copies-split f g from (m * r) m to)
-    )
-
--- ---- rows: runs along a first axis from each index of a second
-
-axis-place : (place : ℕ) (a : Axis) (i : ℕ) → i < a.extent → place_at place (a ∷ []) i ≡ run_at place (word_of a.stride) i
-unfolding place_at words_at
-axis-place place a i h = rw (mod-eq_of_lt h) (omega arith)
-
-alone : (a : Axis) → positions (a ∷ []) ≡ a.extent
-unfolding product
-alone a = omega arith
-
-module _ (place : ℕ) (run rows : Axis) (j : ℕ) (h : j < rows.extent) where
-  row-place : run_at place (word_of rows.stride) j ≡ place_at place (rows ∷ []) j
-  row-place = sym (axis-place place rows j h)
-
-  pub row-placed : (size : ℕ) → IsPlacedIn place (run ∷ rows ∷ []) size → IsRunIn (run_at place (word_of rows.stride) j) (word_of run.stride) run.extent size
-  row-placed size f i k =
-      let front = front-placed place (run ∷ []) (rows ∷ []) size j (run_at place (word_of rows.stride) j) f (rw (alone rows) h) row-place in
-      rw (← axis-place (run_at place (word_of rows.stride) j) run i k) (front i (rw (alone run) k))
-
--- the same extents, axis by axis
-pub same-extents : {a b c d : ℕ} → a ∷ b ∷ [] ≡ c ∷ d ∷ [] → (a ≡ c) × (b ≡ d)
-same-extents e = grind (arith, ints, e)
-
--- the copies of the rows before j, and of row j
-module _ (place into : ℕ) (run rows run' rows' : Axis) (from to : List ℤ) where
-  abbrev pub rows_copied : ℕ → List ℤ
-  rows_copied j = copies (place_at place (run ∷ rows ∷ [])) (place_at into (run' ∷ rows' ∷ [])) from (run.extent * j) to
-
-  pub row-copied : (j : ℕ) → j < rows.extent → extents (run' ∷ rows' ∷ []) ≡ extents (run ∷ rows ∷ [])
-      → copies (run_at (run_at place (word_of rows.stride) j) (word_of run.stride)) (run_at (run_at into (word_of rows'.stride) j) (word_of run'.stride)) from run.extent (rows_copied j) ≡ rows_copied (j + 1)
-  row-copied j h e =
-      let w = same-extents e in
-      let k : j < rows'.extent = omega (arith, h, w.1) in
-      copies-same _ _ _ _ from run.extent (rows_copied j)
-      (λ i l. rw (row-place place run rows j h) (sym (axis-place _ run i l)))
-      (λ i l. rw (row-place into run' rows' j k) (sym (axis-place _ run' i (omega (arith, l, w.0)))))
-      ∙ ap (λ (n : ℕ). copies (place_at (place_at place (rows ∷ []) j) (run ∷ [])) (place_at (place_at into (rows' ∷ []) j) (run' ∷ [])) from n (copies (place_at place (run ∷ rows ∷ [])) (place_at into (run' ∷ rows' ∷ [])) from (n * j) to)) (sym (alone run))
-      ∙ copies-front place into (run ∷ []) (run' ∷ []) (rows ∷ []) (rows' ∷ []) from j to (alone run' ∙ w.0 ∙ sym (alone run))
-      ∙ ap (λ (n : ℕ). copies (place_at place (run ∷ rows ∷ [])) (place_at into (run' ∷ rows' ∷ [])) from (n * (j + 1)) to) (alone run)
+use Rattle.copying.proofs.FrontLaws.{copies-front}
 
 -- ---- two walks side by side, from the first position of the others on
 
@@ -140,15 +71,6 @@ module _ (source destination : Sheets) (from before : List ℤ) where
       gone : (b : Bool) → more ≡ b → passed more at' source.others.now ≡ at.number + 1
       gone true m = rw m (on m)
       gone false m = rw m (omega (arith, last m, ap positions w.axes))
-
--- no row is copied, and every one
-pub no-row : (place into : ℕ) (run rows run' rows' : Axis) (from to : List ℤ) → to ≡ rows_copied place into run rows run' rows' from to 0
-unfolding copies
-no-row place into run rows run' rows' from to = let n : run.extent * 0 ≡ 0 = omega arith in rw n refl
-
-pub all-rows : (run rows : Axis) → run.extent * rows.extent ≡ positions (run ∷ rows ∷ [])
-unfolding product
-all-rows run rows = omega arith
 
 -- ---- one sheet
 

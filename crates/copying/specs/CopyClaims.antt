@@ -56,7 +56,9 @@ pub record CopyClaims : Type 0 where
   pub others : (s d : LayoutModel) (from to : List ℤ) (i : ℕ) → ((k : ℕ) → k < positions d.axes → cell_at d k ≢ i)
       → slice_get (copy_after pass s d from to) i ≡ slice_get to i
   pub as_long : (s d : LayoutModel) (from to : List ℤ) → length (copy_after pass s d from to) ≡ length to
-  -- the words that the verdict needed are free afterwards, also where it is not Distinct; none on any other refusal
+  -- a refusal leaves every reading
+  pub refused_leaves : (s d : LayoutModel) (from to : List ℤ) (number : ℕ) (values : List ℕ) → copy_after (refused number values) s d from to ≡ to
+  -- the words that the verdict needed are free afterwards, also if it is not Distinct; none on any other refusal
   pub frees : (s d : LayoutModel) (readings room words : ℕ) (j : Judged) → IsSuited s d readings room → judge d.axes words ≡ done j → copy_frees s d readings room words ≡ words_needed d.axes
   pub frees_none : (s d : LayoutModel) (readings room words number : ℕ) (values : List ℕ) → copy_refusal s d readings room words ≡ refused number values → number ≢ 14
       → copy_frees s d readings room words ≡ 0

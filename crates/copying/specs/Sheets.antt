@@ -42,7 +42,7 @@ pub record AreSheetsOf (l : LayoutModel) (sheets : Sheets) : Type 0 where
   pub axes : all_axes sheets ≡ sheet_axes l.axes
   pub places : (k : ℕ) → k < positions l.axes → places_of sheets k ≡ cell_at l k
 
--- sheets that can be copied into others: neither is empty, and both have the same extents
+-- sheets that can be copied into others: both have the same extents, and none of these is 0
 pub record AreAlike (source destination : Sheets) : Type 0 where
   pub long : 0 < source.sheet.run.extent
   pub walkable : IsWalkable source.others.now

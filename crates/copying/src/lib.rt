@@ -1,8 +1,11 @@
 //! Copying readings from one buffer to another, each through a layout.
 //!
 //! The readings are copied run by run along the first axis. A step along a run is two additions, or
-//! the whole run is one copy of memory if it is dense on both sides; nothing is divided. Nothing is
-//! allocated.
+//! the whole run is one copy of memory if it is dense on both sides. Nothing is divided, and nothing
+//! is allocated.
+//!
+//! `copy` says that it is right: its answer, the destination and the scratch are what the
+//! definitions of `Copy` say. What those mean is `CopyClaims`, which `copies_hold` promises.
 #![tactic(auto)]
 
 mod runs;
@@ -38,9 +41,9 @@ fn have_same_extents(source: &Layout, destination: &Layout) -> bool
     source.extents().eq(destination.extents())
 }
 
+/// The reach of the destination, unless something is refused before the verdict: 1 and 3 of either
+/// layout, 12 for extents that differ, 13 for a buffer that is too short.
 #[tactic(auto, using(crate::proofs::SuitedLaws::not_handed, crate::proofs::SuitedLaws::extents_differ, crate::proofs::SuitedLaws::source_short, crate::proofs::SuitedLaws::destination_short, crate::proofs::SuitedLaws::suited, crate::proofs::SuitedLaws::reach_is))]
-/// The reach of the destination, unless something is refused before the verdict: 1 and 3 of either layout, 12 for extents that
-/// differ, 13 for a buffer that is too short.
 fn suited_reach(
     source: &Layout,
     readings: usize,
@@ -75,7 +78,7 @@ fn refuse_shared(destination: &Layout, scratch: &mut [u64]) -> Result<(), Refusa
     }
 }
 
-/// Copies the reading of each position.
+/// Copies the reading of each position; there is one.
 fn copy_positions(source: &Layout, from: &[i32], destination: &Layout, to: &mut [i32])
     requires some { 0 < positions (model_of destination.now).axes }
     requires suited { IsSuited (model_of source.now) (model_of destination.now) (length from.now) (length to.old) }

@@ -10,22 +10,21 @@ pub(crate) struct Run {
     pub(crate) step: u64,
 }
 
-/// Copies readings along a run on each side. The sums wrap, as a negative step does.
+/// Copies the readings of a run one by one. The sums wrap: a step below 0 is a large word.
 fn copy_strided(from: &[i32], source: Run, to: &mut [i32], destination: Run, count: u64)
     requires in_source { IsRunIn source.place source.step count (length from.now) }
     requires in_destination { IsRunIn destination.place destination.step count (length to.old) }
     ensures { to.new ≡ copies (run_at source.place source.step) (run_at destination.place destination.step) from.now count to.old }
 {
-    let mut s = source.place;
-    let mut d = destination.place;
+    let (mut place, mut into) = (source.place, destination.place);
     for _i in 0..count {
-        to[d as usize] = from[s as usize];
-        s = s.wrapping_add(source.step);
-        d = d.wrapping_add(destination.step);
+        to[into as usize] = from[place as usize];
+        place = place.wrapping_add(source.step);
+        into = into.wrapping_add(destination.step);
     }
 }
 
-/// Copies readings that stand side by side on both sides.
+/// Copies readings that stand side by side in both buffers.
 fn copy_dense(from: &[i32], source: usize, to: &mut [i32], destination: usize, count: usize)
     requires in_source { source + count ≤ length from.now }
     requires in_destination { destination + count ≤ length to.old }
@@ -34,7 +33,7 @@ fn copy_dense(from: &[i32], source: usize, to: &mut [i32], destination: usize, c
     to[destination..destination + count].copy_from_slice(&from[source..source + count]);
 }
 
-/// Copies a run: as one part of the buffers if both steps are 1.
+/// Copies a run: at once if its readings stand side by side in both buffers, else one by one.
 pub(crate) fn copy_run(from: &[i32], source: Run, to: &mut [i32], destination: Run, count: u64)
     requires some { 0 < count }
     requires in_source { IsRunIn source.place source.step count (length from.now) }

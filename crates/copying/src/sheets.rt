@@ -1,4 +1,5 @@
-//! Readings copied sheet by sheet: the first two axes of both layouts, from each position of the others.
+//! Readings copied sheet by sheet: a sheet is the first two axes of a layout, and there is one from
+//! each position of the other axes on.
 ghost use Rattle.std.specs.Prelude.{◌≡◌, ◌<◌, ◌++◌, length, All};
 ghost use Rattle.specification.specs.Axis.{extents, positions};
 ghost use Rattle.specification.specs.Layout.{IsAccepted};
@@ -12,14 +13,14 @@ use axis::Axis;
 use positions::{Positions, strides_fit};
 use view::layout::Layout;
 
-/// Two axes: rows one after another, and the run along each.
+/// Two axes: the run along each row, and from each row to the next.
 #[derive(Clone, Copy)]
 struct Sheet {
     run: Axis,
     rows: Axis,
 }
 
-/// Copies a sheet, row by row, from a place on each side.
+/// Copies a sheet row by row, from a place in each buffer on.
 fn copy_rows(from: &[i32], source: Sheet, place: u64, to: &mut [i32], destination: Sheet, into: u64)
     requires some { 0 < source.run.extent }
     requires alike { extents (axes_of destination) ≡ extents (axes_of source) }
@@ -45,7 +46,7 @@ fn copy_rows(from: &[i32], source: Sheet, place: u64, to: &mut [i32], destinatio
     }
 }
 
-/// The first two axes, and the others. An axis that is missing is one with one index.
+/// The first two axes, and the others. For an axis that is missing there is one with one index.
 fn sheet_and_others(axes: &[Axis]) -> (Sheet, &[Axis])
     ensures axes { axes_of result.0 ++ result.1.now ≡ sheet_axes axes.now }
     ensures fit { All StrideFits axes.now }
@@ -80,7 +81,7 @@ fn sheet_and_others(axes: &[Axis]) -> (Sheet, &[Axis])
     }
 }
 
-/// The sheets of a layout: the first two axes, from each position of the others.
+/// The sheets of a layout: its first two axes, the others, and the place of the first position.
 #[derive(Clone, Copy)]
 pub(crate) struct Sheets<'a> {
     sheet: Sheet,
@@ -89,7 +90,7 @@ pub(crate) struct Sheets<'a> {
 }
 
 impl<'a> Sheets<'a> {
-    /// Those of a layout that has a position.
+    /// The sheets of a layout that has a position.
     pub(crate) fn of(layout: &'a Layout) -> Sheets<'a>
         requires accepted { IsAccepted (model_of layout.now) }
         requires some { 0 < positions (model_of layout.now).axes }
@@ -104,8 +105,8 @@ impl<'a> Sheets<'a> {
     }
 }
 
-/// Copies the sheets of two layouts with the same extents, of which none is 0, one after another. It is a call of its own, so that
-/// a copy of one sheet has no room for two walks to set up.
+/// Copies the sheets of two layouts one after another; their extents are the same, and none is 0. It
+/// is a call of its own, so that a copy of one sheet need not set up room for two walks.
 #[inline(never)]
 fn copy_walked<'a>(from: &[i32], source: Sheets<'a>, to: &mut [i32], destination: Sheets<'a>)
     requires suited { AreAlike source destination }
@@ -130,7 +131,8 @@ fn copy_walked<'a>(from: &[i32], source: Sheets<'a>, to: &mut [i32], destination
     }
 }
 
-/// Copies every position of two layouts with the same extents, of which none is 0. One sheet needs no walk.
+/// Copies every position of two layouts; their extents are the same, and none is 0. One sheet needs
+/// no walk.
 pub(crate) fn copy_sheets<'a>(
     from: &[i32],
     source: Sheets<'a>,

@@ -2,7 +2,7 @@
 use Rattle.std.proofs.Common.{rules, ◌≡◌, ◌∙◌, refl, sym, ap, ℕ, pos, take, drop, length, arith}
 use Rattle.std.proofs.lemmas.Slice.{put_mid-paste}
 use Rattle.std.proofs.lemmas.List.{get_or-drop, get_or-take}
-use Rattle.copying.proofs.CopyingLaws.{copies-dense}
+use Rattle.copying.proofs.CopiesLaws.{copies-dense}
 use Rattle.copying.proofs.runs.copy_dense.Goals as goal
 
 pub returns : goal.returns

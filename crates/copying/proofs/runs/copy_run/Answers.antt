@@ -1,7 +1,8 @@
 -- A dense run is a part of its list on both sides.
 use Rattle.std.proofs.Common.{◌<◌, ◌^◌, ◌∙◌, length, rules}
 use Rattle.positions.specs.Runs.{IsRunIn}
-use Rattle.copying.proofs.CopyingLaws.{dense-within, run-dense, copies-same}
+use Rattle.positions.proofs.RunLaws.{dense-within, run-dense}
+use Rattle.copying.proofs.CopiesLaws.{copies-same}
 use Rattle.copying.proofs.runs.copy_run.Goals as goal
 
 pub copy_dense-requires-clause-in_source : goal.copy_dense-requires-clause-in_source

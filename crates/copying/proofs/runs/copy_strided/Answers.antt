@@ -1,6 +1,6 @@
 use Rattle.std.proofs.Common.{refl, to_z-of_z, arith, rules}
 use Rattle.positions.proofs.RunLaws.{run_at-zero, run_at-add_one}
-use Rattle.copying.proofs.CopyingLaws.{copies-add_one}
+use Rattle.copying.proofs.CopiesLaws.{copies-add_one}
 use Rattle.copying.specs.Copy.{copies}
 use Rattle.copying.proofs.runs.copy_strided.Goals as goal
 

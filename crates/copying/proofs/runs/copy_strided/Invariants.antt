@@ -6,6 +6,6 @@ use Rattle.copying.proofs.runs.copy_strided.Given as goal
 -- both places are those of the next reading, and the readings before it are copied
 abbrev pub invariant-loop-i : goal.invariant-loop-i
 invariant-loop-i l =
-    (l.s ≡ run_at l.source.place l.source.step l._i)
-    × (l.d ≡ run_at l.destination.place l.destination.step l._i)
+    (l.place ≡ run_at l.source.place l.source.step l._i)
+    × (l.into ≡ run_at l.destination.place l.destination.step l._i)
     × (l.to ≡ copies (run_at l.source.place l.source.step) (run_at l.destination.place l.destination.step) l.from l._i l.initial.to)

@@ -4,7 +4,7 @@ use Rattle.positions.proofs.RunLaws.{run_at-zero, run_at-add_one}
 use Rattle.positions.specs.Positions.{word_of, place_at}
 use Rattle.copying.specs.Copy.{copies}
 use Rattle.copying.specs.Sheets.{axes_of}
-use Rattle.copying.proofs.SweepLaws.{rows_copied, same-extents, row-placed, row-copied, no-row, all-rows}
+use Rattle.copying.proofs.RowsLaws.{rows_copied, same-extents, row-placed, row-copied, no-row, all-rows}
 use Rattle.copying.proofs.sheets.copy_rows.Goals as goal
 
 pub loop-j-init : goal.loop-j-init

@@ -2,7 +2,7 @@
 use Rattle.std.proofs.Common.{◌≡◌}
 use Rattle.positions.specs.Positions.{word_of}
 use Rattle.positions.specs.Runs.{run_at}
-use Rattle.copying.proofs.SweepLaws.{rows_copied}
+use Rattle.copying.proofs.RowsLaws.{rows_copied}
 use Rattle.copying.proofs.sheets.copy_rows.Given as goal
 
 abbrev pub invariant-loop-j : goal.invariant-loop-j

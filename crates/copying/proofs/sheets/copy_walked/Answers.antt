@@ -2,7 +2,8 @@
 use Rattle.std.proofs.Common.{◌∙◌, refl, ap, length, arith}
 use Rattle.specification.specs.Axis.{product}
 use Rattle.copying.specs.Sheets.{axes_of}
-use Rattle.copying.proofs.SweepLaws.{swept-none, front-placed, swept-on}
+use Rattle.copying.proofs.SweepLaws.{swept-none, swept-on}
+use Rattle.copying.proofs.FrontLaws.{front-placed}
 use Rattle.copying.proofs.sheets.copy_walked.Goals as goal
 
 pub loop-more-init : goal.loop-more-init

@@ -1,5 +1,8 @@
--- Readings copied in turn, place by place: where each of them ends up if no two places are one, and what stays.
-use Rattle.std.specs.Prelude.{◌≢◌, ◌≡◌, List, ℕ, zero, suc, ◌<◌, ℤ, pos, length, get_or, set, slice_get, slice_index_or, Some}
+-- The laws of `copies`, readings copied in turn from place to place: one more, those of a part in a row, and what stands at each place.
+use Rattle.std.specs.Prelude.{◌≢◌, ◌≡◌, List, ℕ, zero, suc, ◌+◌, ◌<◌, ◌≤◌, ℤ, pos, length, get_or, set, slice_get, slice_set, slice_index_or, Some}
+use Rattle.std.proofs.Common.{add-one}
+use Rattle.std.proofs.Math.Seq.{paste}
+use Rattle.std.proofs.lemmas.List.Edits.{paste_none, paste_more}
 use mathlib.Core.Path.{refl, sym, ap, ◌∙◌}
 use native.Mathlib.Decide.{ℕ_discrete, dec_lt}
 use native.Mathlib.Omega.{arith}
@@ -7,6 +10,39 @@ use lib.ListN.{length-set}
 use lib.Seq.{get_or-set_same, get_or-set_other}
 use Rattle.std.proofs.lemmas.Option.{slice_get-get_or, slice_get_past}
 use Rattle.copying.specs.Copy.{copies}
+
+-- one more
+pub copies-add_one : (source destination : ℕ → ℕ) (from : List ℤ) (k : ℕ) (to : List ℤ)
+    → copies source destination from (k + 1) to ≡ slice_set (copies source destination from k to) (destination k) (slice_index_or from (source k) (pos 0))
+unfolding copies
+copies-add_one source destination from k to = rw (add-one k) refl
+
+-- m of them, and then n more
+pub copies-split : (source destination : ℕ → ℕ) (from : List ℤ) (m n : ℕ) (to : List ℤ)
+    → copies source destination from (n + m) to ≡ copies (λ i. source (i + m)) (λ i. destination (i + m)) from n (copies source destination from m to)
+unfolding copies
+copies-split source destination from m zero to = let e : 0 + m ≡ m = omega arith in rw e refl
+copies-split source destination from m (suc n) to =
+    let e : suc n + m ≡ suc (n + m) = omega arith in
+    rw e (ap (λ (l : List ℤ). slice_set l (destination (n + m)) (slice_index_or from (source (n + m)) (pos 0))) (copies-split source destination from m n to))
+
+-- by places that are the same
+pub copies-same : (s t d e : ℕ → ℕ) (from : List ℤ) (n : ℕ) (to : List ℤ) → ((i : ℕ) → i < n → s i ≡ t i) → ((i : ℕ) → i < n → d i ≡ e i) → copies s d from n to ≡ copies t e from n to
+unfolding copies
+copies-same s t d e from zero to f g = refl
+copies-same s t d e from (suc n) to f g =
+    rw (f n (omega arith), g n (omega arith), copies-same s t d e from n to (λ i h. f i (omega arith)) (λ i h. g i (omega arith))) refl
+
+-- of readings side by side: a part of one list over a part of the other
+pub copies-dense : (source destination : ℕ) (from part : List ℤ) (n : ℕ) (to : List ℤ) → n ≤ length part → destination + n ≤ length to
+    → ((i : ℕ) → i < n → get_or part i (pos 0) ≡ get_or from (source + i) (pos 0)) → copies (λ i. source + i) (λ i. destination + i) from n to ≡ paste to destination part n
+unfolding copies
+copies-dense source destination from part zero to h k f = paste_none to destination part
+copies-dense source destination from part (suc n) to h k f =
+    rw (copies-dense source destination from part n to (omega arith) (omega arith) (λ i l. f i (omega arith)), ← f n (omega arith))
+    (paste_more to destination part n (pos 0) (omega arith) (omega arith) ∙ ap (λ (k : ℕ). paste to destination part k) (add-one n))
+
+-- ---- what stands at each place afterwards
 
 module _ (s d : ℕ → ℕ) (from : List ℤ) where
   -- a list stays as long as it was
