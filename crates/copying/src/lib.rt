@@ -1,8 +1,8 @@
 //! Copying readings from one buffer to another, each through a layout.
 //!
-//! The readings are copied run by run along the first axis. A step along a run is two additions, or
-//! the whole run is one copy of memory if it is dense on both sides. Nothing is divided, and nothing
-//! is allocated.
+//! The readings are copied sheet by sheet, a sheet being the first two axes, and each row of a sheet
+//! as a run along the first. A step along a run is two additions, or the whole run is one copy of
+//! memory if it is dense on both sides. Nothing is divided, and nothing is allocated.
 //!
 //! `copy` says that it is right: its answer, the destination and the scratch are what the
 //! definitions of `Copy` say. What those mean is `CopyClaims`, which `copies_hold` promises.
@@ -78,7 +78,7 @@ fn refuse_shared(destination: &Layout, scratch: &mut [u64]) -> Result<(), Refusa
     }
 }
 
-/// Copies the reading of each position; there is one.
+/// Copies the reading of each position, of which there is at least one.
 fn copy_positions(source: &Layout, from: &[i32], destination: &Layout, to: &mut [i32])
     requires some { 0 < positions (model_of destination.now).axes }
     requires suited { IsSuited (model_of source.now) (model_of destination.now) (length from.now) (length to.old) }
