@@ -37,7 +37,7 @@ module _ {l : LayoutModel} {sheets : Sheets} (a : AreSheetsOf l sheets) where
       let i : k < positions l.axes = rw counted at h in
       rw (a.places k i) (cell_at-below l b size f k i)
 
--- of two with the same extents
+-- the sheets of two layouts with the same extents
 module _ {s d : LayoutModel} {sheets into : Sheets} (a : AreSheetsOf s sheets) (b : AreSheetsOf d into) (e : extents s.axes ≡ extents d.axes) where
   same : into.sheet.run.extent ∷ into.sheet.rows.extent ∷ extents into.others.now ≡ sheets.sheet.run.extent ∷ sheets.sheet.rows.extent ∷ extents sheets.others.now
   same = ap extents b.axes ∙ sym (sheet-extents s.axes d.axes e) ∙ sym (ap extents a.axes)

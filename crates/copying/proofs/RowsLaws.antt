@@ -47,7 +47,7 @@ module _ (place into : ℕ) (run rows run' rows' : Axis) (from to : List ℤ) wh
       ∙ copies-front place into (run ∷ []) (run' ∷ []) (rows ∷ []) (rows' ∷ []) from j to (alone run' ∙ w.0 ∙ sym (alone run))
       ∙ ap (λ (n : ℕ). copies (place_at place (run ∷ rows ∷ [])) (place_at into (run' ∷ rows' ∷ [])) from (n * (j + 1)) to) (alone run)
 
--- no row is copied, and every one
+-- before the first row nothing is copied, and after the last the whole sheet
 pub no-row : (place into : ℕ) (run rows run' rows' : Axis) (from to : List ℤ) → to ≡ rows_copied place into run rows run' rows' from to 0
 unfolding copies
 no-row place into run rows run' rows' from to = let n : run.extent * 0 ≡ 0 = omega arith in rw n refl

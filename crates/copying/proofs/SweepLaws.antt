@@ -82,7 +82,7 @@ pub none-too : (axes : List Axis) → extents axes ≡ [] → axes ≡ []
 none-too [] e = refl
 none-too (a ∷ rest) e = absurd (omega (arith, ap length e))
 
--- of no other axes it is the whole copy
+-- if there are no other axes, it is the whole copy
 pub one-sheet : (source destination : Sheets) (from to : List ℤ) → source.others.now ≡ [] → destination.others.now ≡ []
     → copies (place_at source.start (axes_of source.sheet)) (place_at destination.start (axes_of destination.sheet)) from (positions (axes_of source.sheet)) to
     ≡ copies (places_of source) (places_of destination) from (positions_of source) to
