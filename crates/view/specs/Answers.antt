@@ -3,7 +3,7 @@ use Rattle.std.specs.Prelude.{List, [], ◌∷◌, take, ℕ, Err, Ok, Result}
 use Rattle.specification.specs.Outcome.{Outcome, Check, done, refused, pass}
 use Rattle.view.specs.declared.layout.Refusal.{Refusal}
 use Rattle.view.specs.declared.values.Values.{Values}
-use Rattle.view.specs.declared.layout.Refusal.TheVariants.{TooManyAxes, LengthsDiffer, OutOfRange, WrongLength, BadAxis, BadExtent, BadIndex, TooManyPositions, ShortScratch, ShortOutput, NotARecord, ExtentsDiffer, ShortReadings, NotDistinct}
+use Rattle.view.specs.declared.layout.Refusal.TheVariants.{TooManyAxes, LengthsDiffer, OutOfRange, WrongLength, BadAxis, BadExtent, BadIndex, TooManyPositions, ShortScratch, ShortOutput, NotARecord, ExtentsDiffer, ShortReadings, NotDistinct, EmptyAxis, LongAxis}
 
 -- the number of a refusal
 abbrev pub number_of : Refusal → ℕ
@@ -21,6 +21,8 @@ number_of NotARecord = 11
 number_of ExtentsDiffer = 12
 number_of ShortReadings = 13
 number_of NotDistinct = 14
+number_of EmptyAxis = 15
+number_of LongAxis = 16
 
 -- the values returned with it
 abbrev pub values_of : Refusal → List ℕ
@@ -38,6 +40,8 @@ values_of NotARecord = []
 values_of ExtentsDiffer = []
 values_of ShortReadings = []
 values_of NotDistinct = []
+values_of EmptyAxis = []
+values_of LongAxis = []
 
 -- the values that stand in a struct
 abbrev pub listed : Values → List ℕ

@@ -72,8 +72,8 @@ pub enum Refusal {
     /// 9: how many words of 64 bits are needed.
     #[error("{0} words of scratch are needed")]
     ShortScratch(usize),
-    /// 10: how much output is needed, in what the call counts: bytes of a record.
-    #[error("{0} bytes of output are needed")]
+    /// 10: how much output is needed, in what the call counts: bytes of a record, or readings of means.
+    #[error("an output of {0} is needed, in bytes of a record or in readings of means")]
     ShortOutput(usize),
     /// 11: no whole record stands at the front, or its verdict is false.
     #[error("the bytes are not a record")]
@@ -87,6 +87,12 @@ pub enum Refusal {
     /// 14: the verdict on the destination is repeated or undecided.
     #[error("the verdict on the destination is not distinct")]
     NotDistinct,
+    /// 15: the axis that means are taken along has extent 0.
+    #[error("the extent along the axis is 0")]
+    EmptyAxis,
+    /// 16: the axis that means are taken along has an extent above 65,536.
+    #[error("the extent along the axis is above 65536")]
+    LongAxis,
 }
 
 impl Viewed {
@@ -119,6 +125,8 @@ impl Refusal {
             Refusal::ExtentsDiffer => (12, Values::none()),
             Refusal::ShortReadings => (13, Values::none()),
             Refusal::NotDistinct => (14, Values::none()),
+            Refusal::EmptyAxis => (15, Values::none()),
+            Refusal::LongAxis => (16, Values::none()),
         }
     }
 
