@@ -18,6 +18,7 @@ ghost use Rattle.means.specs.Means.{remaining, mean_count, first_means, means_of
 ghost use Rattle.means.specs.MeansClaims.{MeansClaims, MeansWritten};
 ghost use Rattle.means.specs.MeansCases.{MeansCases};
 
+use positions::strides_fit;
 use rows::write_all;
 use view::count::element_count;
 use view::layout::{Layout, Refusal};
@@ -32,7 +33,7 @@ fn remaining(layout: &Layout, axis: usize) -> Layout
     ensures { model_of result ≡ remaining (model_of layout.now) axis }
 {
     let mut rest = *layout;
-    rest.axes.copy_within(axis + 1..rest.rank, axis);
+    rest.axes.copy_within(axis + 1..layout.rank, axis);
     rest.rank -= 1;
     rest
 }
@@ -59,7 +60,7 @@ fn counted_remaining(
     if room < count {
         return Err(Refusal::ShortOutput(count));
     }
-    match layout.axes[axis].extent {
+    match layout.axes()[axis].extent {
         0 => Err(Refusal::EmptyAxis),
         1..=MOST_ALONG => Ok((rest, count)),
         _ => Err(Refusal::LongAxis),
@@ -73,8 +74,10 @@ fn write_means(layout: &Layout, axis: usize, readings: &[i32], rest: &Layout, ou
     requires written { MeansWritten (model_of layout.now) axis (length readings.now) (length out.old) (length out.old) }
     ensures { out.new ≡ first_means (model_of layout.now) axis readings.now (length out.old) }
 {
-    let start = rest.offset.0.cast_unsigned();
-    write_all(readings, layout.axes[axis], rest.axes(), start, out);
+    let axes = layout.axes();
+    strides_fit(axes);
+    let start = layout.offset.0.cast_unsigned();
+    write_all(readings, axes[axis], rest.axes(), start, out);
 }
 
 /// The mean of the readings along an axis, for each position of the remaining axes: those of the
