@@ -13,8 +13,9 @@ mod sums;
 
 ghost use Rattle.std.specs.Prelude.{◌≡◌, ◌≤◌, ◌<◌, length, IfOk};
 ghost use Rattle.view.specs.Answers.{outcome_of, outcome_by};
+ghost use Rattle.view.specs.Count.{count_of};
 ghost use Rattle.view.specs.Model.{model_of};
-ghost use Rattle.means.specs.Means.{remaining, mean_count, first_means, means_of, means_after};
+ghost use Rattle.means.specs.Means.{remaining, first_means, extent_rule, means_of, means_after};
 ghost use Rattle.means.specs.MeansClaims.{MeansClaims, MeansWritten};
 ghost use Rattle.means.specs.MeansCases.{MeansCases};
 
@@ -30,7 +31,8 @@ const MOST_ALONG: u64 = 65536;
 fn remaining(layout: &Layout, axis: usize) -> Layout
     requires few { layout.now.rank ≤ 16 }
     requires in_rank { axis < layout.now.rank }
-    ensures { model_of result ≡ remaining (model_of layout.now) axis }
+    ensures model { model_of result ≡ remaining (model_of layout.now) axis }
+    ensures few { result.rank ≤ 16 }
 {
     let mut rest = *layout;
     rest.axes.copy_within(axis + 1..layout.rank, axis);
@@ -38,7 +40,29 @@ fn remaining(layout: &Layout, axis: usize) -> Layout
     rest
 }
 
+/// How many positions a layout has; or refusal 8, if 64 bits do not hold their number.
+#[tactic(auto, using(crate::proofs::CountedLaws::counted))]
+fn position_count(layout: &Layout) -> Result<usize, Refusal>
+    requires { layout.now.rank ≤ 16 }
+    ensures { outcome_of result ≡ count_of (model_of layout.now).axes }
+{
+    Ok(element_count(layout.axes())? as usize)
+}
+
+/// Refusal 15 for no reading along the axis, 16 for too many.
+#[tactic(auto, using(crate::proofs::CountedLaws::extent_none, crate::proofs::CountedLaws::extent_fits, crate::proofs::CountedLaws::extent_long))]
+fn extent_refusal(extent: u64) -> Result<(), Refusal>
+    ensures { outcome_of result ≡ extent_rule extent }
+{
+    match extent {
+        0 => Err(Refusal::EmptyAxis),
+        1..=MOST_ALONG => Ok(()),
+        _ => Err(Refusal::LongAxis),
+    }
+}
+
 /// The layout of the remaining axes, and how many positions it has; or the refusal.
+#[tactic(auto, using(crate::proofs::CountedLaws::not_handed, crate::proofs::CountedLaws::few, crate::proofs::CountedLaws::bad_axis, crate::proofs::CountedLaws::too_full, crate::proofs::CountedLaws::short, crate::proofs::CountedLaws::no_room, crate::proofs::CountedLaws::bad_extent, crate::proofs::CountedLaws::good_extent))]
 fn counted_remaining(
     layout: &Layout,
     axis: usize,
@@ -53,18 +77,15 @@ fn counted_remaining(
         return Err(Refusal::BadAxis(axis, layout.rank));
     }
     let rest = remaining(layout, axis);
-    let count = element_count(rest.axes())? as usize;
+    let count = position_count(&rest)?;
     if reach.is_past(readings) {
         return Err(Refusal::ShortReadings);
     }
     if room < count {
         return Err(Refusal::ShortOutput(count));
     }
-    match layout.axes()[axis].extent {
-        0 => Err(Refusal::EmptyAxis),
-        1..=MOST_ALONG => Ok((rest, count)),
-        _ => Err(Refusal::LongAxis),
-    }
+    extent_refusal(layout.axes()[axis].extent)?;
+    Ok((rest, count))
 }
 
 /// Writes the mean at each position of the remaining axes, of which there is at least one.
