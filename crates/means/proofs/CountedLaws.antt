@@ -1,19 +1,19 @@
 -- The refusals of means by what the code finds, in their order.
-use Rattle.std.proofs.Common.{Bool, true, false, ◌≡◌, sym, ap, ◌∙◌, ℕ, ◌<◌, ◌≤◌, List, [], ◌∷◌, length, arith}
+use Rattle.std.proofs.Common.{true, false, ◌≡◌, ℕ, ◌<◌, ◌≤◌, List, [], ◌∷◌, arith}
 use Rattle.std.proofs.lemmas.Int.{ints}
 use Rattle.specification.specs.Axis.{Axis, extents}
-use Rattle.specification.specs.Layout.{LayoutModel, rank, handed}
-use Rattle.specification.specs.Outcome.{Outcome, done, refused, pass, refuse_if, ◌>>◌}
+use Rattle.specification.specs.Layout.{LayoutModel, handed}
+use Rattle.specification.specs.Outcome.{done, refused, pass, refuse_if, ◌>>◌}
 use Rattle.specification.specs.Views.{axis_at}
 use Rattle.view.specs.Count.{element_count, count_of}
 use Rattle.view.specs.Model.{model_of}
 use Rattle.view.specs.Reach.{Ends, reach_of}
-use Rattle.view.specs.Readings.{layout_ends, is_past}
+use Rattle.view.specs.Readings.{is_past}
 use Rattle.view.specs.declared.layout.Layout.{Layout}
 use Rattle.view.proofs.AxesLaws.{length_first_axes}
 use Rattle.view.proofs.CountLaws.{element-count-of-axes}
 use Rattle.view.proofs.ReadingLaws.{past-short}
-use Rattle.means.specs.Means.{remaining, extent_along, extent_rule, means_of}
+use Rattle.means.specs.Means.{remaining, extent_rule, means_of}
 
 -- of at most 16 axes the count of their extents is that of their positions
 pub counted : (layout : Layout) {axes : List Axis} → layout.rank ≤ 16 → axes ≡ (model_of layout).axes → element_count (extents axes) ≡ count_of (model_of layout).axes

@@ -120,7 +120,7 @@ module _ (l : LayoutModel) (axis readings room : ℕ) where
     λ r. by-rules ∙ (then-done rules _ number values).1 ((means-answers.refuses number values).1 r),
   )
 
-  means-passed : (count : ℕ) → (means_of l axis readings room ≡ done count) ↔ MeansWritten l axis readings room count
+  pub means-passed : (count : ℕ) → (means_of l axis readings room ≡ done count) ↔ MeansWritten l axis readings room count
   unfolding ◌>>◌
   means-passed count = (
     λ e. let p = passed-check rules (sym by-rules ∙ e) in let w = means-answers.passes.0 p.0 in

@@ -1,5 +1,5 @@
 -- The places of a mean's readings are their offsets; so the rows that the code writes are the means.
-use Rattle.std.proofs.Common.{◌≡◌, refl, sym, ap, ◌∙◌, ℕ, zero, suc, ◌+◌, ◌*◌, ◌/◌, ◌%◌, ◌^◌, ◌<◌, ◌≤◌, List, [], ◌∷◌, map, All, ℤ, pos, ◌+ℤ◌, ◌≤ℤ◌, ◌<ℤ◌, length, remove, slice_index_or, mod-eq_of_lt, zero-add, arith}
+use Rattle.std.proofs.Common.{◌≡◌, refl, sym, ap, ◌∙◌, ℕ, zero, suc, ◌+◌, ◌*◌, ◌/◌, ◌%◌, ◌^◌, ◌<◌, ◌≤◌, List, ◌∷◌, map, All, ℤ, pos, ◌+ℤ◌, ◌≤ℤ◌, ◌<ℤ◌, remove, slice_index_or, mod-eq_of_lt, zero-add, arith}
 use Rattle.std.specs.List.{range_with_len}
 use Rattle.std.proofs.Math.Nat.{add-mul-mod_self_left, add-mul-div_left, div-eq_of_lt, mod-add-div, mod-lt, lt_of_mul-lt-mul_left}
 use Rattle.std.proofs.lemmas.Int.{ints}
@@ -8,11 +8,10 @@ use Rattle.integer.specs.Multiple.{◌·◌}
 use Rattle.integer.specs.Parts.{positive_part}
 use Rattle.integer.specs.Range.{most_signed}
 use Rattle.specification.specs.Axis.{Axis, positions, product, sum_at, index_at, offset_sum}
-use Rattle.specification.specs.Layout.{LayoutModel, offset_at}
+use Rattle.specification.specs.Layout.{LayoutModel}
 use Rattle.specification.specs.Views.{axis_at}
 use Rattle.specification.proofs.ReadingLaws.{cell_at-below}
 use Rattle.positions.specs.Positions.{word_of, place_at, StrideFits, IsPlacedIn, IsWalkable}
-use Rattle.positions.specs.Runs.{run_at}
 use Rattle.positions.proofs.RunLaws.{place-run}
 use Rattle.positions.proofs.PlaceLaws.{place_is, start-offset}
 use Rattle.means.specs.Rounded.{rounded}

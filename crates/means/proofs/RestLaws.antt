@@ -1,10 +1,10 @@
 -- A layout and that of its remaining axes, as the code holds both.
-use Rattle.std.proofs.Common.{◌≡◌, sym, ap, ◌∙◌, ℕ, suc, ◌+◌, ◌-◌, ◌<◌, ◌≤◌, List, ◌++◌, length, take, drop, remove, add-one, arith}
+use Rattle.std.proofs.Common.{◌≡◌, sym, ap, ◌∙◌, ℕ, ◌+◌, ◌-◌, ◌<◌, ◌≤◌, List, ◌++◌, length, take, drop, remove, add-one, arith}
 use Rattle.std.proofs.Math.Seq.{paste}
 use Rattle.std.proofs.lemmas.List.{length-drop, take-take, drop-take}
 use Rattle.std.proofs.lemmas.List.Edits.{take-paste, length-paste}
 use Rattle.specification.specs.Axis.{Axis}
-use Rattle.specification.specs.Layout.{LayoutModel, rank}
+use Rattle.specification.specs.Layout.{LayoutModel}
 use Rattle.view.specs.Model.{model_of, first_axes}
 use Rattle.view.specs.declared.layout.Layout.{Layout}
 use Rattle.view.proofs.AxesLaws.{length_first_axes, first_axes_take}

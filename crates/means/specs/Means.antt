@@ -4,7 +4,7 @@ use Rattle.std.specs.Prelude.{List, [], ◌∷◌, ◌++◌, map, ℕ, zero, suc
 use Rattle.std.specs.List.{range_with_len}
 use Rattle.integer.specs.Multiple.{◌·◌}
 use Rattle.integer.specs.Parts.{positive_part}
-use Rattle.specification.specs.Axis.{Axis, positions}
+use Rattle.specification.specs.Axis.{positions}
 use Rattle.specification.specs.Layout.{LayoutModel, rank, offset_at, handed}
 use Rattle.specification.specs.Normal.{overfull}
 use Rattle.specification.specs.Outcome.{Outcome, Check, done, refused, refuse_if, ◌>>◌}

@@ -113,6 +113,7 @@ fn write_means(layout: &Layout, axis: usize, readings: &[i32], rest: &Layout, ou
 /// 13 fewer readings than the highest offset + 1 (an empty layout needs none); 10, with how many
 /// means there are, `out` is shorter; 15 the extent along the axis is 0; 16 it is above 65,536.
 /// A refusal leaves `out`.
+#[tactic(auto, using(crate::proofs::CallLaws::fits_out, crate::proofs::CallLaws::front_length, crate::proofs::CallLaws::front_some, crate::proofs::CallLaws::front_suits, crate::proofs::CallLaws::front_written, crate::proofs::CallLaws::none_written), unfolding(crate::specs::Means::means_after))]
 pub fn means(
     layout: &Layout,
     axis: usize,

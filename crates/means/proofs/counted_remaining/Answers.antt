@@ -1,5 +1,5 @@
 -- What is refused behind 13, or how many means there are.
-use Rattle.std.proofs.Common.{◌≡◌, sym, rules}
+use Rattle.std.proofs.Common.{sym, rules}
 use Rattle.means.proofs.CountedLaws.{few, no_room, bad_extent, good_extent}
 use Rattle.means.proofs.counted_remaining.Goals as goal
 

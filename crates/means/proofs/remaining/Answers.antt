@@ -1,5 +1,5 @@
 -- The axes behind the chosen one are moved to where it stood.
-use Rattle.std.proofs.Common.{◌≡◌, ◌∙◌, ap, List, ◌-◌, rules}
+use Rattle.std.proofs.Common.{◌∙◌, ap, List, ◌-◌, rules}
 use Rattle.specification.specs.Axis.{Axis}
 use Rattle.view.specs.Model.{model_from, first_axes}
 use Rattle.means.specs.Means.{remaining}
