@@ -5,7 +5,7 @@ use Rattle.commands.specs.declared.command.Command.TheVariants as command
 use Rattle.commands.specs.declared.command.Change.{Change}
 use Rattle.commands.specs.declared.command.Change.TheVariants.{New, Set, Permute, Diagonal, Broadcast, Read}
 use Rattle.commands.specs.declared.command.Query.{Query}
-use Rattle.commands.specs.declared.command.Query.TheVariants.{Bounds, Offset, Verdict, Injective, Copy, Record, Rest, Order, Column, Row}
+use Rattle.commands.specs.declared.command.Query.TheVariants.{Bounds, Offset, Verdict, Injective, Copy, Means, Record, Rest, Order, Column, Row}
 use Rattle.commands.specs.Commands.{named}
 use Rattle.words.specs.Spelled.{unsigned, signed, lent}
 use Rattle.words.specs.Words.{Numbered}
@@ -43,6 +43,7 @@ query_asks Injective (extents ∷ strides ∷ []) = true
 query_asks Injective (extents ∷ strides ∷ words ∷ []) = true
 query_asks Copy (from ∷ to ∷ []) = true
 query_asks Copy (from ∷ to ∷ words ∷ []) = true
+query_asks Means (axis ∷ readings ∷ room ∷ []) = is_some (unsigned axis)
 query_asks Record (room ∷ []) = is_lent room
 query_asks Record (room ∷ words ∷ []) = is_lent room && is_lent words
 query_asks Rest (bytes ∷ []) = true
