@@ -33,7 +33,7 @@ change_asks Read (bytes ∷ []) = true
 change_asks Read (bytes ∷ words ∷ []) = true
 change_asks other words = false
 
--- a command that leaves the layout, with as many words as it takes: memory is for its lists, its bytes and its scratch; `show`, `draw`, `normal` and `help` want none
+-- a command that leaves the layout, with as many words as it takes: memory is for its lists, its bytes, its means and its scratch; `show`, `draw`, `normal` and `help` want none
 unfoldable pub query_asks : Query → List (List ℕ) → Bool
 query_asks Bounds (len ∷ offset ∷ extents ∷ strides ∷ []) = are_placed len offset
 query_asks Offset (index ∷ []) = true
