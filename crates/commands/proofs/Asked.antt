@@ -5,11 +5,11 @@ use Rattle.words.specs.declared.fault.Form.TheVariants.{Lent as lent_form}
 use Rattle.words.specs.declared.spelled.Lent.{Lent}
 use Rattle.words.specs.Spelled.{lent}
 use Rattle.words.specs.Texts.{misspelled_word}
-use Rattle.words.specs.Words.{Told, ◌>>=◌, Numbered, or_told, one_word, two_words, four_words, up_to_one_word, one_or_two_words, two_or_three_words}
+use Rattle.words.specs.Words.{Told, ◌>>=◌, Numbered, or_told, one_word, two_words, three_words, four_words, up_to_one_word, one_or_two_words, two_or_three_words}
 use Rattle.commands.specs.declared.command.Change.TheVariants.{Read}
 use Rattle.commands.specs.declared.command.Query.{Query}
 use Rattle.commands.specs.declared.command.Query.TheVariants.{Verdict, Injective, Copy, Record}
-use Rattle.commands.specs.Obeyed.{words_given}
+use Rattle.commands.specs.Scratch.{words_given}
 use Rattle.commands.specs.Asking.{is_lent, is_lent_if, change_asks, query_asks}
 
 given_by : (value : Option Lent) (number : ℕ) (text : List ℕ) (count : Option ℕ) → (or_told value (misspelled_word number text lent_form) >>= λ words. Ok (Some words.0)) ≡ Ok count → is_some value ≡ true
@@ -38,6 +38,15 @@ two usage [] w e = cc
 two usage (a ∷ []) w e = cc
 two usage (a ∷ b ∷ []) w e = ap (λ (v : Numbered × Numbered). v.0.1 ∷ v.1.1 ∷ []) (same (two_words usage (a ∷ b ∷ [])) ((2, a), (3, b)) w refl e)
 two usage (a ∷ b ∷ c ∷ more) w e = cc
+
+pub three : (usage : List ℕ) (words : List (List ℕ)) (w : Numbered × Numbered × Numbered) → three_words usage words ≡ Ok w → words ≡ w.0.1 ∷ w.1.1 ∷ w.2.1 ∷ []
+unfolding three_words
+three usage [] w e = cc
+three usage (a ∷ []) w e = cc
+three usage (a ∷ b ∷ []) w e = cc
+three usage (a ∷ b ∷ c ∷ []) w e =
+    ap (λ (v : Numbered × Numbered × Numbered). v.0.1 ∷ v.1.1 ∷ v.2.1 ∷ []) (same (three_words usage (a ∷ b ∷ c ∷ [])) ((2, a), (3, b), (4, c)) w refl e)
+three usage (a ∷ b ∷ c ∷ d ∷ more) w e = cc
 
 pub four : (usage : List ℕ) (words : List (List ℕ)) (w : Numbered × Numbered × Numbered × Numbered) → four_words usage words ≡ Ok w → words ≡ w.0.1 ∷ w.1.1 ∷ w.2.1 ∷ w.3.1 ∷ []
 unfolding four_words

@@ -7,8 +7,7 @@ use Rattle.specification.proofs.OutcomeLaws.{bind-refused}
 use Rattle.copying.specs.Copy.{copy_handed, distinct_only, distinct_judged, copy_refusal, copy_after}
 use Rattle.view.specs.Answers.{outcome_of}
 use Rattle.view.specs.declared.layout.Refusal.{Refusal}
-use Rattle.commands.specs.Obeyed.{or_most}
-use Rattle.commands.specs.Scratch.{words_lacking}
+use Rattle.commands.specs.Scratch.{or_most, words_lacking}
 use Rattle.commands.proofs.ScratchLaws.{Steady, steady_judge, steady_by, steady_behind, first_answer, second_answer}
 
 abbrev pub Tried : Type 0

@@ -4,7 +4,7 @@ use Rattle.std.proofs.lemmas.Option.{none-some}
 use Rattle.commands.specs.declared.command.Command.{Command}
 use Rattle.commands.specs.declared.command.Command.TheVariants as command
 use Rattle.commands.specs.declared.command.Change.TheVariants.{New, Set, Permute, Diagonal, Broadcast, Read}
-use Rattle.commands.specs.declared.command.Query.TheVariants.{Bounds, Show, Draw, Offset, Normal, Verdict, Injective, Copy, Record, Rest, Order, Column, Row, Help}
+use Rattle.commands.specs.declared.command.Query.TheVariants.{Bounds, Show, Draw, Offset, Normal, Verdict, Injective, Copy, Means, Record, Rest, Order, Column, Row, Help}
 use Rattle.commands.specs.Commands.{name_of, named, EachIsNamed}
 
 pub each : EachIsNamed
@@ -23,6 +23,7 @@ each (command.Query Normal) = refl
 each (command.Query Verdict) = refl
 each (command.Query Injective) = refl
 each (command.Query Copy) = refl
+each (command.Query Means) = refl
 each (command.Query Record) = refl
 each (command.Change Read) = refl
 each (command.Query Rest) = refl

@@ -2,7 +2,7 @@
 use Rattle.std.proofs.Common.{◌≡◌, Ok, refl}
 use Rattle.specification.specs.Outcome.{Outcome, done, refused}
 use Rattle.specification.specs.Record.{Made}
-use Rattle.commands.specs.Obeyed.{told}
+use Rattle.commands.specs.Told.{told}
 use Rattle.commands.specs.Scratch.{bytes_made}
 use Rattle.commands.specs.Replies.{bytes_text}
 use Rattle.words.specs.Words.{◌>>=◌}

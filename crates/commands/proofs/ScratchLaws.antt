@@ -24,9 +24,8 @@ use Rattle.view.specs.declared.layout.Layout.{Layout}
 use Rattle.view.specs.Model.{model_of, layout_outcome}
 use Rattle.view.specs.Answers.{outcome_by}
 use Rattle.view.specs.declared.layout.Refusal.{Refusal}
-use Rattle.view.specs.declared.layout.Refusal.TheVariants.{TooManyAxes, LengthsDiffer, OutOfRange, WrongLength, BadAxis, BadExtent, BadIndex, TooManyPositions, ShortScratch, ShortOutput, NotARecord, ExtentsDiffer, ShortReadings, NotDistinct}
-use Rattle.commands.specs.Obeyed.{or_most}
-use Rattle.commands.specs.Scratch.{words_lacking, bytes_made, front_written}
+use Rattle.view.specs.declared.layout.Refusal.TheVariants.{TooManyAxes, LengthsDiffer, OutOfRange, WrongLength, BadAxis, BadExtent, BadIndex, TooManyPositions, ShortScratch, ShortOutput, NotARecord, ExtentsDiffer, ShortReadings, NotDistinct, EmptyAxis, LongAxis}
+use Rattle.commands.specs.Scratch.{or_most, words_lacking, bytes_made, front_written}
 
 -- refused 9 below the words needed, and the same from there on
 pub record Steady {A : Type 0} (f : ℕ → Outcome A) : Type 0 where
@@ -57,6 +56,8 @@ module _ {A B T : Type 0} (f : ℕ → Outcome A) (steady : Steady f) (told : Ou
       go (Err ExtentsDiffer) e = absurd (omega (arith, (refused-inj e).0))
       go (Err ShortReadings) e = absurd (omega (arith, (refused-inj e).0))
       go (Err NotDistinct) e = absurd (omega (arith, (refused-inj e).0))
+      go (Err EmptyAxis) e = absurd (omega (arith, (refused-inj e).0))
+      go (Err LongAxis) e = absurd (omega (arith, (refused-inj e).0))
 
   at-most : (words : ℕ) → steady.need ≤ words → f (or_most None) ≡ f words
   at-most words h = steady.enough 16777217 steady.bounded ∙ sym (steady.enough words h)

@@ -7,7 +7,7 @@ use Rattle.view.specs.Answers.{number_of}
 use Rattle.view.specs.declared.layout.Refusal.{Refusal}
 use Rattle.view.specs.declared.layout.Refusal.TheVariants as refusal
 use Rattle.commands.specs.declared.command.Command.{Command}
-use Rattle.commands.specs.declared.kind.Kind.TheVariants.{TooManyAxes, LengthsDiffer, OutOfRange, WrongLength, BadAxis, BadExtent, BadIndex, TooManyPositions, ShortScratch, ShortOutput, NotARecord, ExtentsDiffer, ShortReadings, NotDistinct}
+use Rattle.commands.specs.declared.kind.Kind.TheVariants.{TooManyAxes, LengthsDiffer, OutOfRange, WrongLength, BadAxis, BadExtent, BadIndex, TooManyPositions, ShortScratch, ShortOutput, NotARecord, ExtentsDiffer, ShortReadings, NotDistinct, EmptyAxis, LongAxis}
 use Rattle.commands.specs.declared.usage_word.UsageWord.TheVariants as usage
 use Rattle.commands.specs.declared.topic.Topic.{Topic}
 use Rattle.commands.specs.declared.topic.Topic.TheVariants as topic
@@ -32,6 +32,8 @@ each (topic.Word usage.List) = refl
 each (topic.Word usage.Pairs) = refl
 each (topic.Word usage.From) = refl
 each (topic.Word usage.To) = refl
+each (topic.Word usage.Axis) = refl
+each (topic.Word usage.Readings) = refl
 each (topic.Word usage.Bytes) = refl
 each (topic.Word usage.Words) = refl
 each (topic.Word usage.Room) = refl
@@ -52,6 +54,8 @@ each (topic.Refusal NotARecord) = refl
 each (topic.Refusal ExtentsDiffer) = refl
 each (topic.Refusal ShortReadings) = refl
 each (topic.Refusal NotDistinct) = refl
+each (topic.Refusal EmptyAxis) = refl
+each (topic.Refusal LongAxis) = refl
 each topic.Refusals = refl
 
 -- the number of a refusal as text
@@ -71,6 +75,8 @@ spelled refusal.NotARecord = decimal_step 11 (omega arith) (omega arith) ∙ ap 
 spelled refusal.ExtentsDiffer = decimal_step 12 (omega arith) (omega arith) ∙ ap (λ front. front ++ 50 ∷ []) (decimal_digit 1 (omega arith))
 spelled refusal.ShortReadings = decimal_step 13 (omega arith) (omega arith) ∙ ap (λ front. front ++ 51 ∷ []) (decimal_digit 1 (omega arith))
 spelled refusal.NotDistinct = decimal_step 14 (omega arith) (omega arith) ∙ ap (λ front. front ++ 52 ∷ []) (decimal_digit 1 (omega arith))
+spelled refusal.EmptyAxis = decimal_step 15 (omega arith) (omega arith) ∙ ap (λ front. front ++ 53 ∷ []) (decimal_digit 1 (omega arith))
+spelled refusal.LongAxis = decimal_step 16 (omega arith) (omega arith) ∙ ap (λ front. front ++ 54 ∷ []) (decimal_digit 1 (omega arith))
 
 pub refusals : EachRefusalIsNamed
 unfolding topic_name

@@ -5,7 +5,7 @@ use Rattle.commands.specs.declared.command.Command.TheVariants as command
 use Rattle.commands.specs.declared.command.Change.{Change}
 use Rattle.commands.specs.declared.command.Change.TheVariants.{New, Set, Permute, Diagonal, Broadcast, Read}
 use Rattle.commands.specs.declared.command.Query.{Query}
-use Rattle.commands.specs.declared.command.Query.TheVariants.{Bounds, Offset, Verdict, Injective, Copy, Record, Rest, Order, Column, Row}
+use Rattle.commands.specs.declared.command.Query.TheVariants.{Bounds, Offset, Verdict, Injective, Copy, Means, Record, Rest, Order, Column, Row}
 use Rattle.commands.specs.Commands.{named}
 use Rattle.words.specs.Spelled.{unsigned, signed, lent}
 use Rattle.words.specs.Words.{Numbered}
@@ -33,7 +33,7 @@ change_asks Read (bytes ∷ []) = true
 change_asks Read (bytes ∷ words ∷ []) = true
 change_asks other words = false
 
--- a command that leaves the layout, with as many words as it takes: memory is for its lists, its bytes and its scratch; `show`, `draw`, `normal` and `help` want none
+-- a command that leaves the layout, with as many words as it takes: memory is for its lists, its bytes, its means and its scratch; `show`, `draw`, `normal` and `help` want none
 unfoldable pub query_asks : Query → List (List ℕ) → Bool
 query_asks Bounds (len ∷ offset ∷ extents ∷ strides ∷ []) = are_placed len offset
 query_asks Offset (index ∷ []) = true
@@ -43,6 +43,7 @@ query_asks Injective (extents ∷ strides ∷ []) = true
 query_asks Injective (extents ∷ strides ∷ words ∷ []) = true
 query_asks Copy (from ∷ to ∷ []) = true
 query_asks Copy (from ∷ to ∷ words ∷ []) = true
+query_asks Means (axis ∷ readings ∷ room ∷ []) = is_some (unsigned axis)
 query_asks Record (room ∷ []) = is_lent room
 query_asks Record (room ∷ words ∷ []) = is_lent room && is_lent words
 query_asks Rest (bytes ∷ []) = true

@@ -5,7 +5,7 @@ use Rattle.std.specs.Cmp.Lexicographic.{pointwise}
 use Rattle.commands.specs.declared.command.Command.{Command}
 use Rattle.commands.specs.declared.command.Command.TheVariants as command
 use Rattle.commands.specs.declared.command.Change.TheVariants.{New, Set, Permute, Diagonal, Broadcast, Read}
-use Rattle.commands.specs.declared.command.Query.TheVariants.{Bounds, Show, Draw, Offset, Normal, Verdict, Injective, Copy, Record, Rest, Order, Column, Row, Help}
+use Rattle.commands.specs.declared.command.Query.TheVariants.{Bounds, Show, Draw, Offset, Normal, Verdict, Injective, Copy, Means, Record, Rest, Order, Column, Row, Help}
 
 -- the word that a line begins with
 unfoldable pub name_of : Command → List ℕ
@@ -23,6 +23,7 @@ name_of (command.Query Normal) = codes "normal"
 name_of (command.Query Verdict) = codes "verdict"
 name_of (command.Query Injective) = codes "injective"
 name_of (command.Query Copy) = codes "copy"
+name_of (command.Query Means) = codes "means"
 name_of (command.Query Record) = codes "record"
 name_of (command.Change Read) = codes "read"
 name_of (command.Query Rest) = codes "rest"
@@ -47,6 +48,7 @@ usage_of (command.Query Normal) = codes "normal"
 usage_of (command.Query Verdict) = codes "verdict [WORDS]"
 usage_of (command.Query Injective) = codes "injective EXTENTS STRIDES [WORDS]"
 usage_of (command.Query Copy) = codes "copy FROM TO [WORDS]"
+usage_of (command.Query Means) = codes "means AXIS READINGS ROOM"
 usage_of (command.Query Record) = codes "record ROOM [WORDS]"
 usage_of (command.Change Read) = codes "read BYTES [WORDS]"
 usage_of (command.Query Rest) = codes "rest BYTES"
@@ -71,6 +73,7 @@ meaning_of (command.Query Normal) = codes "the normal form; the current layout s
 meaning_of (command.Query Verdict) = codes "whether two positions of the current layout share a cell, with WORDS words of scratch"
 meaning_of (command.Query Injective) = codes "whether two positions of a layout of these extents and strides share a cell, with WORDS words of scratch"
 meaning_of (command.Query Copy) = codes "copy readings FROM through the current layout into readings TO through the held one; the answer is TO afterwards"
+meaning_of (command.Query Means) = codes "means of READINGS through the current layout along axis AXIS, into at most ROOM readings"
 meaning_of (command.Query Record) = codes "the record of the current layout, in at most ROOM bytes"
 meaning_of (command.Change Read) = codes "read a record and make its layout current"
 meaning_of (command.Query Rest) = codes "what stands behind the record at the front"
@@ -88,8 +91,8 @@ abbrev pub commands : List Command
 commands =
     command.Change New ∷ command.Query Bounds ∷ command.Change Set ∷ command.Query Show ∷ command.Hold ∷ command.Query Draw
     ∷ command.Change Permute ∷ command.Change Diagonal ∷ command.Change Broadcast ∷ command.Query Offset ∷ command.Query Normal
-    ∷ command.Query Verdict ∷ command.Query Injective ∷ command.Query Copy ∷ command.Query Record ∷ command.Change Read
-    ∷ command.Query Rest ∷ command.Query Order ∷ command.Query Column ∷ command.Query Row ∷ command.Query Help ∷ []
+    ∷ command.Query Verdict ∷ command.Query Injective ∷ command.Query Copy ∷ command.Query Means ∷ command.Query Record
+    ∷ command.Change Read ∷ command.Query Rest ∷ command.Query Order ∷ command.Query Column ∷ command.Query Row ∷ command.Query Help ∷ []
 
 -- the command with a name
 abbrev pub named : List ℕ → Option Command

@@ -2,6 +2,8 @@ pub mod Commands
 pub mod Topics
 pub mod Replies
 pub mod Layouts
-pub mod Obeyed
+pub mod Told
 pub mod Scratch
+pub mod Readings
+pub mod Obeyed
 pub mod Asking

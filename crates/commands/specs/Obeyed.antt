@@ -15,32 +15,25 @@ use Rattle.view.specs.Ties.{pairs_in}
 use Rattle.record.specs.Reading.{layout_read}
 use Rattle.injectivity.specs.Judgement.{axes_judged, told_of}
 use Rattle.injectivity.specs.Text.{verdict_text}
-use Rattle.copying.specs.Copy.{copy_refusal, copy_after}
 use Rattle.commands.specs.declared.command.Command.{Command}
 use Rattle.commands.specs.declared.command.Command.TheVariants as command
 use Rattle.commands.specs.declared.command.Change.{Change}
 use Rattle.commands.specs.declared.command.Change.TheVariants.{New, Set, Permute, Diagonal, Broadcast, Read}
 use Rattle.commands.specs.declared.command.Query.{Query}
-use Rattle.commands.specs.declared.command.Query.TheVariants.{Bounds, Show, Draw, Offset, Normal, Verdict, Injective, Copy, Record, Rest, Order, Column, Row, Help}
-use Rattle.words.specs.declared.fault.Form.TheVariants.{Unsigned, Signed, Pair, Lent, Reading}
+use Rattle.commands.specs.declared.command.Query.TheVariants.{Bounds, Show, Draw, Offset, Normal, Verdict, Injective, Copy, Means, Record, Rest, Order, Column, Row, Help}
+use Rattle.words.specs.declared.fault.Form.TheVariants.{Unsigned, Signed, Pair, Lent}
 use Rattle.commands.specs.Commands.{named, usage_of}
 use Rattle.commands.specs.Layouts.{Layouts}
 use Rattle.commands.specs.Topics.{topic_named, topic_text, all_help}
 use Rattle.commands.specs.Replies.{bytes_text}
+use Rattle.commands.specs.Told.{told, told_after}
+use Rattle.commands.specs.Scratch.{words_given, or_most}
+use Rattle.commands.specs.Readings.{copied_text, means_text}
 use Rattle.drawing.specs.Drawn.{Picture, picture, too_many, drawn}
 use Rattle.view.specs.Printed.{list_text, layout_text}
-use Rattle.words.specs.Spelled.{unsigned, signed, lent, reading, pair}
-use Rattle.words.specs.Texts.{refusal_text, unknown_command, unknown_topic, unequal_lists, too_many_to_draw}
-use Rattle.words.specs.Words.{Told, ◌>>=◌, Numbered, no_word, one_word, two_words, four_words, up_to_one_word, one_or_two_words, two_or_three_words, one_of, list_of, bytes_of}
-
--- what a call answers, or its refusal as a text
-abbrev pub told : {A : Type 0} → Outcome A → Told A
-told (done x) = Ok x
-told (refused number values) = Err (refusal_text number values)
-
--- the layout that a view hands back, or its refusal
-abbrev pub told_after : After → Told LayoutModel
-told_after a = told a.answer >>= λ _. Ok a.layout
+use Rattle.words.specs.Spelled.{unsigned, signed, lent, pair}
+use Rattle.words.specs.Texts.{unknown_command, unknown_topic, unequal_lists, too_many_to_draw}
+use Rattle.words.specs.Words.{Told, ◌>>=◌, Numbered, no_word, one_word, two_words, three_words, four_words, up_to_one_word, one_or_two_words, two_or_three_words, one_of, list_of, bytes_of}
 
 -- ---- the commands that change the layout
 
@@ -83,18 +76,6 @@ unfoldable pub stretched : LayoutModel → Numbered → Told LayoutModel
 stretched l targets = do
   targets ← list_of unsigned Unsigned targets
   told_after (broadcast l targets)
-
--- WORDS, if the line has them
-abbrev pub words_given : Option Numbered → Told (Option ℕ)
-words_given None = Ok None
-words_given (Some w) = do
-  words ← one_of lent Lent w
-  Ok (Some words.0)
-
--- as many words of scratch; if WORDS is left out, as many as any verdict can need
-abbrev pub or_most : Option ℕ → ℕ
-or_most None = 16777217
-or_most (Some words) = words
 
 unfoldable pub read_layout : Numbered × Option Numbered → Told LayoutModel
 read_layout (bytes, words) = do
@@ -170,15 +151,6 @@ injective_text (extents, strides, words) = do
   words ← words_given words
   judged_text (verdict extents strides (or_most words))
 
--- readings FROM through the current layout copied into readings TO through the held one: TO afterwards
-unfoldable pub copied_text : Layouts → Numbered × Numbered × Option Numbered → Told (List ℕ)
-copied_text ls (from, to, words) = do
-  from ← list_of reading Reading from
-  to ← list_of reading Reading to
-  words ← words_given words
-  copied ← told (copy_refusal ls.current ls.held (length from) (length to) (or_most words))
-  Ok (list_text signed_decimal (copy_after pass ls.current ls.held from to))
-
 unfoldable pub record_text : LayoutModel → Numbered × Option Numbered → Told (List ℕ)
 record_text l (room, words) = do
   room ← one_of lent Lent room
@@ -239,6 +211,9 @@ answer_text ls Injective usage words = do
 answer_text ls Copy usage words = do
   three ← two_or_three_words usage words
   copied_text ls three
+answer_text ls Means usage words = do
+  three ← three_words usage words
+  means_text ls.current three
 answer_text ls Record usage words = do
   two ← one_or_two_words usage words
   record_text ls.current two

@@ -8,7 +8,7 @@ use Rattle.view.specs.Printed.{joined}
 use Rattle.view.specs.declared.layout.Refusal.{Refusal}
 use Rattle.view.specs.declared.layout.Refusal.TheVariants as refusal
 use Rattle.commands.specs.declared.kind.Kind.{Kind}
-use Rattle.commands.specs.declared.kind.Kind.TheVariants.{TooManyAxes, LengthsDiffer, OutOfRange, WrongLength, BadAxis, BadExtent, BadIndex, TooManyPositions, ShortScratch, ShortOutput, NotARecord, ExtentsDiffer, ShortReadings, NotDistinct}
+use Rattle.commands.specs.declared.kind.Kind.TheVariants.{TooManyAxes, LengthsDiffer, OutOfRange, WrongLength, BadAxis, BadExtent, BadIndex, TooManyPositions, ShortScratch, ShortOutput, NotARecord, ExtentsDiffer, ShortReadings, NotDistinct, EmptyAxis, LongAxis}
 use Rattle.commands.specs.declared.usage_word.UsageWord.{UsageWord}
 use Rattle.commands.specs.declared.usage_word.UsageWord.TheVariants as usage
 use Rattle.commands.specs.declared.topic.Topic.{Topic}
@@ -33,11 +33,13 @@ kind_texts BadExtent = record { number = codes "6"; values = codes " AXIS"; mean
 kind_texts BadIndex = record { number = codes "7"; values = codes " AXIS"; meaning = codes "the index of axis AXIS is not below its extent; indices are counted from 0" }
 kind_texts TooManyPositions = record { number = codes "8"; values = []; meaning = codes "more than 2^64 - 1 positions; look at the extents" }
 kind_texts ShortScratch = record { number = codes "9"; values = codes " WORDS"; meaning = codes "WORDS words of scratch are needed; lend as many (a line lends at most 65536), or leave WORDS out" }
-kind_texts ShortOutput = record { number = codes "10"; values = codes " BYTES"; meaning = codes "BYTES bytes of output are needed; give at least as many as ROOM" }
+kind_texts ShortOutput = record { number = codes "10"; values = codes " ROOM"; meaning = codes "an output of ROOM is needed, in bytes of a record or in readings of means; give at least as many as ROOM" }
 kind_texts NotARecord = record { number = codes "11"; values = []; meaning = codes "the bytes are not a record; no whole one stands at their beginning, or its verdict is false" }
 kind_texts ExtentsDiffer = record { number = codes "12"; values = []; meaning = codes "the two layouts differ in extents; give the current layout and the held one the same extents, in the same order" }
 kind_texts ShortReadings = record { number = codes "13"; values = []; meaning = codes "a buffer is shorter than its layout needs; give each layout as many readings as its highest offset + 1" }
 kind_texts NotDistinct = record { number = codes "14"; values = []; meaning = codes "the verdict on the destination is not distinct; hold a layout that verdict answers with distinct" }
+kind_texts EmptyAxis = record { number = codes "15"; values = []; meaning = codes "the extent along the axis is 0; means are taken along an axis of extent 1 to 65536" }
+kind_texts LongAxis = record { number = codes "16"; values = []; meaning = codes "the extent along the axis is above 65536; means are taken along an axis of extent 1 to 65536" }
 
 -- the answer with the names of its values, and what it says
 unfoldable pub kind_line : Kind → List ℕ
@@ -47,7 +49,7 @@ kind_line kind = codes "refused " ++ (kind_texts kind).number ++ (kind_texts kin
 abbrev pub kinds : List Kind
 kinds =
     TooManyAxes ∷ LengthsDiffer ∷ OutOfRange ∷ WrongLength ∷ BadAxis ∷ BadExtent ∷ BadIndex ∷ TooManyPositions
-    ∷ ShortScratch ∷ ShortOutput ∷ NotARecord ∷ ExtentsDiffer ∷ ShortReadings ∷ NotDistinct ∷ []
+    ∷ ShortScratch ∷ ShortOutput ∷ NotARecord ∷ ExtentsDiffer ∷ ShortReadings ∷ NotDistinct ∷ EmptyAxis ∷ LongAxis ∷ []
 
 -- the refusal with a number
 abbrev pub kind_named : List ℕ → Option Kind
@@ -70,11 +72,13 @@ word_texts usage.List = record { name = codes "LIST"; meaning = codes "numbers f
 word_texts usage.Pairs = record { name = codes "PAIRS"; meaning = codes "pairs a:b of axes with commas between them, at most 64, as 0:1,1:2; - for none" }
 word_texts usage.From = record { name = codes "FROM"; meaning = codes "readings to copy, numbers from -2147483648 to 2147483647 with commas between them, at most 64, as 7,-8; - for none" }
 word_texts usage.To = record { name = codes "TO"; meaning = codes "readings to copy into, numbers from -2147483648 to 2147483647 with commas between them, at most 64, as 0,0; - for none" }
+word_texts usage.Axis = record { name = codes "AXIS"; meaning = codes "the axis to take means along, counted from 0, a number from 0 to 18446744073709551615, as 1" }
+word_texts usage.Readings = record { name = codes "READINGS"; meaning = codes "readings to take means of, numbers from -2147483648 to 2147483647 with commas between them, at most 64, as 7,-8; - for none" }
 word_texts usage.Bytes = record { name = codes "BYTES"; meaning = codes "two hexadecimal digits for each byte and nothing between them, as 00ff; - for none" }
 word_texts usage.Words = record { name = codes "WORDS"; meaning = codes "how many words of scratch to lend, a number from 0 to 65536, as 1024; left out, as many as are needed" }
-word_texts usage.Room = record { name = codes "ROOM"; meaning = codes "how many bytes of output to lend, a number from 0 to 65536, as 64" }
+word_texts usage.Room = record { name = codes "ROOM"; meaning = codes "how much output to lend, in bytes of a record or in readings of means, a number from 0 to 65536, as 64" }
 word_texts usage.Command = record { name = codes "COMMAND"; meaning = codes "the name of a command, as new" }
-word_texts usage.Topic = record { name = codes "TOPIC"; meaning = codes "what help explains: a command, as new; a word of a usage, as LIST; words; refused; or a number from 1 to 14" }
+word_texts usage.Topic = record { name = codes "TOPIC"; meaning = codes "what help explains: a command, as new; a word of a usage, as LIST; words; refused; or a number from 1 to 16" }
 
 unfoldable pub word_line : UsageWord → List ℕ
 word_line word = (word_texts word).name ++ codes ": " ++ (word_texts word).meaning
@@ -83,7 +87,7 @@ word_line word = (word_texts word).name ++ codes ": " ++ (word_texts word).meani
 abbrev pub usage_words : List UsageWord
 usage_words =
     usage.Len ∷ usage.OutLen ∷ usage.Offset ∷ usage.Extents ∷ usage.Strides ∷ usage.List ∷ usage.Pairs
-    ∷ usage.From ∷ usage.To ∷ usage.Bytes ∷ usage.Words ∷ usage.Room ∷ usage.Command ∷ usage.Topic ∷ []
+    ∷ usage.From ∷ usage.To ∷ usage.Axis ∷ usage.Readings ∷ usage.Bytes ∷ usage.Words ∷ usage.Room ∷ usage.Command ∷ usage.Topic ∷ []
 
 -- the word that usages write so
 abbrev pub word_named : List ℕ → Option UsageWord
@@ -160,6 +164,8 @@ kind_of refusal.NotARecord = NotARecord
 kind_of refusal.ExtentsDiffer = ExtentsDiffer
 kind_of refusal.ShortReadings = ShortReadings
 kind_of refusal.NotDistinct = NotDistinct
+kind_of refusal.EmptyAxis = EmptyAxis
+kind_of refusal.LongAxis = LongAxis
 
 -- the number that the answer to a refusal has is the name of its topic
 abbrev pub EachRefusalIsNamed : Type 0

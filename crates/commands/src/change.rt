@@ -6,7 +6,8 @@ ghost use Rattle.view.specs.Model.{model_of, first_axes, layout_outcome};
 ghost use Rattle.record.specs.Reading.{layout_read};
 ghost use Rattle.words.specs.Words.{Gives, MemoryOnlyIf, numbered, numbered_if};
 ghost use Rattle.commands.specs.Asking.{are_placed};
-ghost use Rattle.commands.specs.Obeyed.{or_most, four_parts, new_layout, set_layout, permuted, tied, stretched, read_layout};
+ghost use Rattle.commands.specs.Scratch.{or_most};
+ghost use Rattle.commands.specs.Obeyed.{four_parts, new_layout, set_layout, permuted, tied, stretched, read_layout};
 
 use crate::memory::{Memory, lend};
 use crate::scratch::{lacking, words_given};

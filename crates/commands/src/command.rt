@@ -26,6 +26,7 @@ pub enum Query {
     Verdict,
     Injective,
     Copy,
+    Means,
     Record,
     Rest,
     Order,
@@ -43,7 +44,7 @@ pub enum Command {
 }
 
 /// Each command, in the order of `help`.
-pub const COMMANDS: [Command; 21] = [
+pub const COMMANDS: [Command; 22] = [
     Command::Change(Change::New),
     Command::Query(Query::Bounds),
     Command::Change(Change::Set),
@@ -58,6 +59,7 @@ pub const COMMANDS: [Command; 21] = [
     Command::Query(Query::Verdict),
     Command::Query(Query::Injective),
     Command::Query(Query::Copy),
+    Command::Query(Query::Means),
     Command::Query(Query::Record),
     Command::Change(Change::Read),
     Command::Query(Query::Rest),
@@ -92,6 +94,7 @@ impl Command {
             Command::Query(Query::Verdict) => "verdict",
             Command::Query(Query::Injective) => "injective",
             Command::Query(Query::Copy) => "copy",
+            Command::Query(Query::Means) => "means",
             Command::Query(Query::Record) => "record",
             Command::Change(Change::Read) => "read",
             Command::Query(Query::Rest) => "rest",
@@ -142,6 +145,7 @@ impl Command {
             Command::Query(Query::Verdict) => "verdict [WORDS]",
             Command::Query(Query::Injective) => "injective EXTENTS STRIDES [WORDS]",
             Command::Query(Query::Copy) => "copy FROM TO [WORDS]",
+            Command::Query(Query::Means) => "means AXIS READINGS ROOM",
             Command::Query(Query::Record) => "record ROOM [WORDS]",
             Command::Change(Change::Read) => "read BYTES [WORDS]",
             Command::Query(Query::Rest) => "rest BYTES",
@@ -180,6 +184,8 @@ impl Command {
                 "whether two positions of a layout of these extents and strides share a cell, with WORDS words of scratch",
             Command::Query(Query::Copy) =>
                 "copy readings FROM through the current layout into readings TO through the held one; the answer is TO afterwards",
+            Command::Query(Query::Means) =>
+                "means of READINGS through the current layout along axis AXIS, into at most ROOM readings",
             Command::Query(Query::Record) =>
                 "the record of the current layout, in at most ROOM bytes",
             Command::Change(Change::Read) => "read a record and make its layout current",

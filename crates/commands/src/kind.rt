@@ -21,10 +21,12 @@ pub enum Kind {
     ExtentsDiffer,
     ShortReadings,
     NotDistinct,
+    EmptyAxis,
+    LongAxis,
 }
 
 /// Each refusal, by its number.
-pub const KINDS: [Kind; 14] = [
+pub const KINDS: [Kind; 16] = [
     Kind::TooManyAxes,
     Kind::LengthsDiffer,
     Kind::OutOfRange,
@@ -39,6 +41,8 @@ pub const KINDS: [Kind; 14] = [
     Kind::ExtentsDiffer,
     Kind::ShortReadings,
     Kind::NotDistinct,
+    Kind::EmptyAxis,
+    Kind::LongAxis,
 ];
 
 // A refusal's number, the names of its values, and what it says.
@@ -107,8 +111,8 @@ impl Kind {
             ),
             Kind::ShortOutput => (
                 "10",
-                " BYTES",
-                "BYTES bytes of output are needed; give at least as many as ROOM",
+                " ROOM",
+                "an output of ROOM is needed, in bytes of a record or in readings of means; give at least as many as ROOM",
             ),
             Kind::NotARecord => (
                 "11",
@@ -129,6 +133,16 @@ impl Kind {
                 "14",
                 "",
                 "the verdict on the destination is not distinct; hold a layout that verdict answers with distinct",
+            ),
+            Kind::EmptyAxis => (
+                "15",
+                "",
+                "the extent along the axis is 0; means are taken along an axis of extent 1 to 65536",
+            ),
+            Kind::LongAxis => (
+                "16",
+                "",
+                "the extent along the axis is above 65536; means are taken along an axis of extent 1 to 65536",
             ),
         };
         Texts {

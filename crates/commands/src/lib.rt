@@ -8,6 +8,7 @@ pub mod layouts;
 pub mod memory;
 pub mod obey;
 mod query;
+mod readings;
 pub mod reply;
 mod scratch;
 pub mod topic;

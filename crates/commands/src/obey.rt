@@ -12,8 +12,9 @@ use crate::command::{Change, Command, Query};
 use crate::layouts::Layouts;
 use crate::memory::Memory;
 use crate::query::{
-    bounds, column, copy, draw, help, injective, normal, offset, order, record, rest, row, verdict,
+    bounds, column, draw, help, injective, normal, offset, order, record, rest, row, verdict,
 };
+use crate::readings::{copy, means};
 use crate::reply::Reply;
 use std::alloc::Global;
 use view::layout::Layout;
@@ -45,7 +46,7 @@ fn next_layout<'a>(
 }
 
 // What a command answers that leaves both layouts, with the words behind its name.
-#[tactic(auto, using(crate::proofs::Asked::one, crate::proofs::Asked::two, crate::proofs::Asked::four, crate::proofs::Asked::verdict_asks, crate::proofs::Asked::injective_asks, crate::proofs::Asked::copy_asks, crate::proofs::Asked::record_asks), unfolding(crate::specs::Obeyed::answer_text, crate::specs::Asking::query_asks))]
+#[tactic(auto, using(crate::proofs::Asked::one, crate::proofs::Asked::two, crate::proofs::Asked::three, crate::proofs::Asked::four, crate::proofs::Asked::verdict_asks, crate::proofs::Asked::injective_asks, crate::proofs::Asked::copy_asks, crate::proofs::Asked::record_asks), unfolding(crate::specs::Obeyed::answer_text, crate::specs::Asking::query_asks))]
 fn answer<'a>(
     alloc: Global,
     layouts: &Layouts,
@@ -76,6 +77,7 @@ fn answer<'a>(
         Query::Verdict => verdict(current, memory, words.up_to_one()?),
         Query::Injective => injective(alloc, memory, words.two_or_three()?),
         Query::Copy => copy(alloc, layouts, memory, words.two_or_three()?),
+        Query::Means => means(alloc, current, words.three()?),
         Query::Record => record(alloc, current, memory, words.one_or_two()?),
         Query::Rest => rest(alloc, words.one()?),
         Query::Order => order(alloc, words.two()?),

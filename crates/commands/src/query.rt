@@ -3,19 +3,16 @@ ghost use Rattle.std.specs.Prelude.{◌≡◌, ◌&&◌, IfOk, length};
 ghost use Rattle.specification.specs.Record.{written};
 ghost use Rattle.specification.specs.Verdict.{verdict};
 ghost use Rattle.specification.specs.Beside.{col_major, row_major};
-ghost use Rattle.copying.specs.Copy.{copy_refusal, copy_after};
 ghost use Rattle.view.specs.Answers.{outcome_of};
 ghost use Rattle.view.specs.Model.{model_of};
 ghost use Rattle.words.specs.Words.{Tells, Gives, MemoryOnlyIf, numbered, numbered_if};
 ghost use Rattle.injectivity.specs.Judgement.{axes_judged, judged_of, told_of};
-ghost use Rattle.commands.specs.Scratch.{bytes_made, front_written};
+ghost use Rattle.commands.specs.Scratch.{or_most, bytes_made, front_written};
 ghost use Rattle.commands.specs.Asking.{are_placed, is_lent, is_lent_if};
-ghost use Rattle.commands.specs.Layouts.{layouts_of};
 ghost use Rattle.commands.specs.Replies.{reply_text};
-ghost use Rattle.commands.specs.Obeyed.{or_most, bounds_text, offset_text, drawn_text, normal_text, verdict_of, injective_text, copied_text, record_text, rest_text, order_text, dense_text, help_text};
+ghost use Rattle.commands.specs.Obeyed.{bounds_text, offset_text, drawn_text, normal_text, verdict_of, injective_text, record_text, rest_text, order_text, dense_text, help_text};
 
 use crate::change::{Four, Given};
-use crate::layouts::Layouts;
 use crate::memory::{Memory, lend};
 use crate::reply::Reply;
 use crate::scratch::{lacking, words_given};
@@ -150,59 +147,6 @@ pub fn injective<'a>(
         words,
     )?;
     Ok(Reply::Judged(judged?))
-}
-
-// A copy with so many words of scratch, or with as many as the verdict on the held layout needs.
-#[tactic(auto, using(crate::proofs::CopyLaws::first_copied))]
-fn copy_readings(
-    layouts: &Layouts,
-    from: &[i32],
-    to: &mut [i32],
-    scratch: &mut Vec<u64>,
-    words: Option<usize>,
-) -> Result<Result<(), Refusal>, AllocError>
-    ensures answer { IfOk result (λ answer. outcome_of answer ≡ copy_refusal
-        (model_of layouts.now.current) (model_of layouts.now.held) (length from.now) (length to.old) (or_most words)) }
-    ensures copied { IfOk result (λ answer. to.new ≡ copy_after (outcome_of answer)
-        (model_of layouts.now.current) (model_of layouts.now.held) from.now to.old) }
-{
-    let Layouts { current, held } = layouts;
-    let first = copying::copy(
-        current,
-        from,
-        held,
-        to,
-        lend(scratch, words.unwrap_or(0), 0)?,
-    );
-    match lacking(words, &first) {
-        Some(needed) => Ok(copying::copy(current, from, held, to, lend(scratch, needed, 0)?)),
-        None => Ok(first),
-    }
-}
-
-/// Readings copied through the current layout into others through the held one.
-#[tactic(auto, unfolding(crate::specs::Obeyed::copied_text))]
-pub fn copy<'a>(
-    alloc: Global,
-    layouts: &Layouts,
-    memory: &mut Memory,
-    words: (Word<'a>, Word<'a>, Option<Word<'a>>),
-) -> Result<Reply, Problem<'a>>
-    ensures { Gives reply_text result (copied_text (layouts_of layouts.now)
-        (numbered words.entry.0, numbered words.entry.1, numbered_if words.entry.2)) }
-{
-    let (from, to, words) = words;
-    let from = from.list(alloc)?;
-    let mut to: Vec<i32> = to.list(alloc)?;
-    let words = words_given(words)?;
-    copy_readings(
-        layouts,
-        from.as_slice(),
-        to.as_mut_slice(),
-        &mut memory.scratch,
-        words,
-    )??;
-    Ok(Reply::Readings(to))
 }
 
 // The record of a layout at the front of a room, with so many words of scratch, or with as many as it needs.

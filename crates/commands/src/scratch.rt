@@ -1,8 +1,7 @@
 // How many words of scratch a line lends: those that it names, or as many as are needed.
 ghost use Rattle.std.specs.Prelude.{◌≡◌, Option};
 ghost use Rattle.words.specs.Words.{Tells, numbered_if};
-ghost use Rattle.commands.specs.Obeyed.{words_given};
-ghost use Rattle.commands.specs.Scratch.{words_lacking};
+ghost use Rattle.commands.specs.Scratch.{words_given, words_lacking};
 
 use view::layout::Refusal;
 use words::fault::Fault;

@@ -16,6 +16,8 @@ pub enum UsageWord {
     Pairs,
     From,
     To,
+    Axis,
+    Readings,
     Bytes,
     Words,
     Room,
@@ -24,7 +26,7 @@ pub enum UsageWord {
 }
 
 /// Each word of a usage.
-pub const USAGE_WORDS: [UsageWord; 14] = [
+pub const USAGE_WORDS: [UsageWord; 16] = [
     UsageWord::Len,
     UsageWord::OutLen,
     UsageWord::Offset,
@@ -34,6 +36,8 @@ pub const USAGE_WORDS: [UsageWord; 14] = [
     UsageWord::Pairs,
     UsageWord::From,
     UsageWord::To,
+    UsageWord::Axis,
+    UsageWord::Readings,
     UsageWord::Bytes,
     UsageWord::Words,
     UsageWord::Room,
@@ -94,6 +98,14 @@ impl UsageWord {
                 "TO",
                 "readings to copy into, numbers from -2147483648 to 2147483647 with commas between them, at most 64, as 0,0; - for none",
             ),
+            UsageWord::Axis => (
+                "AXIS",
+                "the axis to take means along, counted from 0, a number from 0 to 18446744073709551615, as 1",
+            ),
+            UsageWord::Readings => (
+                "READINGS",
+                "readings to take means of, numbers from -2147483648 to 2147483647 with commas between them, at most 64, as 7,-8; - for none",
+            ),
             UsageWord::Bytes => (
                 "BYTES",
                 "two hexadecimal digits for each byte and nothing between them, as 00ff; - for none",
@@ -104,12 +116,12 @@ impl UsageWord {
             ),
             UsageWord::Room => (
                 "ROOM",
-                "how many bytes of output to lend, a number from 0 to 65536, as 64",
+                "how much output to lend, in bytes of a record or in readings of means, a number from 0 to 65536, as 64",
             ),
             UsageWord::Command => ("COMMAND", "the name of a command, as new"),
             UsageWord::Topic => (
                 "TOPIC",
-                "what help explains: a command, as new; a word of a usage, as LIST; words; refused; or a number from 1 to 14",
+                "what help explains: a command, as new; a word of a usage, as LIST; words; refused; or a number from 1 to 16",
             ),
         };
         Texts { name, meaning }

@@ -2,11 +2,11 @@
 use Rattle.std.proofs.Common.{◌≡◌, ◌<◌, ◌≤◌, ℕ, List, [], ◌∷◌, take, Bool, true, false, Option, Some, None, Ok, Err, IsTrue, ◌≢◌, length, length-append, arith, ap, refl, sym}
 use Rattle.std.proofs.lemmas.Bool.{lt-ltb}
 use Rattle.words.specs.Texts.{word_count}
-use Rattle.words.specs.Words.{Told, words, no_word, one_word, two_words, four_words, up_to_one_word, one_or_two_words, two_or_three_words}
+use Rattle.words.specs.Words.{Told, words, no_word, one_word, two_words, three_words, four_words, up_to_one_word, one_or_two_words, two_or_three_words}
 use Rattle.commands.specs.declared.command.Command.{Command}
 use Rattle.commands.specs.declared.command.Command.TheVariants as command
 use Rattle.commands.specs.declared.command.Change.TheVariants.{New, Set, Permute, Diagonal, Broadcast, Read}
-use Rattle.commands.specs.declared.command.Query.TheVariants.{Bounds, Show, Draw, Offset, Normal, Verdict, Injective, Copy, Record, Rest, Order, Column, Row, Help}
+use Rattle.commands.specs.declared.command.Query.TheVariants.{Bounds, Show, Draw, Offset, Normal, Verdict, Injective, Copy, Means, Record, Rest, Order, Column, Row, Help}
 use Rattle.commands.specs.Layouts.{Layouts}
 use Rattle.commands.specs.Commands.{named, name_of, usage_of}
 use Rattle.commands.specs.Obeyed.{Answered, next_layout, answer_text, run, obeyed}
@@ -22,7 +22,7 @@ module _ (ls : Layouts) (a b c d e : List ℕ) (more : List (List ℕ)) where
 
   -- no command takes five words
   five_run : (command : Command) → run ls command (a ∷ b ∷ c ∷ d ∷ e ∷ []) ≡ run ls command (a ∷ b ∷ c ∷ d ∷ e ∷ more)
-  unfolding run next_layout answer_text no_word one_word two_words four_words up_to_one_word one_or_two_words two_or_three_words
+  unfolding run next_layout answer_text no_word one_word two_words three_words four_words up_to_one_word one_or_two_words two_or_three_words
   five_run (command.Change New) = ap Err (counted (usage_of (command.Change New)) 4 4 (omega arith))
   five_run (command.Change Set) = ap Err (counted (usage_of (command.Change Set)) 4 4 (omega arith))
   five_run (command.Change Permute) = ap Err (counted (usage_of (command.Change Permute)) 1 1 (omega arith))
@@ -38,6 +38,7 @@ module _ (ls : Layouts) (a b c d e : List ℕ) (more : List (List ℕ)) where
   five_run (command.Query Verdict) = ap Err (counted (usage_of (command.Query Verdict)) 0 1 (omega arith))
   five_run (command.Query Injective) = ap Err (counted (usage_of (command.Query Injective)) 2 3 (omega arith))
   five_run (command.Query Copy) = ap Err (counted (usage_of (command.Query Copy)) 2 3 (omega arith))
+  five_run (command.Query Means) = ap Err (counted (usage_of (command.Query Means)) 3 3 (omega arith))
   five_run (command.Query Record) = ap Err (counted (usage_of (command.Query Record)) 1 2 (omega arith))
   five_run (command.Query Rest) = ap Err (counted (usage_of (command.Query Rest)) 1 1 (omega arith))
   five_run (command.Query Order) = ap Err (counted (usage_of (command.Query Order)) 2 2 (omega arith))

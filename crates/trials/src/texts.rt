@@ -32,7 +32,10 @@ fn each_refusal_is_a_sentence(rt: HostRuntime) -> Result<(), Fail> {
             Refusal::ShortScratch(11072),
             "11072 words of scratch are needed",
         ),
-        (Refusal::ShortOutput(29), "29 bytes of output are needed"),
+        (
+            Refusal::ShortOutput(29),
+            "an output of 29 is needed, in bytes of a record or in readings of means",
+        ),
         (Refusal::NotARecord, "the bytes are not a record"),
         (Refusal::ExtentsDiffer, "the two layouts differ in extents"),
         (
@@ -42,6 +45,11 @@ fn each_refusal_is_a_sentence(rt: HostRuntime) -> Result<(), Fail> {
         (
             Refusal::NotDistinct,
             "the verdict on the destination is not distinct",
+        ),
+        (Refusal::EmptyAxis, "the extent along the axis is 0"),
+        (
+            Refusal::LongAxis,
+            "the extent along the axis is above 65536",
         ),
     ];
     for (why, sentence) in sentences {

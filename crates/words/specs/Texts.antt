@@ -92,7 +92,7 @@ unfoldable pub unknown_command : ℕ → List ℕ → List ℕ
 unknown_command number text = codes "error: " ++ at_word number text ++ codes " is no command; " ++ way_on (is_farewell text)
 
 unfoldable pub unknown_topic : ℕ → List ℕ → List ℕ
-unknown_topic number text = codes "error: " ++ at_word number text ++ codes " is no topic of help; topics are the commands, the words of their usages (as LIST), words, refused, and the numbers from 1 to 14"
+unknown_topic number text = codes "error: " ++ at_word number text ++ codes " is no topic of help; topics are the commands, the words of their usages (as LIST), words, refused, and the numbers from 1 to 16"
 
 -- how many words a command takes behind its name; if the two numbers differ, the last word may be left out
 abbrev pub wanted : ℕ → ℕ → List ℕ

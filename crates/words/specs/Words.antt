@@ -77,6 +77,10 @@ unfoldable pub two_words : List ℕ → List (List ℕ) → Told (Numbered × Nu
 two_words usage (a ∷ b ∷ []) = Ok ((2, a), (3, b))
 two_words usage other = Err (word_count usage 2 2 (length other))
 
+unfoldable pub three_words : List ℕ → List (List ℕ) → Told (Numbered × Numbered × Numbered)
+three_words usage (a ∷ b ∷ c ∷ []) = Ok ((2, a), (3, b), (4, c))
+three_words usage other = Err (word_count usage 3 3 (length other))
+
 unfoldable pub four_words : List ℕ → List (List ℕ) → Told (Numbered × Numbered × Numbered × Numbered)
 four_words usage (a ∷ b ∷ c ∷ d ∷ []) = Ok ((2, a), (3, b), (4, c), (5, d))
 four_words usage other = Err (word_count usage 4 4 (length other))

@@ -122,7 +122,7 @@ impl fmt::Display for Fault<'_> {
             ),
             Fault::UnknownTopic(word) => write!(
                 f,
-                "error: word {word} is no topic of help; topics are the commands, the words of their usages (as LIST), words, refused, and the numbers from 1 to 14"
+                "error: word {word} is no topic of help; topics are the commands, the words of their usages (as LIST), words, refused, and the numbers from 1 to 16"
             ),
             Fault::WordCount(count) => write!(
                 f,

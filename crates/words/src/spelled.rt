@@ -8,10 +8,10 @@ use crate::fault::Form;
 use spelling::number::{read_signed, read_unsigned};
 use view::diagonal::AxisPair;
 
-/// The most words or bytes that a line can name to be lent to a call.
+/// The most words, bytes or readings that a line can name to be lent to a call.
 const LENT_MOST: usize = 65536;
 
-/// A number of words or of bytes that a line lends to a call.
+/// A number of words, of bytes or of readings that a line lends to a call.
 #[derive(Clone, Copy)]
 pub struct Lent(pub usize);
 

@@ -4,7 +4,7 @@ ghost use Rattle.std.specs.Io.BufRead.{strip_last};
 ghost use Rattle.std.specs.List.{list_all};
 ghost use Rattle.hex.specs.Hex.{is_hex_digit};
 ghost use Rattle.words.specs.Texts.{fault_text, word_count};
-ghost use Rattle.words.specs.Words.{Tells, Gives, is_space, words, numbered, numbered_if, no_word, one_word, two_words, four_words, up_to_one_word, one_or_two_words, two_or_three_words, is_none, entries, one_of, list_of, listed, bytes_of};
+ghost use Rattle.words.specs.Words.{Tells, Gives, is_space, words, numbered, numbered_if, no_word, one_word, two_words, three_words, four_words, up_to_one_word, one_or_two_words, two_or_three_words, is_none, entries, one_of, list_of, listed, bytes_of};
 
 use crate::fault::{Fault, Problem};
 use crate::phrase::Miscount;
@@ -107,6 +107,17 @@ impl<'a> Words<'a> {
         match self.texts {
             [a, b] => Ok((Word::new(2, *a), Word::new(3, *b))),
             [..] => Err(self.miscounted(2, 2)),
+        }
+    }
+
+    #[tactic(auto, unfolding(crate::specs::Words::three_words))]
+    pub fn three(self) -> Result<(Word<'a>, Word<'a>, Word<'a>), Fault<'a>>
+        ensures { Tells (λ w. (numbered w.0, numbered w.1, numbered w.2)) result
+            (three_words self.entry.usage.now (map (λ text. text.now) self.entry.texts.now)) }
+    {
+        match self.texts {
+            [a, b, c] => Ok((Word::new(2, *a), Word::new(3, *b), Word::new(4, *c))),
+            [..] => Err(self.miscounted(3, 3)),
         }
     }
 

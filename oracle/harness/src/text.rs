@@ -2,9 +2,10 @@
 
 use crate::input::{joined, Answer, Given, Input, Layout, List};
 use crate::record::{self, Refused};
-use crate::{copying, help, reference, rust};
+use crate::{averaging, copying, help, reference, rust};
 use std::collections::BTreeMap;
 use std::fmt::{self, Display};
+use std::ops::RangeInclusive;
 
 /// Bytes of a line, its line feed not counted.
 pub const LONGEST: usize = 4096;
@@ -14,6 +15,8 @@ const ENTRIES: usize = 64;
 const LENT: i128 = 65_536;
 /// The most positions that are drawn.
 const DRAWN: u64 = 200;
+/// With so many positions means take long, and not each is refused.
+const LONG_MEANS: RangeInclusive<u64> = 1 << 24..=1 << 32;
 /// The words that are lent where WORDS is left out: no verdict needs more.
 const ANY_WORDS: usize = 16_777_217;
 
@@ -22,7 +25,7 @@ const SIGNED: (i128, i128) = (i64::MIN as i128, i64::MAX as i128);
 const READING: (i128, i128) = (i32::MIN as i128, i32::MAX as i128);
 
 /// Each command with its words, those in brackets may be left out, and what it does.
-pub const COMMANDS: [(&str, &str); 21] = [
+pub const COMMANDS: [(&str, &str); 22] = [
     ("new LEN OFFSET EXTENTS STRIDES", "check a layout in and make it current"),
     ("bounds LEN OFFSET EXTENTS STRIDES", "check the bounds of a layout; the current one stays"),
     ("set LEN OFFSET EXTENTS STRIDES", "make a layout current with no check; of more than 16 axes the first 16 are held"),
@@ -37,6 +40,7 @@ pub const COMMANDS: [(&str, &str); 21] = [
     ("verdict [WORDS]", "whether two positions of the current layout share a cell, with WORDS words of scratch"),
     ("injective EXTENTS STRIDES [WORDS]", "whether two positions of a layout of these extents and strides share a cell, with WORDS words of scratch"),
     ("copy FROM TO [WORDS]", "copy readings FROM through the current layout into readings TO through the held one; the answer is TO afterwards"),
+    ("means AXIS READINGS ROOM", "means of READINGS through the current layout along axis AXIS, into at most ROOM readings"),
     ("record ROOM [WORDS]", "the record of the current layout, in at most ROOM bytes"),
     ("read BYTES [WORDS]", "read a record and make its layout current"),
     ("rest BYTES", "what stands behind the record at the front"),
@@ -325,7 +329,7 @@ impl Session {
             return Ok((0..COMMANDS.len()).map(help).chain(help::MORE.map(str::to_string)).collect());
         }
         let topic = command(words.word(2)).map(|place| vec![help(place)]).or_else(|| help::topic(words.word(2)));
-        topic.ok_or_else(|| words.fault(2, "is no topic of help; topics are the commands, the words of their usages (as LIST), words, refused, and the numbers from 1 to 14"))
+        topic.ok_or_else(|| words.fault(2, "is no topic of help; topics are the commands, the words of their usages (as LIST), words, refused, and the numbers from 1 to 16"))
     }
 
     /// A command that calls the library.
@@ -372,6 +376,7 @@ impl Session {
                 self.verdict(&extents, &strides, words)
             }
             b"copy" => self.copy(words),
+            b"means" => self.means(words),
             b"record" => self.record(words),
             b"read" => self.read(words),
             b"rest" => {
@@ -426,6 +431,17 @@ impl Session {
         let (from, mut to, words) = (words.readings(2)?, words.readings(3)?, words.scratch(4)?);
         copying::copy(&self.layout, &from, &self.held, &mut to, words).answer.map_err(refused)?;
         Ok(joined(&to))
+    }
+
+    /// Means in `ROOM` places. They are not asked for if they would take long; above 2^32 positions every call is refused.
+    fn means(&self, words: &Words) -> Said<String> {
+        let (axis, readings, room) = (words.number(2, UNSIGNED)? as u64, words.readings(3)?, words.number(4, (0, LENT))? as usize);
+        if record::positions(self.layout.extents()).is_some_and(|positions| LONG_MEANS.contains(&positions)) {
+            return Err(Stop::Dear);
+        }
+        let mut out = vec![0; room];
+        let count = averaging::means(&self.layout, axis, &readings, &mut out).answer.map_err(|(number, [first, second])| Stop::Answer(Answer::with(number, first, second).text()))?;
+        Ok(joined(&out[..count]))
     }
 
     fn record(&mut self, words: &Words) -> Said<String> {

@@ -8,7 +8,8 @@ use Rattle.specification.proofs.OutcomeLaws.{clash}
 use Rattle.view.specs.declared.layout.Refusal.{Refusal}
 use Rattle.view.specs.Answers.{outcome_of, answer_of}
 use Rattle.words.specs.Texts.{told_refusal}
-use Rattle.commands.specs.Obeyed.{told, order_text}
+use Rattle.commands.specs.Obeyed.{order_text}
+use Rattle.commands.specs.Told.{told}
 use Rattle.commands.proofs.query.order.Goals as goal
 
 same_test : (n places room : ℕ) → room ≡ min places 65 → n ≤ 64 → eqb n places ≡ eqb n room

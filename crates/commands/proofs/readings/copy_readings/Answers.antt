@@ -1,7 +1,7 @@
 use Rattle.std.proofs.Common.{sym, ◌∙◌}
 use Rattle.view.specs.Model.{model_of}
 use Rattle.commands.proofs.CopyLaws.{second_copied, second_left}
-use Rattle.commands.proofs.query.copy_readings.Goals as goal
+use Rattle.commands.proofs.readings.copy_readings.Goals as goal
 
 pub returns-in_ok-lend-in-Some-clause-answer : goal.returns-in_ok-lend-in-Some-clause-answer
 returns-in_ok-lend-in-Some-clause-answer c =
