@@ -27,13 +27,32 @@ class Means(Refused):
             (STRETCHED, 1, [-1, -2], [-1, -2]),
             (wide(65536), 0, [LOW], [LOW]),
             (wide(65536), 0, [HIGH], [HIGH]),
-            (Layout(3, 0, [3], [1]), 0, [LOW, LOW, LOW + 1], [LOW]),
             (Layout(0, 7, [2, 0], [1, 1]), 0, [], []),
         ]:
             self.assertEqual(layout.means(axis, list(readings)), array("i", means))
             out = array("i", [-9] * (len(means) + 2))
             self.assertEqual(layout.means(axis, array("i", readings), out), len(means))
             self.assertEqual(out.tolist(), means + [-9, -9])
+
+    def test_rounded_once(self):
+        for readings, mean in [
+            ([1, 0], 1),
+            ([-1, 0], -1),
+            ([3, 0], 2),
+            ([-3, 0], -2),
+            ([LOW, HIGH], -1),
+            ([HIGH, HIGH - 1], HIGH),
+            ([LOW, LOW + 1], LOW),
+            ([1, 0, 0], 0),
+            ([-1, 0, 0], 0),
+            ([-1, -1, 0], -1),
+            ([HIGH] * 4, HIGH),
+            ([LOW] * 5, LOW),
+            ([1, 2, 2, 1], 2),
+            ([-1, -2, -2, -1], -2),
+        ]:
+            row = Layout(len(readings), 0, [len(readings)], [1])
+            self.assertEqual(row.means(0, readings).tolist(), [mean])
 
     def test_refused(self):
         none_along = Layout(0, 0, [0, 3], [1, 1])

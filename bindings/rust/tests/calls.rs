@@ -180,6 +180,20 @@ fn means_along_an_axis() {
     }
 }
 
+// To the nearest whole number, halves away from zero; the sum is one of more than 32 bits.
+#[test]
+fn means_are_rounded_once() {
+    let (low, high) = (i32::MIN, i32::MAX);
+    for (readings, mean) in [
+        (&[1, 0][..], 1), (&[-1, 0], -1), (&[3, 0], 2), (&[-3, 0], -2), (&[low, high], -1), (&[high, high - 1], high),
+        (&[low, low + 1], low), (&[1, 0, 0], 0), (&[-1, 0, 0], 0), (&[-1, -1, 0], -1), (&[high; 4], high), (&[low; 5], low),
+        (&[1, 2, 2, 1], 2), (&[-1, -2, -2, -1], -2),
+    ] {
+        let count = readings.len() as u64;
+        assert_eq!(means(&layout(count, 0, [count], [1]), 0, readings, 1), Ok(vec![mean]));
+    }
+}
+
 #[test]
 fn means_of_no_position() {
     assert_eq!(means(&layout(0, 7, [2, 0], [1, 1]), 0, &[], 1), Ok(vec![]));

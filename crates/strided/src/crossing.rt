@@ -68,11 +68,8 @@ pub(crate) fn answer_with_count(answer: Result<usize, Refusal>, values: &mut Val
     ensures answer { result ≡ number_after (outcome_of answer) }
     ensures values { places values.new ≡ written_after (outcome_of answer) values.old }
 {
-    match answer {
-        Ok(count) => {
-            values.first = count;
-            0
-        }
-        Err(why) => refuse(why, values),
+    if let Ok(count) = answer {
+        values.first = count;
     }
+    answer_with_values(answer.map(|_count| ()), values)
 }
