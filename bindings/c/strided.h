@@ -9,8 +9,8 @@
  * is not distinct (refusal 14), the scratch words that the verdict needs may change.
  *
  * Units: a buffer length, an offset and a stride count readings, never bytes. scratch_len counts scratch words of 64 bits.
- * The output of strided_write and the bytes of a record are counted in bytes. A reading is a number of 32 bits in a unit of the
- * caller's, at a station tenths of a millimetre; copies and means of readings are in the same unit.
+ * The output of strided_write and the bytes of a record are counted in bytes. A reading is a signed number of 32 bits in a unit
+ * of the caller's, as tenths of a millimetre at a station. Copies and means of readings are in that unit too.
  *
  * A slice is a pointer and a length: X_len is how many entries X has. A slice of length 0 may have any pointer, also NULL.
  * Any numbers may stand in a layout: every call has an answer to them. Two things are the caller's to keep true, and no
