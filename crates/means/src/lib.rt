@@ -18,7 +18,7 @@ ghost use Rattle.means.specs.Means.{remaining, mean_count, first_means, means_of
 ghost use Rattle.means.specs.MeansClaims.{MeansClaims, MeansWritten};
 ghost use Rattle.means.specs.MeansCases.{MeansCases};
 
-use rows::write_rows;
+use rows::write_all;
 use view::count::element_count;
 use view::layout::{Layout, Refusal};
 
@@ -74,7 +74,7 @@ fn write_means(layout: &Layout, axis: usize, readings: &[i32], rest: &Layout, ou
     ensures { out.new ≡ first_means (model_of layout.now) axis readings.now (length out.old) }
 {
     let start = rest.offset.0.cast_unsigned();
-    write_rows(readings, layout.axes[axis], rest.axes(), start, out);
+    write_all(readings, layout.axes[axis], rest.axes(), start, out);
 }
 
 /// The mean of the readings along an axis, for each position of the remaining axes: those of the

@@ -25,20 +25,16 @@ fn write_row(readings: &[i32], along: Axis, start: u64, step: u64, out: &mut [i3
     }
 }
 
-/// Writes the mean of each position of the remaining axes, in position order.
-pub(crate) fn write_rows(readings: &[i32], along: Axis, rest: &[Axis], start: u64, out: &mut [i32])
+/// Writes the means row by row, from each position of the other axes on.
+fn write_rows(readings: &[i32], along: Axis, row: Axis, others: &[Axis], start: u64, out: &mut [i32])
     requires some { 0 < along.extent }
     requires few { along.extent ≤ 65536 }
-    requires walkable { IsWalkable rest.now }
-    requires in_readings { IsPlacedIn start (along ∷ rest.now) (length readings.now) }
-    requires as_many { length out.old ≡ positions rest.now }
-    ensures { out.new ≡ map (λ k. mean_from readings.now along (place_at start rest.now k)) (range_with_len 0 (length out.old)) }
+    requires walkable { IsWalkable others.now }
+    requires some_row { 0 < row.extent }
+    requires in_readings { IsPlacedIn start (along ∷ row ∷ others.now) (length readings.now) }
+    requires as_many { length out.old ≡ positions (row ∷ others.now) }
+    ensures { out.new ≡ map (λ k. mean_from readings.now along (place_at start (row ∷ others.now) k)) (range_with_len 0 (length out.old)) }
 {
-    let [row, others @ ..] = rest else {
-        // no axis remains: there is one mean
-        write_row(readings, along, start, 0, out);
-        return;
-    };
     let step = row.stride.cast_unsigned();
     let count = row.extent as usize;
     let mut position = Positions::new(others, start);
@@ -47,5 +43,21 @@ pub(crate) fn write_rows(readings: &[i32], along: Axis, rest: &[Axis], start: u6
         write_row(readings, along, position.place(), step, &mut out[done..done + count]);
         done += count;
         position.next();
+    }
+}
+
+/// Writes the mean of each position of the remaining axes, in position order.
+pub(crate) fn write_all(readings: &[i32], along: Axis, rest: &[Axis], start: u64, out: &mut [i32])
+    requires some { 0 < along.extent }
+    requires few { along.extent ≤ 65536 }
+    requires walkable { IsWalkable rest.now }
+    requires in_readings { IsPlacedIn start (along ∷ rest.now) (length readings.now) }
+    requires as_many { length out.old ≡ positions rest.now }
+    ensures { out.new ≡ map (λ k. mean_from readings.now along (place_at start rest.now k)) (range_with_len 0 (length out.old)) }
+{
+    match rest {
+        // no axis remains: there is one mean
+        [] => out[0] = mean_along(readings, along, start),
+        [row, others @ ..] => write_rows(readings, along, *row, others, start, out),
     }
 }
