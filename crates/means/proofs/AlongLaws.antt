@@ -1,5 +1,5 @@
 -- The index vectors of the remaining axes, and those of all axes: an index is put in, or taken out.
-use Rattle.std.specs.Prelude.{Bool, true, false, List, [], ◌∷◌, ◌≡◌, ℕ, zero, suc, ◌+◌, ◌<◌, ◌≤◌, ℤ, ◌+ℤ◌, length, take, drop, insert, remove, slice_index_or}
+use Rattle.std.specs.Prelude.{Bool, true, false, List, [], ◌∷◌, ◌≡◌, ℕ, zero, suc, ◌+◌, ◌<◌, ◌≤◌, ℤ, ◌+ℤ◌, length, take, drop, insert, remove}
 use mathlib.Core.Path.{refl, sym, ap, ◌∙◌}
 use native.Mathlib.Omega.{arith}
 use lib.IntN.{+ℤ_assoc, +ℤ_comm}
@@ -7,11 +7,11 @@ use lib.ListN.{length-append, length-drop}
 use lib.Seq.{length-take-le}
 use Rattle.integer.specs.Multiple.{◌·◌}
 use Rattle.specification.specs.Axis.{Axis, extents, positions, index_at, offset_sum, is_empty}
-use Rattle.specification.specs.Layout.{LayoutModel, rank, offset_at}
+use Rattle.specification.specs.Layout.{LayoutModel, rank}
 use Rattle.specification.specs.Views.{axis_at}
 use Rattle.specification.proofs.NormalAxes.{AllPositive}
 use Rattle.specification.proofs.NormalLaws.{empty-none, full-pos}
-use Rattle.specification.proofs.Positions.{IndexVector, empty, ◌and◌, place, indices-within, indices-place, place-lt}
+use Rattle.specification.proofs.Positions.{IndexVector, ◌and◌, place, indices-within, indices-place, place-lt}
 use Rattle.means.specs.Means.{remaining, mean_count, extent_along, offset_along}
 use Rattle.means.specs.MeansClaims.{IsPositionAlong}
 
@@ -92,6 +92,11 @@ module _ (l : LayoutModel) (axis : ℕ) (h : axis < rank l) where
       → (k : ℕ) × (i : ℕ) × (k < mean_count l axis) × (i < extent_along l axis) × IsPositionAlong l axis k i position
   unfolding remaining
   along-position position g =
-      let t = taken-out l.axes axis (index_at (extents l.axes) position) h (indices-within (full-positions l.axes g) position g) in
-      (place (extents others) t.others, t.index, place-lt others t.vector, t.below, positioned _ t.index position g
-      (sym t.put_in ∙ ap (λ (x : List ℕ). insert x axis t.index) (sym (indices-place others t.vector))))
+      let t = taken-out l.axes axis (index_at (extents l.axes) position) h (indices-within (full-positions l.axes g) position g) in (
+        place (extents others) t.others,
+        t.index,
+        place-lt others t.vector,
+        t.below,
+        positioned _ t.index position g
+            (sym t.put_in ∙ ap (λ (x : List ℕ). insert x axis t.index) (sym (indices-place others t.vector))),
+      )

@@ -4,11 +4,11 @@ use Rattle.specification.specs.Axis.{offset_sum}
 use Rattle.specification.specs.Readings.{least_buffer}
 use Rattle.specification.proofs.Computing.{computing}
 use Rattle.means.specs.Rounded.{rounded}
-use Rattle.means.specs.Means.{remaining, sum_of, mean_at, means_of, means_after}
+use Rattle.means.specs.Means.{remaining, sum_of, mean_at, extent_rule, means_of, means_after}
 use Rattle.means.specs.MeansCases.{MeansCases}
 
 pub means_cases : MeansCases
-unfolding computing offset_sum least_buffer rounded remaining sum_of mean_at means_of means_after
+unfolding computing offset_sum least_buffer rounded remaining sum_of mean_at extent_rule means_of means_after
 means_cases = record {
   rounded_half = refl;
   rounded_half_below = refl;

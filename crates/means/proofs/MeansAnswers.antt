@@ -9,7 +9,7 @@ use Rattle.specification.specs.Outcome.{Check, done, refused, refuse_if, ◌>>�
 use Rattle.specification.specs.Layout.{LayoutModel, rank, IsAccepted, handed, HandedRefused}
 use Rattle.specification.specs.Normal.{overfull}
 use Rattle.specification.specs.Readings.{is_too_short, IsTooShort}
-use Rattle.means.specs.Means.{remaining, mean_count, extent_along, means_of}
+use Rattle.means.specs.Means.{remaining, mean_count, extent_along, extent_rule, means_of}
 use Rattle.means.specs.MeansClaims.{IsHeld, MeansRefused, MeansWritten, MeansClaims}
 use Rattle.specification.proofs.TestLaws.{true-not-false}
 use Rattle.specification.proofs.OutcomeLaws.{clash, passed-check, done_inj}
@@ -45,7 +45,7 @@ module _ (l : LayoutModel) (axis readings room : ℕ) where
       >> refuse_if (nat_lt 65536 along) 16 []
 
   by-rules : means_of l axis readings room ≡ rules >> done (mean_count l axis)
-  unfolding means_of
+  unfolding means_of extent_rule
   by-rules = simp then-assoc
 
   abbrev Handed : Type 0
@@ -120,7 +120,7 @@ module _ (l : LayoutModel) (axis readings room : ℕ) where
     λ r. by-rules ∙ (then-done rules _ number values).1 ((means-answers.refuses number values).1 r),
   )
 
-  means-passed : (count : ℕ) → (means_of l axis readings room ≡ done count) ↔ MeansWritten l axis readings room count
+  pub means-passed : (count : ℕ) → (means_of l axis readings room ≡ done count) ↔ MeansWritten l axis readings room count
   unfolding ◌>>◌
   means-passed count = (
     λ e. let p = passed-check rules (sym by-rules ∙ e) in let w = means-answers.passes.0 p.0 in

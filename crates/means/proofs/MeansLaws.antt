@@ -1,6 +1,5 @@
 -- A mean lies between the least and the greatest of its readings; what is read for it, and what stands in the output.
-use Rattle.std.specs.Prelude.{List, ◌++◌, map, ◌≡◌, ℕ, zero, suc, ◌+◌, ◌<◌, ◌≤◌, ℤ, pos, ◌≤ℤ◌, length, drop, slice_get, slice_index_or, Some}
-use Rattle.std.specs.List.{range_with_len}
+use Rattle.std.specs.Prelude.{List, ◌++◌, ◌≡◌, ℕ, zero, suc, ◌<◌, ◌≤◌, ℤ, pos, ◌≤ℤ◌, length, drop, slice_get, slice_index_or, Some}
 use mathlib.Core.Path.{refl, ap, ◌∙◌}
 use native.Mathlib.Omega.{arith}
 use lib.ListN.{length-append, length-drop, get_or-append}

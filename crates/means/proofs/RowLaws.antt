@@ -1,5 +1,5 @@
 -- Means one after another, and row after row.
-use Rattle.std.proofs.Common.{Bool, true, false, ◌≡◌, refl, sym, ap, ◌∙◌, ℕ, zero, suc, ◌+◌, ◌*◌, ◌%◌, ◌^◌, ◌<◌, ◌≤◌, List, [], ◌∷◌, ◌++◌, map, ℤ, length, set, take, drop, ◌-◌, add-one, mul-le-mul_left, arith}
+use Rattle.std.proofs.Common.{Bool, true, false, ◌≡◌, refl, sym, ap, ◌∙◌, ℕ, zero, suc, ◌+◌, ◌*◌, ◌%◌, ◌^◌, ◌<◌, ◌≤◌, List, [], ◌∷◌, ◌++◌, map, ℤ, length, set, take, drop, ◌-◌, mul-le-mul_left, arith}
 use Rattle.std.specs.List.{range_with_len}
 use Rattle.std.proofs.lemmas.List.{take_more_set, append_assoc, append-nil, length-take, length-take-le, length-drop, take_all}
 use Rattle.std.proofs.lemmas.List.FromFn.{map-range_with_len_more, length-map-range_with_len}
@@ -17,7 +17,7 @@ mean-more f out k mean h e m =
     take_more_set out k mean h ∙ ap (λ z. z ++ mean ∷ []) e ∙ ap (λ x. map f (range_with_len 0 k) ++ x ∷ []) m ∙ sym (map-range_with_len_more f 0 k k (omega arith))
 
 -- a row of n behind the first a
-joined : (f g : ℕ → ℤ) (a n : ℕ) → ((i : ℕ) → i < n → g i ≡ f (i + a)) → map f (range_with_len 0 a) ++ map g (range_with_len 0 n) ≡ map f (range_with_len 0 (a + n))
+pub joined : (f g : ℕ → ℤ) (a n : ℕ) → ((i : ℕ) → i < n → g i ≡ f (i + a)) → map f (range_with_len 0 a) ++ map g (range_with_len 0 n) ≡ map f (range_with_len 0 (a + n))
 joined f g a zero e = append-nil (map f (range_with_len 0 a)) ∙ ap (λ (n : ℕ). map f (range_with_len 0 n)) (omega arith)
 joined f g a (suc n) e =
     let front = map f (range_with_len 0 a) in

@@ -1,5 +1,5 @@
 -- Means of runs, as the code takes them: places are words.
-use Rattle.std.specs.Prelude.{List, ℕ, ◌<◌, ◌^◌, ◌-◌, ℤ, pos, negsuc, ◌≤ℤ◌, slice_index_or}
+use Rattle.std.specs.Prelude.{List, ℕ, ◌^◌, ◌-◌, ℤ, pos, negsuc, ◌≤ℤ◌, slice_index_or}
 use Rattle.integer.specs.Multiple.{◌·◌}
 use Rattle.specification.specs.Axis.{Axis}
 use Rattle.positions.specs.Positions.{word_of}

@@ -26,7 +26,14 @@ fn write_row(readings: &[i32], along: Axis, start: u64, step: u64, out: &mut [i3
 }
 
 /// Writes the means row by row, from each position of the other axes on.
-fn write_rows(readings: &[i32], along: Axis, row: Axis, others: &[Axis], start: u64, out: &mut [i32])
+fn write_rows(
+    readings: &[i32],
+    along: Axis,
+    row: Axis,
+    others: &[Axis],
+    start: u64,
+    out: &mut [i32],
+)
     requires some { 0 < along.extent }
     requires few { along.extent ≤ 65536 }
     requires walkable { IsWalkable others.now }
@@ -40,7 +47,13 @@ fn write_rows(readings: &[i32], along: Axis, row: Axis, others: &[Axis], start: 
     let mut position = Positions::new(others, start);
     let mut done = 0;
     while done < out.len() {
-        write_row(readings, along, position.place(), step, &mut out[done..done + count]);
+        write_row(
+            readings,
+            along,
+            position.place(),
+            step,
+            &mut out[done..done + count],
+        );
         done += count;
         position.next();
     }

@@ -1,6 +1,5 @@
 -- By the first axis that remains, or one mean if none does.
-use Rattle.std.proofs.Common.{◌≡◌, ◌<◌, ◌∙◌, sym, ap, length, rules, w32, to_z, of_z, arith}
-use Rattle.specification.specs.Axis.{positions}
+use Rattle.std.proofs.Common.{◌≡◌, ◌∙◌, sym, ap, length, rules, w32, to_z, of_z, arith}
 use Rattle.positions.specs.Positions.{place_at}
 use Rattle.positions.proofs.RunLaws.{run-placed}
 use Rattle.means.specs.Rows.{mean_from}

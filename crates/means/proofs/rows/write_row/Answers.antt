@@ -1,5 +1,5 @@
 -- Mean by mean.
-use Rattle.std.proofs.Common.{◌≡◌, ◌∙◌, ap, length, rules, w32, to_z, of_z}
+use Rattle.std.proofs.Common.{◌≡◌, ◌∙◌, ap, rules, w32, to_z, of_z}
 use Rattle.positions.specs.Runs.{run_at}
 use Rattle.positions.proofs.RunLaws.{run_at-zero, run_at-add_one}
 use Rattle.means.specs.Rows.{mean_from}

@@ -1,6 +1,5 @@
 -- Row by row.
 use Rattle.std.proofs.Common.{◌≡◌, ◌<◌, ◌≤◌, ◌+◌, ◌-◌, ◌*◌, ◌∷◌, ◌∙◌, ℕ, refl, sym, ap, length, rules, arith}
-use Rattle.std.proofs.lemmas.List.{length-take-le}
 use Rattle.specification.specs.Axis.{positions}
 use Rattle.positions.specs.Positions.{word_of, place_at}
 use Rattle.positions.specs.Runs.{run_at}
