@@ -74,6 +74,25 @@ int main(void) {
         want("the copies differ", (size_t)memcmp(plan, shots, sizeof plan), 0);
     }
 
+    {
+        strided_layout none = sheet; /* two columns of no row */
+        const int32_t faces[] = {105, 106, -104, -105, 220, 220};
+        int32_t means[] = {7, 7, 7, 7};
+        const int32_t after[] = {106, -105, 220, 7};
+        none.axes[1].extent = 0;
+        WANT_VALUES(strided_means(&none, 0, NULL, 0, NULL, 0, &values), STRIDED_DONE, 0, 99);
+        WANT_VALUES(strided_means(&none, 1, NULL, 0, NULL, 0, &values), STRIDED_SHORT_OUTPUT, 2, 99);
+        WANT_VALUES(strided_means(&none, 1, NULL, 0, means, 4, &values), STRIDED_EMPTY_AXIS, 99, 99);
+        WANT_VALUES(strided_means(&none, 2, NULL, 0, NULL, 0, &values), STRIDED_BAD_AXIS, 2, 2);
+        WANT_VALUES(strided_means(&sheet, 0, NULL, 0, means, 4, &values), STRIDED_SHORT_READINGS, 99, 99);
+        WANT_VALUES(strided_means(&sheet, 0, faces, 6, NULL, 0, &values), STRIDED_SHORT_OUTPUT, 3, 99);
+        none.axes[0].extent = 65537;
+        WANT_VALUES(strided_means(&none, 0, NULL, 0, NULL, 0, &values), STRIDED_LONG_AXIS, 99, 99);
+        want("a mean that no call writes", (size_t)means[0], 7);
+        WANT_VALUES(strided_means(&sheet, 0, faces, 6, means, 4, &values), STRIDED_DONE, 3, 99);
+        want("the means differ", (size_t)memcmp(means, after, sizeof means), 0);
+    }
+
     WANT_VALUES(strided_write(&sheet, NULL, 0, NULL, 0, &values), STRIDED_SHORT_OUTPUT, 29, 99);
     WANT_VALUES(strided_write(&sheet, record, sizeof record, NULL, 0, &values), STRIDED_DONE, 29, 99);
     WANT_VALUES(strided_read(&point, NULL, 0, NULL, 0, &values), STRIDED_NOT_A_RECORD, 99, 99);

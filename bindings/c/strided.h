@@ -2,14 +2,15 @@
  *
  * Every call but strided_step answers with one number:
  *   0         the call is done
- *   1 to 14   the call is refused; the number says why (STRIDED_* below)
+ *   1 to 16   the call is refused; the number says why (STRIDED_* below)
  *   255       the output is too short; only the two calls for dense strides answer it
  * A call that is not done leaves everything as it was, except that a refusal may write its values. There are two more
  * exceptions: if strided_read finds a false verdict (refusal 11), or if strided_copy finds that the verdict on the destination
  * is not distinct (refusal 14), the scratch words that the verdict needs may change.
  *
  * Units: a buffer length, an offset and a stride count readings, never bytes. scratch_len counts scratch words of 64 bits.
- * The output of strided_write and the bytes of a record are counted in bytes.
+ * The output of strided_write and the bytes of a record are counted in bytes. A reading is a signed number of 32 bits in a unit
+ * of the caller's, as tenths of a millimetre at a station. Copies and means of readings are in that unit too.
  *
  * A slice is a pointer and a length: X_len is how many entries X has. A slice of length 0 may have any pointer, also NULL.
  * Any numbers may stand in a layout: every call has an answer to them. Two things are the caller's to keep true, and no
@@ -23,9 +24,9 @@
 #include <stdint.h>
 
 /* The version of the library (CHANGELOG.md). */
-#define STRIDED_VERSION "0.3.0"
+#define STRIDED_VERSION "0.4.0"
 #define STRIDED_VERSION_MAJOR 0
-#define STRIDED_VERSION_MINOR 3
+#define STRIDED_VERSION_MINOR 4
 #define STRIDED_VERSION_PATCH 0
 
 #if SIZE_MAX != UINT64_MAX
@@ -47,11 +48,13 @@ enum {
     STRIDED_BAD_INDEX = 7,           /* an index is not below its extent; values: the axis */
     STRIDED_TOO_MANY_POSITIONS = 8,  /* there are more than 2^64-1 positions */
     STRIDED_SHORT_SCRATCH = 9,       /* too few scratch words; values: how many are needed */
-    STRIDED_SHORT_OUTPUT = 10,       /* the output is too short; values: how many bytes are needed */
+    STRIDED_SHORT_OUTPUT = 10,       /* the output is too short; values: how many bytes of a record, or means, it needs */
     STRIDED_NOT_A_RECORD = 11,       /* the bytes do not begin with a record, or its verdict is false */
     STRIDED_EXTENTS_DIFFER = 12,     /* the two layouts differ in extents */
     STRIDED_SHORT_READINGS = 13,     /* a buffer is shorter than its layout needs */
     STRIDED_NOT_DISTINCT = 14,       /* the verdict on the destination is not distinct */
+    STRIDED_EMPTY_AXIS = 15,         /* the extent along the axis is 0 */
+    STRIDED_LONG_AXIS = 16,          /* the extent along the axis is above 65,536 */
     STRIDED_SHORT_BUFFER = 255       /* the output has fewer places than there are extents */
 };
 
@@ -77,7 +80,7 @@ typedef struct {
 } strided_layout;
 
 /* The values of a refusal. A refusal with one value writes `first`; a refusal with two writes both. A field without a value
- * keeps what it held. A call that is done writes neither, except that strided_write writes `first`. */
+ * keeps what it held. A call that is done writes neither, except that strided_write and strided_means write `first`. */
 typedef struct {
     size_t first;
     size_t second;
@@ -149,6 +152,24 @@ uint8_t strided_is_injective(const strided_axis *axes, size_t axes_len, uint64_t
  * as the verdict needs, may hold anything. Refusals: 1, 3, 12, 13, 8, 9, 14. */
 uint8_t strided_copy(const strided_layout *source, const int32_t *from, size_t from_len, const strided_layout *destination,
                      int32_t *to, size_t to_len, uint64_t *scratch, size_t scratch_len, strided_values *values);
+
+/* Stores the mean of the readings along an axis, for each position of the remaining axes: all axes but this one, in their order.
+ * The means stand in the first places of `out` in position order: the index of the first remaining axis changes fastest.
+ * `values->first` is how many they are; the places behind them keep what they held. The readings of a mean are summed whole and
+ * divided once, to the nearest whole number, halves away from zero. readings_len and out_len count readings, and the `len` of
+ * the layout counts for refusal 3 alone. `out` must not overlap `readings`, nor the layout. The call looks for the refusals in
+ * this order:
+ *   1   the layout has more than 16 axes
+ *   3   the layout is not accepted
+ *   5   the axis is not below the rank; values: the axis, the rank
+ *   8   the remaining axes have more than 2^64-1 positions
+ *   13  `readings` is shorter than the layout's highest offset + 1; never if an extent is 0
+ *   10  `out` has fewer places than the remaining axes have positions; values: how many positions
+ *   15  the extent along the axis is 0, also if no mean is to be stored
+ *   16  the extent along the axis is above 65,536, also if no mean is to be stored
+ * After a refusal all of `out` is as it was. Scratch is not needed. Refusals: 1, 3, 5, 8, 13, 10, 15, 16. */
+uint8_t strided_means(const strided_layout *layout, size_t axis, const int32_t *readings, size_t readings_len, int32_t *out,
+                      size_t out_len, strided_values *values);
 
 /* ---- the record */
 
@@ -249,6 +270,15 @@ static inline uint8_t strided_copy_inline(const strided_layout *source, const in
                         scratch_len ? scratch : &no_scratch, scratch_len, values);
 }
 #define strided_copy strided_copy_inline
+
+static inline uint8_t strided_means_inline(const strided_layout *layout, size_t axis, const int32_t *readings,
+                                           size_t readings_len, int32_t *out, size_t out_len, strided_values *values) {
+    const int32_t no_readings = 0;
+    int32_t no_out = 0;
+    return strided_means(layout, axis, readings_len ? readings : &no_readings, readings_len, out_len ? out : &no_out, out_len,
+                         values);
+}
+#define strided_means strided_means_inline
 
 static inline uint8_t strided_write_inline(const strided_layout *layout, uint8_t *out, size_t out_len, uint64_t *scratch,
                                            size_t scratch_len, strided_values *values) {

@@ -14,7 +14,7 @@ from ._axes import Axis, Verdict, column_strides, index_order, judge, row_stride
 from ._layout import Layout, copy, step_over
 from ._refusal import Refusal
 
-__version__ = "0.3.0"
+__version__ = "0.4.0"
 
 __all__ = [
     "Axis",

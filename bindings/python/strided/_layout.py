@@ -1,15 +1,17 @@
-"""Layouts: check-in, views, the verdict, copies of readings, the normal form and the record."""
+"""Layouts: check-in, views, the verdict, copies and means of readings, normal form and record."""
 from __future__ import annotations
 
+import sys
+from array import array
 from ctypes import c_int64, c_size_t, c_uint8, c_uint64
 from dataclasses import dataclass
-from typing import Any, Iterable, SupportsIndex
+from typing import Any, Iterable, SupportsIndex, overload
 
 from ._arrays import element_axes, memory_of
 from ._axes import Axis, Verdict, judge
-from ._library import LIBRARY, LONGEST_RECORD, MOST_AXES, CAxis, CLayout, CValues
+from ._library import LIBRARY, LONGEST_RECORD, MOST_AXES, SHORT_OUTPUT, CAxis, CLayout, CValues
 from ._library import check, fitting, slice_of, with_scratch
-from ._readings import given, written
+from ._readings import buffered, given, written
 
 # One byte more than the length of a record can say.
 LONGEST_STEP = 2**16
@@ -109,6 +111,34 @@ class Layout:
         """The verdict and the count, as `judge` of the axes. Refusals 8, 3, 9."""
         return judge(self.axes, scratch_words=scratch_words)
 
+    @overload
+    def means(self, axis: SupportsIndex, readings: Any, out: None = None) -> array[int]: ...
+
+    @overload
+    def means(self, axis: SupportsIndex, readings: Any, out: Any) -> int: ...
+
+    def means(self, axis: SupportsIndex, readings: Any, out: Any = None) -> array[int] | int:
+        """The mean of the readings along an axis, for each position of the remaining axes.
+
+        The remaining axes are all but this one, in their order; the index of the first of them
+        changes fastest. The readings are a list of whole numbers, or the whole buffer, as `copy`
+        takes it. The means are in their unit: each is a whole sum divided once, to the nearest
+        whole number, halves away from zero.
+
+        Without `out` the means are answered, as an `array("i")`. A buffer `out` gets them at its
+        front, and the answer is how many they are; all else in it stays. If it shares memory with
+        the readings, they are those from before the call. Refusals 5, 8, 13, 10, 15, 16; after
+        each of them `out` is as it was.
+        """
+        readings = buffered(readings)
+        to = array("i") if out is None else out
+        answer, values = self._means(axis, readings, to)
+        if out is None and answer == SHORT_OUTPUT:
+            to = array("i", [0]) * min(values.first, sys.maxsize)
+            answer, values = self._means(axis, readings, to)
+        check(answer, values)
+        return to if out is None else values.first
+
     def normal_form(self) -> Layout:
         """The fewest axes that give the same offsets in the same order. Refusal 8."""
         struct = self._struct()
@@ -131,6 +161,13 @@ class Layout:
     def _struct(self) -> CLayout:
         axes = (CAxis * MOST_AXES)(*[CAxis(*axis) for axis in self.axes])
         return CLayout(self.length, self.offset, self.rank, axes)
+
+    def _means(self, axis: SupportsIndex, readings: Any, out: Any) -> tuple[int, CValues]:
+        to, values = written(out), CValues()
+        lent = given(readings, to)
+        buffers = lent, len(lent), to, len(to)
+        along = fitting(axis, c_size_t)
+        return LIBRARY.strided_means(self._struct(), along, *buffers, values), values
 
     def _take(self, struct: CLayout) -> None:
         axes = struct.axes[:struct.rank]

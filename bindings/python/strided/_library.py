@@ -1,4 +1,4 @@
-"""The fifteen calls of bindings/c/strided.h and the structs that cross."""
+"""The sixteen calls of bindings/c/strided.h and the structs that cross."""
 from __future__ import annotations
 
 import ctypes
@@ -13,6 +13,7 @@ from ._refusal import SENTENCES, Refusal
 MOST_AXES = 16
 LONGEST_RECORD = 269
 SHORT_SCRATCH = 9
+SHORT_OUTPUT = 10
 
 
 class CAxis(Structure):
@@ -56,6 +57,7 @@ CALLS: dict[str, tuple[Any, list[Any]]] = {
     "strided_normal_form": (c_uint8, [LAYOUT]),
     "strided_is_injective": (c_uint8, [*AXES, *UNSIGNED, POINTER(CFound), VALUES]),
     "strided_copy": (c_uint8, [LAYOUT, *READINGS, LAYOUT, *READINGS, *UNSIGNED, VALUES]),
+    "strided_means": (c_uint8, [LAYOUT, c_size_t, *READINGS, *READINGS, VALUES]),
     "strided_write": (c_uint8, [LAYOUT, *BYTES, *UNSIGNED, VALUES]),
     "strided_read": (c_uint8, [LAYOUT, *BYTES, *UNSIGNED, VALUES]),
     "strided_step": (c_size_t, [*BYTES]),

@@ -1,6 +1,7 @@
 """Readings as they cross: signed numbers of 32 bits, one behind the other in a buffer."""
 from __future__ import annotations
 
+from array import array
 from ctypes import addressof, c_int32, sizeof
 from typing import Any
 
@@ -29,6 +30,11 @@ def given(readings: Any, to: Any) -> Any:
     start, stop = addressof(lent), addressof(lent) + sizeof(lent)
     apart = stop <= addressof(to) or addressof(to) + sizeof(to) <= start
     return lent if apart and start % SIZE == 0 else kind.from_buffer_copy(view)
+
+
+def buffered(readings: Any) -> Any:
+    """Readings in a buffer, also if they are listed; such a list is copied."""
+    return array("i", readings) if isinstance(readings, (list, tuple)) else readings
 
 
 def _seen(buffer: Any) -> tuple[memoryview, Any]:

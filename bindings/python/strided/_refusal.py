@@ -13,11 +13,13 @@ SENTENCES = {
     7: "the index of axis {0} is not below its extent",
     8: "more than 2^64 - 1 positions",
     9: "{0} words of scratch are needed",
-    10: "{0} bytes of output are needed",
+    10: "an output of {0} is needed, in bytes of a record or in readings of means",
     11: "the bytes are not a record",
     12: "the two layouts differ in extents",
     13: "a buffer is shorter than its layout needs",
     14: "the verdict on the destination is not distinct",
+    15: "the extent along the axis is 0",
+    16: "the extent along the axis is above 65536",
 }
 
 

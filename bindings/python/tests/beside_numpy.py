@@ -11,6 +11,8 @@ These answers are compared for each array:
 - A copy of readings through the layout into one of the same extents, with an assignment from one
   array to another. It has to be refused 14 if `internal_overlap` finds that two positions of the
   second share memory.
+- The means of readings along an axis, with a sum of NumPy's int64 that is divided once, halves away
+  from zero. They have to be refused 15 if the extent along the axis is 0.
 If a stride is no multiple of the item size, `overlap` has to raise UnevenStride, and `judge` is
 asked of bytes instead. One array in fifty more has twelve axes, and most of these need scratch;
 only their verdict is compared, with `internal_overlap`. The last line is
@@ -149,11 +151,11 @@ def cuts(array):
 
 class Comparison:
     """How many answers were compared and how many differed; how often each verdict came, and how
-    often copies were made."""
+    often copies and means were made."""
 
     def __init__(self):
         self.compared = self.differences = 0
-        self.verdicts, self.copied = collections.Counter(), collections.Counter()
+        self.verdicts, self.answered = collections.Counter(), collections.Counter()
 
     def same(self, what, array, ours, theirs):
         self.compared += 1
@@ -240,9 +242,33 @@ class Comparison:
             answer = "copied"
         except Refusal as refusal:
             answer = f"not copied, refused {refusal.number}"
-        self.copied[answer] += 1
+        self.answered[answer] += 1
         self.same("copy", array, answer, "not copied, refused 14" if shared else "copied")
         self.same("readings", array, numpy.array_equal(out, wanted), True)
+
+    def means(self, draw, array):
+        """Compares the means along an axis with sums of NumPy that are divided once."""
+        if not array.ndim:
+            return
+        layout, axis = Layout.of(array), draw.randrange(array.ndim)
+        most, along = draw.choice([3, 1000, 2**31 - 1]), array.shape[axis]
+        numbers = numpy.random.default_rng(draw.getrandbits(32))
+        readings = numbers.integers(-most - 1, most, layout.length, "i4", endpoint=True)
+        try:
+            ours, answer = layout.means(axis, readings), "means"
+        except Refusal as refusal:
+            ours, answer = [], f"no means, refused {refusal.number}"
+        self.answered[answer] += 1
+        self.same("means", array, answer, "means" if along else "no means, refused 15")
+        if not along:
+            return
+        sums = laid(readings, layout).astype("i8").sum(axis)
+        sizes = (2 * abs(sums) + along) // (2 * along)
+        wanted = (numpy.sign(sums) * sizes).flatten("F").tolist()
+        self.same("means", array, list(ours), wanted)
+        out = numpy.full(len(wanted) + 2, -1, "i4")
+        self.same("count", array, layout.means(axis, readings, out), len(wanted))
+        self.same("out", array, out.tolist(), [*wanted, -1, -1])
 
     def diagonal(self, draw, array, layout):
         """Compares the view that ties two axes; `einsum` makes it of numbers and equal extents."""
@@ -265,10 +291,11 @@ def main(arrays=3000, seed=20261127):
         if not comparison.verdict(array):
             comparison.cells(draw, array)
             comparison.copies(draw, array)
+            comparison.means(draw, array)
     for _ in range(arrays // 50):
         comparison.scratch(twelve(draw))
     print(f"NumPy {numpy.__version__}, seed {seed}")
-    for counted in comparison.verdicts, comparison.copied:
+    for counted in comparison.verdicts, comparison.answered:
         for what, times in sorted(counted.items()):
             print(times, what)
     compared, differences = comparison.compared, comparison.differences

@@ -48,7 +48,7 @@ class Border(unittest.TestCase):
         for found in re.finditer(r"^(\w+) (strided_\w+)\(([^)]*)\);", CODE, re.M):
             parameters = [kind_of(one)[1] for one in found[3].split(",")]
             declared[found[2]] = KINDS[found[1]], parameters
-        self.assertEqual(len(declared), 15)
+        self.assertEqual(len(declared), 16)
         self.assertEqual(_library.CALLS, declared)
 
     def test_structs_are_those_of_the_header(self):
@@ -62,6 +62,7 @@ class Border(unittest.TestCase):
         self.assertEqual(_library.MOST_AXES, number_of("STRIDED_AXES"))
         self.assertEqual(_library.LONGEST_RECORD, number_of("STRIDED_RECORD"))
         self.assertEqual(_library.SHORT_SCRATCH, number_of("STRIDED_SHORT_SCRATCH"))
+        self.assertEqual(_library.SHORT_OUTPUT, number_of("STRIDED_SHORT_OUTPUT"))
         for verdict in Verdict:
             self.assertEqual(verdict.value, number_of(f"STRIDED_{verdict.name}"))
 

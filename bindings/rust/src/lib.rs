@@ -168,6 +168,40 @@ impl Layout {
         verdict_of(self.axes())
     }
 
+    /// Writes the mean of the readings along an axis, for each position of the remaining axes: all axes but this one, in their
+    /// order. The means stand at the front of `out` in position order: the index of the first remaining axis changes fastest. The
+    /// answer is how many they are; what stands behind them in `out` stays.
+    ///
+    /// A mean is a whole number in the unit of the readings: tenths of a millimetre, if that is what they are. Its readings are
+    /// summed whole and divided once, to the nearest, halves away from zero. `readings` is a whole buffer, of at least the layout's
+    /// highest offset + 1 readings; the buffer length of the layout does not matter. After a refusal `out` is as it was.
+    ///
+    /// Refusals: 5 the axis is not below the rank; 8 the remaining axes have more than 2^64 - 1 positions; 13 `readings` is too short
+    /// (never if an extent is 0); 10 `out` is shorter than the means; 15 the extent along the axis is 0; 16 it is above 65,536. The
+    /// last two come also if no mean is to be written.
+    ///
+    /// ```
+    /// use strided_layouts::{Layout, Refusal};
+    /// // Three points, each read in two faces, one right behind the other: 10.5 mm and 10.6 mm, ..
+    /// let readings = [105, 106, -104, -105, 220, 220];
+    /// let faces = Layout::new(6, 0, &[2, 3], &[1, 2])?; // the first axis is the face
+    /// let mut means = [0; 3];
+    /// assert_eq!(faces.means(0, &readings, &mut means)?, 3);
+    /// assert_eq!(means, [106, -105, 220]);
+    /// assert_eq!(faces.means(0, &readings, &mut means[..2]), Err(Refusal::ShortOutput { needed: 3 }));
+    /// # Ok::<(), Refusal>(())
+    /// ```
+    pub fn means(&self, axis: usize, readings: &[i32], out: &mut [i32]) -> Result<usize, Refusal> {
+        let mut values = Values::default();
+        // SAFETY: as in `new`.
+        let answer = unsafe {
+            calls::strided_means(
+                self, axis, readings.as_ptr(), readings.len(), out.as_mut_ptr(), out.len(), &mut values,
+            )
+        };
+        Refusal::of(answer, values).map(|()| values.first)
+    }
+
     /// The record of the layout's normal form. Refusals: 8, 9.
     pub fn write(&self) -> Result<Vec<u8>, Refusal> {
         let mut bytes = [0; LONGEST_RECORD];

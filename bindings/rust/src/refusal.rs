@@ -38,10 +38,10 @@ pub enum Refusal {
         /// How many scratch words, of 64 bits, are needed.
         words: usize,
     },
-    /// 10: the output is too short. The calls of this crate lend enough.
+    /// 10: the output is too short for the means. A record always gets enough.
     ShortOutput {
-        /// How many bytes are needed.
-        bytes: usize,
+        /// How much is needed: readings of means, or bytes of a record.
+        needed: usize,
     },
     /// 11: the bytes do not begin with a record, or its verdict is false.
     NotARecord,
@@ -51,6 +51,10 @@ pub enum Refusal {
     ShortReadings,
     /// 14: the verdict on the destination is repeated or undecided.
     NotDistinct,
+    /// 15: the axis that means are taken along has extent 0.
+    EmptyAxis,
+    /// 16: the axis that means are taken along has an extent above 65,536.
+    LongAxis,
     /// 255: there are fewer places than extents. The calls of this crate lend enough.
     ShortBuffer,
 }
@@ -73,6 +77,8 @@ impl Refusal {
             Refusal::ExtentsDiffer => 12,
             Refusal::ShortReadings => 13,
             Refusal::NotDistinct => 14,
+            Refusal::EmptyAxis => 15,
+            Refusal::LongAxis => 16,
             Refusal::ShortBuffer => 255,
         }
     }
@@ -91,11 +97,13 @@ impl Refusal {
             7 => Refusal::BadIndex { axis: first },
             8 => Refusal::TooManyPositions,
             9 => Refusal::ShortScratch { words: first },
-            10 => Refusal::ShortOutput { bytes: first },
+            10 => Refusal::ShortOutput { needed: first },
             11 => Refusal::NotARecord,
             12 => Refusal::ExtentsDiffer,
             13 => Refusal::ShortReadings,
             14 => Refusal::NotDistinct,
+            15 => Refusal::EmptyAxis,
+            16 => Refusal::LongAxis,
             _ => Refusal::ShortBuffer,
         })
     }
@@ -116,11 +124,15 @@ impl std::fmt::Display for Refusal {
             Refusal::BadIndex { axis } => write!(f, "the index of axis {axis} is not below its extent"),
             Refusal::TooManyPositions => write!(f, "more than 2^64 - 1 positions"),
             Refusal::ShortScratch { words } => write!(f, "{words} words of scratch are needed"),
-            Refusal::ShortOutput { bytes } => write!(f, "{bytes} bytes of output are needed"),
+            Refusal::ShortOutput { needed } => {
+                write!(f, "an output of {needed} is needed, in bytes of a record or in readings of means")
+            }
             Refusal::NotARecord => write!(f, "the bytes are not a record"),
             Refusal::ExtentsDiffer => write!(f, "the two layouts differ in extents"),
             Refusal::ShortReadings => write!(f, "a buffer is shorter than its layout needs"),
             Refusal::NotDistinct => write!(f, "the verdict on the destination is not distinct"),
+            Refusal::EmptyAxis => write!(f, "the extent along the axis is 0"),
+            Refusal::LongAxis => write!(f, "the extent along the axis is above 65536"),
             Refusal::ShortBuffer => write!(f, "there are fewer places than extents"),
         }
     }

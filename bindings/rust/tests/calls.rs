@@ -152,6 +152,79 @@ fn copies_with_scratch() {
     assert_eq!(copied(&threes(177_147), &from, &threes(177_147), &[-1; 708_586]), Err(Refusal::ShortReadings));
 }
 
+// The means at the front of the output, and how many; what is behind them stays, and after a refusal all of it.
+fn means(layout: &Layout, axis: usize, readings: &[i32], room: usize) -> Result<Vec<i32>, Refusal> {
+    let mut out = vec![-1; room];
+    let answer = layout.means(axis, readings, &mut out);
+    assert!(out[answer.unwrap_or(0)..].iter().all(|&mean| mean == -1));
+    answer.map(|count| out[..count].to_vec())
+}
+
+#[test]
+fn means_along_an_axis() {
+    let readings = [105, 106, -104, -105, 220, 220];
+    assert_eq!(means(&sheet(), 0, &readings, 3), Ok(vec![106, -105, 220]));
+    assert_eq!(means(&sheet(), 1, &readings, 5), Ok(vec![74, 74]));
+    // The first remaining axis is the fastest, whatever its stride.
+    let numbers: Vec<i32> = (0..24).collect();
+    let cube = layout(24, 0, [2, 3, 4], [12, 4, 1]);
+    assert_eq!(means(&cube, 1, &numbers, 8), Ok(vec![4, 16, 5, 17, 6, 18, 7, 19]));
+    assert_eq!(means(&cube, 2, &numbers, 6), Ok(vec![2, 14, 6, 18, 10, 22]));
+    assert_eq!(means(&layout(6, 5, [2, 3], [-1, -2]), 0, &readings, 3), Ok(vec![220, -105, 106]));
+    assert_eq!(means(&layout(4, 1, [3], [1]), 0, &[90, 1, 2, 2], 1), Ok(vec![2]));
+    assert_eq!(means(&layout(2, 0, [2, 3], [1, 0]), 0, &[-1, -2], 3), Ok(vec![-2; 3]));
+    assert_eq!(means(&layout(1, 0, [1], [1]), 0, &[i32::MIN], 1), Ok(vec![i32::MIN]));
+    let most = layout(1, 0, [1], [0]).broadcast(&[65_536]).unwrap();
+    for reading in [i32::MIN, i32::MAX] {
+        assert_eq!(means(&most, 0, &[reading], 1), Ok(vec![reading]));
+    }
+}
+
+// To the nearest whole number, halves away from zero; the sum is one of more than 32 bits.
+#[test]
+fn means_are_rounded_once() {
+    let (low, high) = (i32::MIN, i32::MAX);
+    for (readings, mean) in [
+        (&[1, 0][..], 1), (&[-1, 0], -1), (&[3, 0], 2), (&[-3, 0], -2), (&[low, high], -1), (&[high, high - 1], high),
+        (&[low, low + 1], low), (&[1, 0, 0], 0), (&[-1, 0, 0], 0), (&[-1, -1, 0], -1), (&[high; 4], high), (&[low; 5], low),
+        (&[1, 2, 2, 1], 2), (&[-1, -2, -2, -1], -2),
+    ] {
+        let count = readings.len() as u64;
+        assert_eq!(means(&layout(count, 0, [count], [1]), 0, readings, 1), Ok(vec![mean]));
+    }
+}
+
+#[test]
+fn means_of_no_position() {
+    assert_eq!(means(&layout(0, 7, [2, 0], [1, 1]), 0, &[], 1), Ok(vec![]));
+    assert_eq!(means(&layout(0, 7, [0, 0], [1, 1]), 0, &[], 0), Err(Refusal::EmptyAxis));
+    assert_eq!(means(&layout(0, 7, [65_537, 0], [1, 1]), 0, &[], 0), Err(Refusal::LongAxis));
+}
+
+#[test]
+fn means_refused() {
+    assert_eq!(means(&sheet(), 2, &[], 0), Err(Refusal::BadAxis { axis: 2, rank: 2 }));
+    assert_eq!(means(&layout(1, 0, [], []), 0, &[5], 1), Err(Refusal::BadAxis { axis: 0, rank: 0 }));
+    // The slice counts, not the layout's length, and the whole layout counts, not one place of each mean.
+    let roomy = layout(100, 0, [2, 3], [1, 2]);
+    assert_eq!(means(&roomy, 0, &[0; 5], 3), Err(Refusal::ShortReadings));
+    assert_eq!(means(&roomy, 0, &[0; 6], 3), Ok(vec![0; 3]));
+    assert_eq!(means(&sheet(), 0, &[0; 6], 2), Err(Refusal::ShortOutput { needed: 3 }));
+    let none_along = layout(0, 0, [0, 3], [1, 1]);
+    assert_eq!(means(&none_along, 0, &[], 2), Err(Refusal::ShortOutput { needed: 3 }));
+    assert_eq!(means(&none_along, 0, &[], 3), Err(Refusal::EmptyAxis));
+    let wide = |targets: &[u64]| Layout::new(1, 0, &vec![1; targets.len()], &vec![0; targets.len()]).unwrap().broadcast(targets).unwrap();
+    assert_eq!(means(&wide(&[65_537]), 0, &[5], 0), Err(Refusal::ShortOutput { needed: 1 }));
+    assert_eq!(means(&wide(&[65_537]), 0, &[5], 1), Err(Refusal::LongAxis));
+    // Positions of the remaining axes alone are counted.
+    assert_eq!(means(&wide(&[2, 1 << 32, 1 << 32]), 0, &[], 0), Err(Refusal::TooManyPositions));
+    assert_eq!(means(&wide(&[1 << 32, 2, 1 << 31]), 0, &[], 0), Err(Refusal::ShortReadings));
+    assert_eq!(means(&wide(&[1 << 32, 2, 1 << 32]), 0, &[5], 0), Err(Refusal::ShortOutput { needed: 1 << 33 }));
+    let none_and_many = layout(0, 0, [0, 1 << 32, 1 << 32], [1, 1, 1]);
+    assert_eq!(means(&none_and_many, 0, &[], 0), Err(Refusal::TooManyPositions));
+    assert_eq!(means(&none_and_many, 1, &[], 0), Err(Refusal::LongAxis));
+}
+
 #[test]
 fn records() {
     let bytes = sheet().write().unwrap();

@@ -29,11 +29,13 @@ fn sentences_of_refusals() {
         ("BadIndex", Refusal::BadIndex { axis: 40 }),
         ("TooManyPositions", Refusal::TooManyPositions),
         ("ShortScratch", Refusal::ShortScratch { words: 40 }),
-        ("ShortOutput", Refusal::ShortOutput { bytes: 40 }),
+        ("ShortOutput", Refusal::ShortOutput { needed: 40 }),
         ("NotARecord", Refusal::NotARecord),
         ("ExtentsDiffer", Refusal::ExtentsDiffer),
         ("ShortReadings", Refusal::ShortReadings),
         ("NotDistinct", Refusal::NotDistinct),
+        ("EmptyAxis", Refusal::EmptyAxis),
+        ("LongAxis", Refusal::LongAxis),
     ];
     let sentences = sentences();
     assert_eq!(sentences.len(), refusals.len());

@@ -2,6 +2,7 @@
 pub use Rattle.copying.specs.Copy
 pub use Rattle.injectivity.specs.Judgement
 pub use Rattle.injectivity.specs.Meaning
+pub use Rattle.means.specs.Means
 pub use Rattle.record.specs.Calls
 pub use Rattle.record.specs.Chain
 pub use Rattle.record.specs.Reading

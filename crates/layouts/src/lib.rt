@@ -1,5 +1,5 @@
-//! What a caller in Rattle calls, under one name: layouts and their views, the verdict, the copy through two layouts, the record,
-//! lists of calls, dense strides and the index order.
+//! What a caller in Rattle calls, under one name: layouts and their views, the verdict, the copy through two layouts, means along an
+//! axis, the record, lists of calls, dense strides and the index order.
 //!
 //! Nothing is defined here: each name is that of a crate below, with its contract, and specs/ passes on the words in which these
 //! contracts speak of the code's structs. The line of a caller in `crates.txt` is `NAME: layouts`, with `specification` behind it if
@@ -11,6 +11,7 @@ pub use axis::Axis;
 pub use copying::copy;
 pub use dense::{DenseStrides, checked_col_major_strides, checked_row_major_strides};
 pub use injectivity::{Judgement, is_injective_axes, is_injective_layout, judge_layout};
+pub use means::means;
 pub use record::calls::{Call, after, fuse_by_numbers, make_in_place, run};
 pub use record::fields::BytePlace;
 pub use record::normal::normal_form;

@@ -24,7 +24,7 @@ const BUFFER_BYTES: usize = 65536;
 // The status of a command line that is not understood.
 const NOT_UNDERSTOOD: u8 = 2;
 
-const VERSION: &str = "0.3.0";
+const VERSION: &str = "0.4.0";
 
 const ABOUT: &str = "Answers lines of words about strided layouts, each with a line";
 

@@ -20,9 +20,9 @@ abbrev pub values_after : {A : Type 0} → Outcome A → Values → List ℕ
 values_after (done a) before = places before
 values_after (refused number values) before = values ++ drop (length values) (places before)
 
--- the bytes written in the first place, or the values of the refusal
+-- in the first place how many were written, bytes of a record or means, and the second stays; or the values of a refusal
 abbrev pub written_after : Outcome ℕ → Values → List ℕ
-written_after (done size) before = size ∷ before.second ∷ []
+written_after (done count) before = count ∷ before.second ∷ []
 written_after (refused number values) before = values ++ drop (length values) (places before)
 
 -- what was answered, or what was there before

@@ -1,7 +1,7 @@
 //! The two structs that are C's own, and an answer as its number and values.
 ghost use Rattle.std.specs.Prelude.{◌≡◌, ◌++◌, length, drop};
 ghost use Rattle.view.specs.Answers.{number_of, values_of, outcome_of};
-ghost use Rattle.strided.specs.Crossing.{number_after, places, values_after};
+ghost use Rattle.strided.specs.Crossing.{number_after, places, values_after, written_after};
 
 use view::layout::Refusal;
 
@@ -60,4 +60,16 @@ pub(crate) fn answer_with_values(answer: Result<(), Refusal>, values: &mut Value
     } else {
         0
     }
+}
+
+/// The number of an answer: 0 with the count of what was written in the first place, or that of the
+/// refusal with its values in the first places.
+pub(crate) fn answer_with_count(answer: Result<usize, Refusal>, values: &mut Values) -> u8
+    ensures answer { result ≡ number_after (outcome_of answer) }
+    ensures values { places values.new ≡ written_after (outcome_of answer) values.old }
+{
+    if let Ok(count) = answer {
+        values.first = count;
+    }
+    answer_with_values(answer.map(|_count| ()), values)
 }

@@ -1,4 +1,4 @@
-//! The static library: fifteen calls of the crates below it, over numbers, and structs and slices
+//! The static library: sixteen calls of the crates below it, over numbers, and structs and slices
 //! that are lent. A call that changes a layout works in the caller's struct.
 //!
 //! A slice crosses as a pointer and a length. The kit has no null pointer in a slice, also with
@@ -6,8 +6,8 @@
 #![tactic(auto)]
 
 mod beside;
-mod copies;
 pub mod crossing;
+mod readings;
 mod records;
 mod verdicts;
 mod views;

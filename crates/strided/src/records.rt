@@ -7,26 +7,12 @@ ghost use Rattle.record.specs.Reading.{layout_read};
 ghost use Rattle.record.specs.Writer.{wrote_of};
 ghost use Rattle.strided.specs.Crossing.{number_after, places, values_after, written_after, result_after};
 
-use crate::crossing::{Values, refuse};
+use crate::crossing::{Values, answer_with_count, refuse};
 use record::fields::BytePlace;
 use record::read::read_record;
 use record::step::step_over;
 use record::writer::write_record;
-use view::layout::{Layout, Refusal};
-
-/// The bytes written in the first place, or the refusal.
-fn answer_wrote(wrote: Result<BytePlace, Refusal>, values: &mut Values) -> u8
-    ensures answer { result ≡ number_after (wrote_of wrote) }
-    ensures values { places values.new ≡ written_after (wrote_of wrote) values.old }
-{
-    match wrote {
-        Ok(place) => {
-            values.first = place.0;
-            0
-        }
-        Err(why) => refuse(why, values),
-    }
-}
+use view::layout::Layout;
 
 /// The record of the layout's normal form, with its verdict, in the first bytes of the output: 0, and
 /// in `values.first` how many bytes it has. The bytes behind it stay, and so does `values.second`.
@@ -53,7 +39,8 @@ pub extern "C" fn strided_write(
         (write_answer (written (model_of layout.now) (length out.old) (length scratch.old)))
         values.old }
 {
-    answer_wrote(write_record(layout, out, scratch), values)
+    let wrote = write_record(layout, out, scratch);
+    answer_with_count(wrote.map(|BytePlace(size)| size), values)
 }
 
 /// The layout of the record that the bytes begin with, whose verdict is judged afresh: 0, and the

@@ -6,7 +6,7 @@ use layouts::{
     Axis, AxisPair, BytePlace, Call, Judgement, Layout, Reach, ReadingOffset, Refusal, Viewed,
     after, checked_col_major_strides, checked_element_count, checked_row_major_strides, copy,
     fuse_by_numbers, index_order_into, is_injective_axes, is_injective_layout, judge_layout,
-    make_in_place, normal_form, read_record, run, same_readings, step_over, validate_bounds,
+    make_in_place, means, normal_form, read_record, run, same_readings, step_over, validate_bounds,
     write_record,
 };
 use lines::line::Line;
@@ -124,6 +124,31 @@ fn copies(rt: HostRuntime) -> Result<(), Fail> {
     let on_one_cell = copy(&columns, &[0; 6], &shared, &mut sheet, &mut []);
     assert_eq!(rt; on_one_cell, Err(Refusal::NotDistinct));
     assert_eq!(rt; sheet, [1, 3, 5, 2, 4, 6]);
+    Ok(())
+}
+
+#[test]
+fn means_over_faces(rt: HostRuntime) -> Result<(), Fail> {
+    let at = ReadingOffset(0);
+    // three points, each read in two faces, in tenths of a millimetre
+    let readings = [105, 106, -104, -105, 220, 220];
+    let faces = Layout::new(6, at, &[2, 3], &[1, 2])?;
+    let mut out = [7; 4];
+    assert_eq!(rt; means(&faces, 0, &readings, &mut out)?, 3);
+    assert_eq!(rt; out, [106, -105, 220, 7]);
+    let no_axis = means(&faces, 2, &readings, &mut out);
+    assert_eq!(rt; no_axis, Err(Refusal::BadAxis(2, 2)));
+    let one_short = means(&faces, 0, &[0; 5], &mut out);
+    assert_eq!(rt; one_short, Err(Refusal::ShortReadings));
+    let no_room = means(&faces, 1, &readings, &mut out[..1]);
+    assert_eq!(rt; no_room, Err(Refusal::ShortOutput(2)));
+    let none_read = Layout::new(6, at, &[0, 3], &[1, 2])?;
+    let none_along = means(&none_read, 0, &readings, &mut out);
+    assert_eq!(rt; none_along, Err(Refusal::EmptyAxis));
+    let many_read = Layout::new(6, at, &[65_537, 0], &[1, 2])?;
+    let too_many_along = means(&many_read, 0, &readings, &mut out);
+    assert_eq!(rt; too_many_along, Err(Refusal::LongAxis));
+    assert_eq!(rt; out, [106, -105, 220, 7]);
     Ok(())
 }
 
