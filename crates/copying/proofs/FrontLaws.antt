@@ -1,10 +1,9 @@
 -- Copies of the places of some front axes, from each position of the others on: one more of these.
 use Rattle.std.proofs.Common.{◌≡◌, sym, ap, ◌∙◌, ℕ, ◌+◌, ◌*◌, ◌<◌, List, [], ◌∷◌, ◌++◌, ℤ, mul-le-mul_left, arith}
 use Rattle.specification.specs.Axis.{Axis, positions, product}
-use Rattle.positions.specs.Positions.{place_at}
+use Rattle.positions.specs.Positions.{place_at, IsPlacedIn}
 use Rattle.positions.proofs.RunLaws.{place-front}
 use Rattle.copying.specs.Copy.{copies}
-use Rattle.copying.specs.Sheets.{IsPlacedIn}
 use Rattle.copying.proofs.CopiesLaws.{copies-same, copies-split}
 
 pub positions-front : (xs ys : List Axis) → positions (xs ++ ys) ≡ positions xs * positions ys

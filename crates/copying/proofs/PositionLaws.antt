@@ -5,9 +5,10 @@ use Rattle.specification.specs.Axis.{Axis, positions, product, extents}
 use Rattle.specification.specs.Layout.{LayoutModel, IsAccepted}
 use Rattle.specification.specs.Readings.{cell_at, IsTooShort}
 use Rattle.specification.proofs.ReadingLaws.{cell_at-below}
+use Rattle.positions.specs.Positions.{IsPlacedIn}
 use Rattle.copying.specs.declared.sheets.Sheets.{Sheets}
 use Rattle.copying.specs.Copy.{copies}
-use Rattle.copying.specs.Sheets.{IsPlacedIn, axes_of, places_of, positions_of, sheet_axes, AreSheetsOf, AreAlike}
+use Rattle.copying.specs.Sheets.{axes_of, places_of, positions_of, sheet_axes, AreSheetsOf, AreAlike}
 use Rattle.copying.proofs.CopiesLaws.{copies-same}
 use Rattle.copying.proofs.SheetsLaws.{sheet-positions, walkable}
 use Rattle.copying.proofs.FrontLaws.{positions-front}

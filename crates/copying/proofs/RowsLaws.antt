@@ -2,12 +2,12 @@
 use Rattle.std.proofs.Common.{◌≡◌, refl, sym, ap, ◌∙◌, ℕ, ◌+◌, ◌*◌, ◌<◌, List, [], ◌∷◌, ℤ, mod-eq_of_lt, arith}
 use Rattle.std.proofs.lemmas.Int.{ints}
 use Rattle.specification.specs.Axis.{Axis, positions, product, extents}
-use Rattle.positions.specs.Positions.{place_at, words_at, word_of}
+use Rattle.positions.specs.Positions.{place_at, words_at, word_of, IsPlacedIn}
 use Rattle.positions.specs.Runs.{run_at, IsRunIn}
+use Rattle.positions.proofs.RunLaws.{run-placed}
 use Rattle.copying.specs.Copy.{copies}
-use Rattle.copying.specs.Sheets.{IsPlacedIn}
 use Rattle.copying.proofs.CopiesLaws.{copies-same}
-use Rattle.copying.proofs.FrontLaws.{front-placed, copies-front}
+use Rattle.copying.proofs.FrontLaws.{copies-front}
 
 axis-place : (place : ℕ) (a : Axis) (i : ℕ) → i < a.extent → place_at place (a ∷ []) i ≡ run_at place (word_of a.stride) i
 unfolding place_at words_at
@@ -22,9 +22,7 @@ module _ (place : ℕ) (run rows : Axis) (j : ℕ) (h : j < rows.extent) where
   row-place = sym (axis-place place rows j h)
 
   pub row-placed : (size : ℕ) → IsPlacedIn place (run ∷ rows ∷ []) size → IsRunIn (run_at place (word_of rows.stride) j) (word_of run.stride) run.extent size
-  row-placed size f i k =
-      let front = front-placed place (run ∷ []) (rows ∷ []) size j (run_at place (word_of rows.stride) j) f (rw (alone rows) h) row-place in
-      rw (← axis-place (run_at place (word_of rows.stride) j) run i k) (front i (rw (alone run) k))
+  row-placed size f = run-placed place run (rows ∷ []) size j (run_at place (word_of rows.stride) j) f (rw (alone rows) h) row-place
 
 -- the same extents, axis by axis
 pub same-extents : {a b c d : ℕ} → a ∷ b ∷ [] ≡ c ∷ d ∷ [] → (a ≡ c) × (b ≡ d)

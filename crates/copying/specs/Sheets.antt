@@ -7,10 +7,6 @@ use Rattle.positions.specs.Positions.{place_at, IsWalkable}
 use Rattle.copying.specs.declared.sheets.Sheet.{Sheet}
 use Rattle.copying.specs.declared.sheets.Sheets.{Sheets}
 
--- the place of each position is one of a list
-abbrev pub IsPlacedIn : ℕ → List Axis → ℕ → Type 0
-IsPlacedIn start axes length = (k : ℕ) → k < positions axes → place_at start axes k < length
-
 -- the two axes of a sheet
 abbrev pub axes_of : Sheet → List Axis
 axes_of sheet = sheet.run ∷ sheet.rows ∷ []

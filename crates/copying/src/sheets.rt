@@ -4,9 +4,9 @@ ghost use Rattle.std.specs.Prelude.{◌≡◌, ◌<◌, ◌++◌, length, All};
 ghost use Rattle.specification.specs.Axis.{extents, positions};
 ghost use Rattle.specification.specs.Layout.{IsAccepted};
 ghost use Rattle.view.specs.Model.{model_of};
-ghost use Rattle.positions.specs.Positions.{StrideFits, place_at};
+ghost use Rattle.positions.specs.Positions.{StrideFits, place_at, IsPlacedIn};
 ghost use Rattle.copying.specs.Copy.{copies};
-ghost use Rattle.copying.specs.Sheets.{IsPlacedIn, axes_of, all_axes, places_of, positions_of, sheet_axes, AreSheetsOf, AreAlike};
+ghost use Rattle.copying.specs.Sheets.{axes_of, all_axes, places_of, positions_of, sheet_axes, AreSheetsOf, AreAlike};
 
 use crate::runs::{Run, copy_run};
 use axis::Axis;

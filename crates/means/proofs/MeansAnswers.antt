@@ -7,17 +7,17 @@ use Rattle.means.proofs.RoundedLaws.{rounded-near}
 use Rattle.means.proofs.RoundedOnly.{rounded-only}
 use Rattle.specification.specs.Outcome.{Check, done, refused, refuse_if, ◌>>◌}
 use Rattle.specification.specs.Layout.{LayoutModel, rank, IsAccepted, handed, HandedRefused}
-use Rattle.specification.specs.Views.{axis_at}
 use Rattle.specification.specs.Normal.{overfull}
 use Rattle.specification.specs.Readings.{is_too_short, IsTooShort}
-use Rattle.means.specs.Means.{remaining, mean_count, means_of}
+use Rattle.means.specs.Means.{remaining, mean_count, extent_along, extent_rule, means_of}
 use Rattle.means.specs.MeansClaims.{IsHeld, MeansRefused, MeansWritten, MeansClaims}
 use Rattle.specification.proofs.TestLaws.{true-not-false}
 use Rattle.specification.proofs.OutcomeLaws.{clash, passed-check, done_inj}
 use Rattle.specification.proofs.ReachClaimed.{handed-answers}
 use Rattle.specification.proofs.AnswerRules.{Answers, Only, only, InOrder, sooner, later, restated, test-answers, then-answers, then-assoc}
 use Rattle.specification.proofs.ReadingLaws.{is_too_short-found, held-tested}
-use Rattle.means.proofs.MeansLaws.{along-axis, place-below, mean-between, slice_get-means_after, drop-means_after}
+use Rattle.means.proofs.AlongLaws.{position-along, along-position}
+use Rattle.means.proofs.MeansLaws.{read-at, mean-between, slice_get-means_after, drop-means_after, length-means_after, refused_leaves}
 
 not-no : (t : Bool) → ¬ (t ≡ false) → t ≡ true
 not-no true f = refl
@@ -31,7 +31,7 @@ then-done (refused m ws) a n vs = (λ e. cc, λ e. cc)
 
 module _ (l : LayoutModel) (axis readings room : ℕ) where
   abbrev along : ℕ
-  along = (axis_at l.axes axis).extent
+  along = extent_along l axis
 
   -- the rules, without the result behind them
   abbrev rules : Check
@@ -45,7 +45,7 @@ module _ (l : LayoutModel) (axis readings room : ℕ) where
       >> refuse_if (nat_lt 65536 along) 16 []
 
   by-rules : means_of l axis readings room ≡ rules >> done (mean_count l axis)
-  unfolding means_of
+  unfolding means_of extent_rule
   by-rules = simp then-assoc
 
   abbrev Handed : Type 0
@@ -120,12 +120,12 @@ module _ (l : LayoutModel) (axis readings room : ℕ) where
     λ r. by-rules ∙ (then-done rules _ number values).1 ((means-answers.refuses number values).1 r),
   )
 
-  means-passed : (count : ℕ) → (means_of l axis readings room ≡ done count) ↔ MeansWritten l axis readings room count
+  pub means-passed : (count : ℕ) → (means_of l axis readings room ≡ done count) ↔ MeansWritten l axis readings room count
   unfolding ◌>>◌
   means-passed count = (
     λ e. let p = passed-check rules (sym by-rules ∙ e) in let w = means-answers.passes.0 p.0 in
-        record { held = w.0; room_is = w.1.0; some_along = w.1.1.0; not_too_many = w.1.1.1; count_is = sym (done_inj p.1) },
-    λ w. by-rules ∙ rw (means-answers.passes.1 (w.held, (w.room_is, (w.some_along, w.not_too_many))), w.count_is),
+        record { held = w.0; has_room = w.1.0; some_along = w.1.1.0; few_along = w.1.1.1; count_is = sym (done_inj p.1) },
+    λ w. by-rules ∙ rw (means-answers.passes.1 (w.held, (w.has_room, (w.some_along, w.few_along))), w.count_is),
   )
 
 pub means_claims : MeansClaims
@@ -134,11 +134,12 @@ means_claims = record {
   passes = means-passed;
   nearest = λ s n h. record { within_half = (rounded-near s n h).0; half_away = (rounded-near s n h).1 };
   only = λ s r n h w. rounded-only s r n h (w.within_half, w.half_away);
-  along = along-axis;
-  in_buffer = λ l axis count i k readings room e h q.
-      let w = (means-passed l axis (length readings) room count).0 e in
-      place-below l axis i k (length readings) w.held.has_axis.accepted w.held.has_axis.in_rank w.held.held (omega (arith, h, w.count_is)) q;
+  along = λ l axis k i h. position-along l axis h k i;
+  each_along = λ l axis position h. along-position l axis h position;
+  in_buffer = λ l axis count k i position room readings e p. read-at l axis readings ((means-passed l axis (length readings) room count).0 e).held p;
   between = mean-between;
   written = λ l axis count k readings out e h. slice_get-means_after l axis count readings out k h;
   behind = λ l axis count readings out e. drop-means_after l axis count readings out;
+  as_long = λ l axis count readings out e. let w = (means-passed l axis (length readings) (length out) count).0 e in length-means_after l axis count readings out (omega (arith, w.has_room, w.count_is));
+  refused_leaves = refused_leaves;
 }

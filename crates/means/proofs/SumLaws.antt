@@ -1,17 +1,17 @@
--- One reading more; and that a mean of 32-bit readings has 32 bits.
-use Rattle.std.proofs.Common.{◌≡◌, true, false, ℕ, suc, ◌+◌, ◌-◌, ◌*◌, ◌/◌, ◌^◌, ◌<◌, ◌≤◌, List, ℤ, pos, negsuc, neg_ℤ, nat_abs, ◌+ℤ◌, ◌≤ℤ◌, slice_index_or, refl, add-one, arith}
+-- A sum of so many readings and one more; and that the mean of readings of 32 bits has 32 bits.
+use Rattle.std.proofs.Common.{◌≡◌, true, false, ℕ, suc, ◌+◌, ◌-◌, ◌*◌, ◌/◌, ◌^◌, ◌<◌, ◌≤◌, ℤ, pos, negsuc, neg_ℤ, nat_abs, ◌+ℤ◌, ◌≤ℤ◌, refl, add-one, arith}
 use Rattle.std.proofs.lemmas.Int.{ints}
 use lib.Signed.{lt_z}
 use Rattle.specification.proofs.TestLaws.{true-not-false}
 use Rattle.means.specs.Rounded.{rounded}
 use Rattle.integer.proofs.MultipleLaws.{multiples}
 use Rattle.means.proofs.RoundedOnly.{rounded-least, rounded-most}
-use Rattle.positions.specs.Runs.{run_at}
-use Rattle.means.specs.Sums.{sum_run, IsSumOf}
+use Rattle.means.specs.Means.{sum_of}
+use Rattle.means.specs.Rows.{IsSumOf}
 
-pub sum-more : (readings : List ℤ) (start step n : ℕ) → sum_run readings start step (n + 1) ≡ sum_run readings start step n +ℤ slice_index_or readings (run_at start step n) (pos 0)
-unfolding sum_run
-sum-more readings start step n = rw (add-one n) refl
+pub sum-more : (f : ℕ → ℤ) (n : ℕ) → sum_of f (n + 1) ≡ sum_of f n +ℤ f n
+unfolding sum_of
+sum-more f n = rw (add-one n) refl
 
 pub sum-none : IsSumOf 0 (pos 0)
 sum-none = record { above = omega (arith, multiples); below = omega (arith, multiples) }

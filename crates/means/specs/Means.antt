@@ -4,10 +4,10 @@ use Rattle.std.specs.Prelude.{List, [], ◌∷◌, ◌++◌, map, ℕ, zero, suc
 use Rattle.std.specs.List.{range_with_len}
 use Rattle.integer.specs.Multiple.{◌·◌}
 use Rattle.integer.specs.Parts.{positive_part}
-use Rattle.specification.specs.Axis.{Axis, positions}
+use Rattle.specification.specs.Axis.{positions}
 use Rattle.specification.specs.Layout.{LayoutModel, rank, offset_at, handed}
 use Rattle.specification.specs.Normal.{overfull}
-use Rattle.specification.specs.Outcome.{Outcome, done, refused, refuse_if, ◌>>◌}
+use Rattle.specification.specs.Outcome.{Outcome, Check, done, refused, refuse_if, ◌>>◌}
 use Rattle.specification.specs.Readings.{is_too_short}
 use Rattle.specification.specs.Views.{with_axes, axis_at}
 use Rattle.means.specs.Rounded.{rounded}
@@ -45,6 +45,12 @@ mean_at l axis readings k = rounded (sum_of (reading_along l axis readings k) (e
 abbrev pub first_means : LayoutModel → ℕ → List ℤ → ℕ → List ℤ
 first_means l axis readings count = map (mean_at l axis readings) (range_with_len 0 count)
 
+-- 15 for no reading along the axis, 16 for more than 65,536
+unfoldable pub extent_rule : ℕ → Check
+extent_rule extent =
+    refuse_if (extent == 0) 15 []
+    >> refuse_if (nat_lt 65536 extent) 16 []
+
 -- refusals 1, 3, 5, 8, 13, 10, 15, 16; then how many means are written
 unfoldable pub means_of : LayoutModel → ℕ → ℕ → ℕ → Outcome ℕ
 means_of l axis readings room =
@@ -53,8 +59,7 @@ means_of l axis readings room =
     >> refuse_if (overfull (remaining l axis).axes) 8 []
     >> refuse_if (is_too_short l readings) 13 []
     >> refuse_if (nat_lt room (mean_count l axis)) 10 (mean_count l axis ∷ [])
-    >> refuse_if (extent_along l axis == 0) 15 []
-    >> refuse_if (nat_lt 65536 (extent_along l axis)) 16 []
+    >> extent_rule (extent_along l axis)
     >> done (mean_count l axis)
 
 -- the output after the call: the means, and behind them what was there; a refusal leaves it

@@ -1,18 +1,16 @@
--- Claims on means: each refusal exactly where it is asked for, each mean of the right readings and to the nearest.
+-- Claims on means: each refusal exactly if it is due, each mean of the right readings and to the nearest.
 -- RULES, "Means along an axis".
-use Rattle.std.specs.Prelude.{List, [], ◌∷◌, ◌↔◌, ◌≡◌, ℕ, ◌*◌, ◌<◌, ◌≤◌, ℤ, nat_abs, ◌+ℤ◌, ◌-ℤ◌, ◌≤ℤ◌, length, drop, insert, slice_get, IsTrue, IsFalse, Some}
+use Rattle.std.specs.Prelude.{List, [], ◌∷◌, ◌↔◌, ◌≡◌, ℕ, ◌*◌, ◌<◌, ◌≤◌, ℤ, nat_abs, ◌-ℤ◌, ◌≤ℤ◌, length, drop, insert, slice_get, IsTrue, IsFalse, Some}
 use Rattle.integer.specs.Multiple.{◌·◌}
-use Rattle.integer.specs.Parts.{positive_part}
-use Rattle.means.specs.Rounded.{rounded}
-use Rattle.specification.specs.Axis.{extents, index_at, offset_sum}
+use Rattle.specification.specs.Axis.{extents, positions, index_at}
 use Rattle.specification.specs.Outcome.{done, refused}
 use Rattle.specification.specs.Layout.{LayoutModel, rank, offset_at, IsAccepted, HandedRefused}
-use Rattle.specification.specs.Views.{axis_at}
 use Rattle.specification.specs.Normal.{overfull}
-use Rattle.specification.specs.Readings.{IsTooShort}
-use Rattle.means.specs.Means.{remaining, mean_count, reading_along, mean_at, means_of, means_after}
+use Rattle.specification.specs.Readings.{cell_at, reading_at, IsTooShort}
+use Rattle.means.specs.Rounded.{rounded}
+use Rattle.means.specs.Means.{remaining, mean_count, extent_along, offset_along, reading_along, mean_at, means_of, means_after}
 
--- r is s over n to the nearest, halves away from zero
+-- r is s divided by n to the nearest, halves away from zero
 pub record IsNearest (s : ℤ) (n : ℕ) (r : ℤ) : Type 0 where
   pub within_half : 2 * nat_abs (n · r -ℤ s) ≤ n
   pub half_away : 2 * nat_abs (n · r -ℤ s) ≡ n → nat_abs s < n * nat_abs r
@@ -35,35 +33,53 @@ pub data MeansRefused (l : LayoutModel) (axis readings room : ℕ) : ℕ → Lis
   too_full : HasAxis l axis → IsTrue (overfull (remaining l axis).axes) → MeansRefused l axis readings room 8 []
   buffer_short : HasAxis l axis → IsFalse (overfull (remaining l axis).axes) → IsTooShort l readings → MeansRefused l axis readings room 13 []
   no_room : IsHeld l axis readings → room < mean_count l axis → MeansRefused l axis readings room 10 (mean_count l axis ∷ [])
-  none_along : IsHeld l axis readings → mean_count l axis ≤ room → (axis_at l.axes axis).extent ≡ 0 → MeansRefused l axis readings room 15 []
-  too_many_along : IsHeld l axis readings → mean_count l axis ≤ room → 65536 < (axis_at l.axes axis).extent → MeansRefused l axis readings room 16 []
+  none_along : IsHeld l axis readings → mean_count l axis ≤ room → extent_along l axis ≡ 0 → MeansRefused l axis readings room 15 []
+  too_many_along : IsHeld l axis readings → mean_count l axis ≤ room → 65536 < extent_along l axis → MeansRefused l axis readings room 16 []
 
 -- a call writes so many means
 pub record MeansWritten (l : LayoutModel) (axis readings room count : ℕ) : Type 0 where
   pub held : IsHeld l axis readings
-  pub room_is : mean_count l axis ≤ room
-  pub some_along : 0 < (axis_at l.axes axis).extent
-  pub not_too_many : (axis_at l.axes axis).extent ≤ 65536
+  pub has_room : mean_count l axis ≤ room
+  pub some_along : 0 < extent_along l axis
+  pub few_along : extent_along l axis ≤ 65536
   pub count_is : count ≡ mean_count l axis
 
+-- the position of the layout whose reading is number i of mean k: it has k's indices on the remaining axes, and index i along the axis
+pub record IsPositionAlong (l : LayoutModel) (axis k i position : ℕ) : Type 0 where
+  pub is_position : position < positions l.axes
+  pub index_is : index_at (extents l.axes) position ≡ insert (index_at (extents (remaining l axis).axes) k) axis i
+  pub offset_is : offset_along l axis k i ≡ offset_at l position
+
+-- a reading from the least to the greatest
+abbrev pub IsBetween : ℤ → ℤ → ℤ → Type 0
+IsBetween low high reading = (low ≤ℤ reading) × (reading ≤ℤ high)
+
 pub record MeansClaims : Type 0 where
-  pub refuses : (l : LayoutModel) (axis readings room number : ℕ) (values : List ℕ) → (means_of l axis readings room ≡ refused number values) ↔ MeansRefused l axis readings room number values
-  pub passes : (l : LayoutModel) (axis readings room count : ℕ) → (means_of l axis readings room ≡ done count) ↔ MeansWritten l axis readings room count
-  -- within half a tenth of the exact mean, halves away from zero, and nothing else is
+  pub refuses : (l : LayoutModel) (axis readings room number : ℕ) (values : List ℕ)
+      → (means_of l axis readings room ≡ refused number values) ↔ MeansRefused l axis readings room number values
+  pub passes : (l : LayoutModel) (axis readings room count : ℕ)
+      → (means_of l axis readings room ≡ done count) ↔ MeansWritten l axis readings room count
+  -- a mean is within half of the exact one, halves away from zero; and no other number is so
   pub nearest : (s : ℤ) (n : ℕ) → 0 < n → IsNearest s n (rounded s n)
   pub only : (s r : ℤ) (n : ℕ) → 0 < n → IsNearest s n r → r ≡ rounded s n
-  -- the readings that are summed at k: those of the index vectors that differ from k's along the axis alone
-  pub along : (l : LayoutModel) (axis i k : ℕ) → axis < rank l → offset_at (remaining l axis) k +ℤ i · (axis_at l.axes axis).stride
-      ≡ l.offset +ℤ offset_sum l.axes (insert (index_at (extents (remaining l axis).axes) k) axis i)
-  -- each of them is a reading of the buffer
-  pub in_buffer : (l : LayoutModel) (axis count i k : ℕ) (readings : List ℤ) (room : ℕ) → means_of l axis (length readings) room ≡ done count → k < count → i < (axis_at l.axes axis).extent
-      → positive_part (offset_at (remaining l axis) k +ℤ i · (axis_at l.axes axis).stride) < length readings
-  -- a mean is no less than the least of them and no more than the greatest, so it is a number of 32 bits
-  pub between : (l : LayoutModel) (axis k : ℕ) (readings : List ℤ) (low high : ℤ) → 0 < (axis_at l.axes axis).extent
-      → ((i : ℕ) → i < (axis_at l.axes axis).extent → let reading = reading_along readings (offset_at (remaining l axis) k) (axis_at l.axes axis).stride i in (low ≤ℤ reading) × (reading ≤ℤ high))
-      → (low ≤ℤ mean_at l axis readings k) × (mean_at l axis readings k ≤ℤ high)
-  -- the means in position order, and what is behind them as it was
+  -- each reading that a mean is of is that of one position of the layout, which differs from k's along the axis alone
+  pub along : (l : LayoutModel) (axis k i : ℕ) → axis < rank l → k < mean_count l axis → i < extent_along l axis
+      → (position : ℕ) × IsPositionAlong l axis k i position
+  -- and each position of the layout counts in one mean
+  pub each_along : (l : LayoutModel) (axis position : ℕ) → axis < rank l → position < positions l.axes
+      → (k : ℕ) × (i : ℕ) × (k < mean_count l axis) × (i < extent_along l axis) × IsPositionAlong l axis k i position
+  -- its reading is one of the buffer
+  pub in_buffer : (l : LayoutModel) (axis count k i position room : ℕ) (readings : List ℤ) → means_of l axis (length readings) room ≡ done count
+      → IsPositionAlong l axis k i position → (cell_at l position < length readings) × (reading_along l axis readings k i ≡ reading_at l readings position)
+  -- a mean is no less than the least of its readings and no more than the greatest, so 32 bits hold it
+  pub between : (l : LayoutModel) (axis k : ℕ) (readings : List ℤ) (low high : ℤ) → 0 < extent_along l axis
+      → ((i : ℕ) → i < extent_along l axis → IsBetween low high (reading_along l axis readings k i)) → IsBetween low high (mean_at l axis readings k)
+  -- the means stand in position order, and what is behind the last is as it was
   pub written : (l : LayoutModel) (axis count k : ℕ) (readings out : List ℤ) → means_of l axis (length readings) (length out) ≡ done count → k < count
       → slice_get (means_after (done count) l axis readings out) k ≡ Some (mean_at l axis readings k)
   pub behind : (l : LayoutModel) (axis count : ℕ) (readings out : List ℤ) → means_of l axis (length readings) (length out) ≡ done count
       → drop count (means_after (done count) l axis readings out) ≡ drop count out
+  pub as_long : (l : LayoutModel) (axis count : ℕ) (readings out : List ℤ) → means_of l axis (length readings) (length out) ≡ done count
+      → length (means_after (done count) l axis readings out) ≡ length out
+  -- a refusal leaves all
+  pub refused_leaves : (l : LayoutModel) (axis number : ℕ) (values : List ℕ) (readings out : List ℤ) → means_after (refused number values) l axis readings out ≡ out
