@@ -91,7 +91,7 @@ fn lent(random: &mut Random, layout: Layout, axis: u64, longest: u64) -> MeansIn
 /// reading that is off by 1.
 fn readings(random: &mut Random, length: u64) -> Vec<i32> {
     let ends = [i32::MIN, i32::MAX];
-    let mut readings: Vec<i32> = match random.below(5) {
+    let mut readings: Vec<i32> = match random.below(6) {
         0 => return buffers::readings(random, length),
         1 => (0..length).map(|_| random.pick(&ends)).collect(),
         2 => vec![random.pick(&ends); length as usize],
