@@ -11,11 +11,11 @@ use strided_view::is_injective_layout;
 const SIDE: usize = 1024;
 const MANY: usize = SIDE * SIDE;
 
-fn readings(count: usize) -> Vec<i32> {
+pub fn readings(count: usize) -> Vec<i32> {
     (0..count as i32).map(|place| place.wrapping_mul(0x2545_f491)).collect()
 }
 
-fn layout(len: usize, extents: &[u64], strides: &[i64]) -> Layout {
+pub fn layout(len: usize, extents: &[u64], strides: &[i64]) -> Layout {
     Layout::from(&input::Layout::of(len as u64, 0, extents, strides))
 }
 

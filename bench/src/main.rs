@@ -1,6 +1,7 @@
 //! Times our library beside strided-rs: `bench`, tab-separated lines on standard output.
 
 mod copying;
+mod means;
 mod records;
 mod timing;
 mod verdicts;
@@ -16,4 +17,5 @@ fn main() {
     views::all();
     records::all();
     copying::all();
+    means::all();
 }

@@ -1,5 +1,7 @@
-//! Examples of the verdict, the normal form, the record and the copy, those of docs/RULES.md among them, held against the reference before it is used.
+//! Examples of the verdict, the normal form, the record, the copy and the means, those of docs/RULES.md among them, held against the reference
+//! before it is used.
 
+use crate::averaging::means;
 use crate::copying::copy;
 use crate::input::Layout;
 use crate::record::{normal_form, read, write};
@@ -102,8 +104,61 @@ fn enumerated_copies() {
     assert_eq!(answer(177_147, 708_586, 11_072), (Err((13, 0)), 0, 0));
 }
 
+/// Means that are written: how many, and what the output holds afterwards, which is filled with 7 before.
+fn meant(count: usize, layout: Layout, axis: u64, readings: &[i32], after: &[i32]) {
+    let mut out = vec![7; after.len()];
+    assert_eq!(means(&layout, axis, readings, &mut out).answer, Ok(count), "{layout:?}");
+    assert_eq!(out, after, "{layout:?}");
+}
+
+/// Means that are refused; buffer and output have so many readings.
+fn not_meant(number: u8, values: [u64; 2], layout: Layout, axis: u64, readings: usize, room: usize) {
+    let mut out = vec![7; room];
+    assert_eq!(means(&layout, axis, &vec![1; readings], &mut out).answer, Err((number, values)), "{layout:?}");
+    assert_eq!(out, vec![7; room], "{layout:?}");
+}
+
+fn averages() {
+    let of = Layout::of;
+    let (faces, column) = (of(6, 0, &[2, 3], &[1, 2]), |length: u64| of(length, 0, &[length], &[1]));
+    meant(3, faces, 0, &[10, 11, -10, -11, 3, 4], &[11, -11, 4, 7]);
+    meant(2, faces, 1, &[10, 11, -10, -11, 3, 4], &[1, 1]);
+    meant(2, of(6, 5, &[2, 3], &[-1, -2]), 1, &[1, 2, 3, 4, 5, 7], &[4, 3]);
+    let (low, high) = (i32::MIN, i32::MAX);
+    for ([one, other], mean) in [([0, 1], 1), ([-1, 0], -1), ([3, 0], 2), ([0, -3], -2), ([-1, 1], 0)] {
+        meant(1, column(2), 0, &[one, other], &[mean]);
+    }
+    for ([one, other], mean) in [([high, low], -1), ([high - 1, high], high), ([low, low + 1], low), ([low; 2], low), ([high; 2], high)] {
+        meant(1, column(2), 0, &[one, other], &[mean]);
+    }
+    for (readings, mean) in [([1, 0, 0], 0), ([1, 1, 0], 1), ([-1, 0, 0], 0), ([-1, -1, 0], -1), ([low; 3], low), ([high; 3], high)] {
+        meant(1, column(3), 0, &readings, &[mean]);
+    }
+    meant(4, of(4, 0, &[4, 1], &[1, i64::MIN]), 1, &[5, low, high, -6], &[5, low, high, -6]);
+    meant(6, of(2, 1, &[2, 3, 2], &[0, 0, -1]), 2, &[low, -1], &[-1_073_741_825; 6]);
+    meant(1, of(1, 0, &[65_536], &[0]), 0, &[low], &[low]);
+    meant(0, of(0, 9, &[2, 0], &[1, 1]), 0, &[], &[7]);
+    not_meant(1, [0; 2], Layout { rank: 17, ..of(0, -1, &[0; 16], &[0; 16]) }, 17, 0, 0);
+    not_meant(3, [0; 2], of(5, 0, &[2, 3], &[1, 2]), 2, 6, 3);
+    not_meant(5, [2, 2], faces, 2, 0, 0);
+    not_meant(5, [0, 0], of(1, 0, &[], &[]), 0, 1, 1);
+    let half = 1 << 63;
+    not_meant(8, [0; 2], of(0, 0, &[0, half, 2], &[0; 3]), 0, 0, 0);
+    not_meant(8, [0; 2], of(1, 0, &[half, 65_537, 2], &[0; 3]), 1, 0, 0);
+    not_meant(10, [half, 0], of(0, 0, &[0, half, 1], &[0; 3]), 0, 0, 0);
+    not_meant(16, [0; 2], of(0, 0, &[65_537, half, 2, 0], &[0; 4]), 0, 0, 0);
+    not_meant(13, [0; 2], faces, 0, 5, 2);
+    not_meant(10, [3, 0], faces, 0, 6, 2);
+    not_meant(10, [3, 0], of(0, 0, &[3, 0], &[1; 2]), 1, 0, 2);
+    not_meant(15, [0; 2], of(0, 0, &[3, 0], &[1; 2]), 1, 0, 3);
+    not_meant(15, [0; 2], of(0, 0, &[0, 0], &[1; 2]), 1, 0, 0);
+    not_meant(10, [3, 0], of(1, 0, &[3, 65_537], &[0; 2]), 1, 1, 2);
+    not_meant(16, [0; 2], of(1, 0, &[3, 65_537], &[0; 2]), 1, 1, 3);
+}
+
 pub fn check() {
     verdicts();
     records();
     copies();
+    averages();
 }

@@ -177,7 +177,7 @@ pub struct Answer {
 }
 
 /// How many values a refusal returns, by its number.
-pub const VALUES: [usize; 15] = [0, 0, 0, 0, 2, 2, 1, 1, 0, 1, 1, 0, 0, 0, 0];
+pub const VALUES: [usize; 17] = [0, 0, 0, 0, 2, 2, 1, 1, 0, 1, 1, 0, 0, 0, 0, 0, 0];
 
 impl Answer {
     pub fn done(given: Given) -> Answer {

@@ -152,7 +152,7 @@ pub fn permute(random: &mut Random, layout: Layout) -> Input {
 }
 
 /// An axis that may be outside the rank.
-fn axis(random: &mut Random, rank: usize) -> u64 {
+pub fn axis(random: &mut Random, rank: usize) -> u64 {
     match random.below(4) {
         0 => rank as u64,
         1 => rank as u64 + random.below(3),

@@ -1,5 +1,7 @@
 //! strided-rs, our library and a reference of our own, on the same inputs.
 
+pub mod averaging;
+pub mod buffers;
 pub mod copies;
 pub mod copying;
 pub mod examples;
@@ -8,6 +10,7 @@ pub mod input;
 pub mod layouts;
 #[cfg(feature = "ours")]
 pub mod lent;
+pub mod means;
 #[cfg(feature = "ours")]
 pub mod ours;
 pub mod random;

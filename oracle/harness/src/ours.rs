@@ -67,6 +67,9 @@ extern "C" {
         source: *const Layout, from: *const i32, from_len: usize, destination: *const Layout, to: *mut i32, to_len: usize,
         scratch: *mut u64, scratch_len: usize, values: *mut Values,
     ) -> u8;
+    pub fn strided_means(
+        layout: *const Layout, axis: usize, readings: *const i32, readings_len: usize, out: *mut i32, out_len: usize, values: *mut Values,
+    ) -> u8;
     pub fn strided_write(
         layout: *const Layout, out: *mut u8, out_len: usize, scratch: *mut u64, scratch_len: usize, values: *mut Values,
     ) -> u8;

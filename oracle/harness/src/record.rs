@@ -8,9 +8,17 @@ use strided_view::is_injective_layout;
 /// A refusal's number and its value.
 pub type Refused = (u8, u64);
 
-/// Fewer than 2^64 positions, or none.
+/// How many positions there are, if that is below 2^64.
+pub fn positions(extents: &[u64]) -> Option<u64> {
+    if extents.contains(&0) {
+        return Some(0);
+    }
+    extents.iter().try_fold(1u64, |product, &extent| product.checked_mul(extent))
+}
+
+/// Fewer than 2^64 positions.
 pub fn countable(extents: &[u64]) -> bool {
-    extents.contains(&0) || extents.iter().try_fold(1u64, |product, &extent| product.checked_mul(extent)).is_some()
+    positions(extents).is_some()
 }
 
 /// Axes of extent 1 dropped, then neighbours merged while there are any to merge.

@@ -3,6 +3,7 @@
 use crate::copies::{self, CopyInput};
 use crate::help::TOPICS;
 use crate::input::{Input, Layout, List};
+use crate::means::{self, MeansInput};
 use crate::random::{Random, EXTENTS, STEPS};
 use crate::reference::words_needed;
 use crate::text::{bytes, line, list, Session, COMMANDS, LONGEST};
@@ -170,7 +171,7 @@ impl Maker<'_> {
     fn good(&mut self) -> Vec<Word> {
         let layout = self.session.layout;
         let random = &mut *self.random;
-        match random.below(22) {
+        match random.below(24) {
             0 => self.drawn(),
             1 => command("normal", &[]),
             2 | 3 => {
@@ -224,6 +225,7 @@ impl Maker<'_> {
             }
             18 if random.once_in(4) => command("hold", &[]),
             18 | 19 => self.copied(),
+            20 | 21 => self.meant(),
             _ => {
                 let input = layouts::any(random);
                 self.called(&input)
@@ -265,6 +267,17 @@ impl Maker<'_> {
             _ => vec![word(words.min(65_536))],
         };
         [command("copy", &[list(&from), list(&to)]), scratch].concat()
+    }
+
+    /// Means: through a layout that was drawn for them, or through the one that is there.
+    fn meant(&mut self) -> Vec<Word> {
+        let MeansInput { layout, axis, readings, out } = means::small(self.random);
+        if !self.once_in(8) {
+            let current = self.laid("set", &layout);
+            self.ask(line(&current));
+        }
+        let room = if self.once_in(4) { self.random.of_width(17).min(65_536) } else { out.len() as u64 };
+        command("means", &[word(axis), list(&readings), word(room)])
     }
 
     fn record(&mut self, layout: &Layout) -> Vec<Word> {

@@ -1,12 +1,13 @@
 //! The calls that strided-rs does not have, our library beside the reference: `added SECONDS SEED`.
 
 use harness::copies::CopyInput;
-use harness::input::{joined, Layout};
-use harness::ours::{self, strided_copy, strided_normal_form, strided_read, strided_step, strided_write, Values};
+use harness::input::{joined, Layout, VALUES};
+use harness::means::MeansInput;
+use harness::ours::{self, strided_copy, strided_means, strided_normal_form, strided_read, strided_step, strided_write, Values};
 use harness::random::Random;
 use harness::record::{self, Refused};
 use harness::reference::words_needed;
-use harness::{copies, copying, layouts, shapes};
+use harness::{averaging, copies, copying, layouts, means, shapes};
 use std::collections::BTreeMap;
 use std::time::{Duration, Instant};
 
@@ -62,14 +63,21 @@ impl Lent {
         Ok(Layout::from(&self.layout.lent))
     }
 
-    /// The refusal, if its values are these and the layout is as it was, also past its rank.
+    /// The refusal with its first value, if those that it does not have are as they were and the layout is too, also past its rank.
     fn refused(&self, number: u8, before: &Layout) -> Refused {
-        let has_value = number == 9 || number == 10;
-        let values = Values { first: if has_value { self.values.lent.first } else { NO_VALUES.first }, ..NO_VALUES };
-        if self.values.lent != values || self.layout.lent != before.into() {
-            return CHANGED;
+        let (number, [first, _]) = self.refused_with(number, before);
+        (number, first)
+    }
+
+    /// The same with both values.
+    fn refused_with(&self, number: u8, before: &Layout) -> averaging::Refused {
+        let count = VALUES.get(number as usize).copied().unwrap_or(0);
+        let mut values = [self.values.lent.first as u64, self.values.lent.second as u64];
+        if self.layout.lent != before.into() || values[count..].iter().any(|&value| value != PATTERN) {
+            return (CHANGED.0, [CHANGED.1; 2]);
         }
-        (number, if has_value { values.first as u64 } else { 0 })
+        values[count..].fill(0);
+        (number, values)
     }
 }
 
@@ -220,6 +228,29 @@ fn copy(random: &mut Random) -> Tried {
     Tried { answer: copied.kind(&source), ..tried }
 }
 
+fn means(random: &mut Random) -> Tried {
+    let MeansInput { layout, axis, readings, out } = means::means(random);
+    let mut after = out.clone();
+    let averaged = averaging::means(&layout, axis, &readings, &mut after);
+    let mut lent = Lent::of(&layout, 0);
+    let (lent_readings, mut lent_out) = (around(&readings), around(&out));
+    // SAFETY: as above.
+    let number = unsafe {
+        let (readings_at, out_at) = (lent_readings[AROUND..].as_ptr(), lent_out[AROUND..].as_mut_ptr());
+        strided_means(lent.layout.at(), axis as usize, readings_at, readings.len(), out_at, out.len(), lent.values.at())
+    };
+    let is_kept = lent.layout.lent == (&layout).into() && lent.values.lent.second == NO_VALUES.second;
+    let found = match number {
+        0 if is_kept => Ok(lent.values.lent.first),
+        _ => Err(lent.refused_with(number, &layout)),
+    };
+    let buffers = lent_readings == around(&readings) && lent_out == around(&after);
+    let same = found == averaged.answer && buffers && lent.kept(0);
+    let text = format!("{} (rank {}), axis {axis}, {} readings, {} of output", layout.text(), layout.rank, readings.len(), out.len());
+    let difference = (!same).then(|| format!("{text}: {found:?}, and not {:?}", averaged.answer));
+    Tried { call: "means", answer: averaged.kind(&layout, axis), difference }
+}
+
 fn main() {
     harness::examples::check();
     let words: Vec<u64> = std::env::args().skip(1).map(|word| word.parse().expect("a number")).collect();
@@ -230,11 +261,12 @@ fn main() {
     println!("seed {}: the added calls beside the reference", words[1]);
     while inputs % 256 != 0 || Instant::now() < end {
         inputs += 1;
-        let tried = match random.below(4) {
+        let tried = match random.below(5) {
             0 => normal(&mut random),
             1 => write(&mut random),
             2 => read(&mut random),
-            _ => copy(&mut random),
+            3 => copy(&mut random),
+            _ => means(&mut random),
         };
         *answers.entry((tried.call, tried.answer)).or_default() += 1;
         if let Some(text) = tried.difference {
