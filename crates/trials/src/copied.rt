@@ -2,6 +2,7 @@
 use callers::compare::same_cells;
 use callers::count::verdict_with_count;
 use callers::digits::written_by_digits;
+use callers::faces::face_means;
 use callers::keep::{written_again, written_back};
 use callers::start::Sheet;
 use callers::steps::{Steps, same_after_steps};
@@ -23,6 +24,15 @@ fn may_be_written(rt: HostRuntime) -> Result<(), Fail> {
     assert_eq!(rt; judgement, Judgement::Distinct(0));
     assert!(rt; stand_apart(&[2, 3], &[1, 2], &mut [])?);
     assert!(rt; !stand_apart(&[2, 3], &[1, 1], &mut [])?);
+    Ok(())
+}
+
+#[test]
+fn taken_over_faces(rt: HostRuntime) -> Result<(), Fail> {
+    let mut out = [7; 4];
+    let count = face_means(SHEET, 0, &[105, 106, -104, -105, 220, 220], &mut out)?;
+    assert_eq!(rt; count, 3);
+    assert_eq!(rt; out, [106, -105, 220, 7]);
     Ok(())
 }
 
