@@ -17,7 +17,7 @@ use Rattle.specification.proofs.ReachClaimed.{handed-answers}
 use Rattle.specification.proofs.AnswerRules.{Answers, Only, only, InOrder, sooner, later, restated, test-answers, then-answers, then-assoc}
 use Rattle.specification.proofs.ReadingLaws.{is_too_short-found, held-tested}
 use Rattle.means.proofs.AlongLaws.{position-along, along-position, once-along}
-use Rattle.means.proofs.MeansLaws.{read-at, mean-between, slice_get-means_after, drop-means_after, length-means_after, refused_leaves}
+use Rattle.means.proofs.MeansLaws.{sum-from-front, read-at, mean-between, slice_get-means_after, drop-means_after, length-means_after, refused_leaves}
 
 not-no : (t : Bool) → ¬ (t ≡ false) → t ≡ true
 not-no true f = refl
@@ -134,6 +134,7 @@ means_claims = record {
   passes = means-passed;
   nearest = λ s n h. record { within_half = (rounded-near s n h).0; half_away = (rounded-near s n h).1 };
   only = λ s r n h w. rounded-only s r n h (w.within_half, w.half_away);
+  from_front = sum-from-front;
   along = λ l axis k i h. position-along l axis h k i;
   each_along = λ l axis position h. along-position l axis h position;
   once = λ l axis k i k' i' position h g g' p q. once-along l axis h g g' p q;

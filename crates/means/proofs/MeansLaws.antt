@@ -1,11 +1,13 @@
 -- A mean lies between the least and the greatest of its readings; what is read for it, and what stands in the output.
-use Rattle.std.specs.Prelude.{List, ◌++◌, ◌≡◌, ℕ, zero, suc, ◌<◌, ◌≤◌, ℤ, pos, ◌≤ℤ◌, length, drop, slice_get, slice_index_or, Some}
+use Rattle.std.specs.Prelude.{List, ◌++◌, ◌≡◌, ℕ, zero, suc, ◌<◌, ◌≤◌, ℤ, pos, ◌+ℤ◌, ◌≤ℤ◌, length, drop, slice_get, slice_index_or, Some}
 use mathlib.Core.Path.{refl, ap, ◌∙◌}
 use native.Mathlib.Omega.{arith}
+use lib.IntN.{+ℤ_assoc}
 use lib.ListN.{length-append, length-drop, get_or-append}
 use lib.Seq.{drop_at}
 use Rattle.std.proofs.lemmas.Option.{slice_get-get_or}
 use Rattle.std.proofs.lemmas.List.FromFn.{length-map-range_with_len, get_or-map-range_with_len}
+use Rattle.std.proofs.lemmas.Int.{ints}
 use Rattle.integer.specs.Multiple.{◌·◌}
 use Rattle.integer.specs.Parts.{positive_part}
 use Rattle.integer.proofs.MultipleLaws.{multiples}
@@ -25,6 +27,12 @@ sum-between f low high (suc n) b =
     let w = sum-between f low high n (λ i h. b i (omega arith)) in
     let r = b n (omega arith) in
     (omega (arith, multiples, w.0, r.0), omega (arith, multiples, w.1, r.1))
+
+-- summed from the front it is the same
+pub sum-from-front : (f : ℕ → ℤ) (n : ℕ) → sum_of f (suc n) ≡ f 0 +ℤ sum_of (λ i. f (suc i)) n
+unfolding sum_of
+sum-from-front f zero = omega (arith, ints)
+sum-from-front f (suc n) = ap (λ (z : ℤ). z +ℤ f (suc n)) (sum-from-front f n) ∙ +ℤ_assoc (f 0) (sum_of (λ i. f (suc i)) n) (f (suc n))
 
 pub mean-between : (l : LayoutModel) (axis k : ℕ) (readings : List ℤ) (low high : ℤ) → 0 < extent_along l axis
     → ((i : ℕ) → i < extent_along l axis → IsBetween low high (reading_along l axis readings k i)) → IsBetween low high (mean_at l axis readings k)

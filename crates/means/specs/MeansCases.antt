@@ -37,10 +37,15 @@ pub record MeansCases : Type 0 where
   pub means_middle : means_after (done 4) (layout 8 (pos 0) (ax 2 (pos 1) ∷ ax 2 (pos 2) ∷ ax 2 (pos 4) ∷ [])) 1
       (pos 1 ∷ pos 2 ∷ pos 3 ∷ pos 4 ∷ pos 50 ∷ pos 60 ∷ pos 70 ∷ pos 80 ∷ []) (pos 0 ∷ pos 0 ∷ pos 0 ∷ pos 0 ∷ [])
       ≡ pos 2 ∷ pos 3 ∷ pos 60 ∷ pos 70 ∷ []
+  -- of one reading, and of five: 32/5
+  pub means_of_one : means_after (done 2) (layout 2 (pos 0) (ax 1 (pos 5) ∷ ax 2 (pos 1) ∷ [])) 0 (pos 8 ∷ negsuc 8 ∷ []) (pos 0 ∷ pos 0 ∷ []) ≡ pos 8 ∷ negsuc 8 ∷ []
+  pub mean_of_five : mean_at (layout 5 (pos 0) (ax 5 (pos 1) ∷ [])) 0 (pos 1 ∷ pos 2 ∷ pos 4 ∷ pos 8 ∷ pos 17 ∷ []) 0 ≡ pos 6
+  pub means_least : means_of (layout 2 (pos 0) (ax 1 (pos 5) ∷ ax 2 (pos 1) ∷ [])) 0 2 2 ≡ done 2
   -- 1 before 3, 3 before 5, and 5 before 8
   pub means_one_first : means_of (layout 0 (pos 0) (replicate 17 (ax 1 (pos 1)))) 17 0 0 ≡ refused 1 []
   pub means_three_first : means_of (layout 5 (pos 0) (ax 2 (pos 1) ∷ ax 3 (pos 2) ∷ [])) 9 0 0 ≡ refused 3 []
   pub means_five_first : means_of crowded 3 0 0 ≡ refused 5 (3 ∷ 3 ∷ [])
+  pub means_five_above : means_of faces 7 6 6 ≡ refused 5 (7 ∷ 2 ∷ [])
   -- of rank 0 no axis can be chosen
   pub means_five : means_of (layout 1 (pos 0) []) 0 1 1 ≡ refused 5 (0 ∷ 0 ∷ [])
   -- 8 counts the remaining axes alone: the whole layout may have more positions

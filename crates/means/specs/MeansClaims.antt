@@ -1,6 +1,6 @@
 -- Claims on means: each refusal exactly if it is due, each mean of the right readings and to the nearest.
 -- RULES, "Means along an axis".
-use Rattle.std.specs.Prelude.{List, [], ◌∷◌, ◌↔◌, ◌≡◌, ℕ, ◌*◌, ◌<◌, ◌≤◌, ℤ, nat_abs, ◌-ℤ◌, ◌≤ℤ◌, length, drop, insert, slice_get, IsTrue, IsFalse, Some}
+use Rattle.std.specs.Prelude.{List, [], ◌∷◌, ◌↔◌, ◌≡◌, ℕ, suc, ◌*◌, ◌<◌, ◌≤◌, ℤ, nat_abs, ◌+ℤ◌, ◌-ℤ◌, ◌≤ℤ◌, length, drop, insert, slice_get, IsTrue, IsFalse, Some}
 use Rattle.integer.specs.Multiple.{◌·◌}
 use Rattle.specification.specs.Axis.{extents, positions, index_at}
 use Rattle.specification.specs.Outcome.{done, refused}
@@ -8,7 +8,7 @@ use Rattle.specification.specs.Layout.{LayoutModel, rank, offset_at, IsAccepted,
 use Rattle.specification.specs.Normal.{overfull}
 use Rattle.specification.specs.Readings.{cell_at, reading_at, IsTooShort}
 use Rattle.means.specs.Rounded.{rounded}
-use Rattle.means.specs.Means.{remaining, mean_count, extent_along, offset_along, reading_along, mean_at, means_of, means_after}
+use Rattle.means.specs.Means.{remaining, mean_count, extent_along, offset_along, reading_along, sum_of, mean_at, means_of, means_after}
 
 -- r is s divided by n to the nearest, halves away from zero
 pub record IsNearest (s : ℤ) (n : ℕ) (r : ℤ) : Type 0 where
@@ -62,6 +62,8 @@ pub record MeansClaims : Type 0 where
   -- a mean is within half of the exact one, halves away from zero; and no other number is so
   pub nearest : (s : ℤ) (n : ℕ) → 0 < n → IsNearest s n (rounded s n)
   pub only : (s r : ℤ) (n : ℕ) → 0 < n → IsNearest s n r → r ≡ rounded s n
+  -- a sum may be begun at either end
+  pub from_front : (f : ℕ → ℤ) (n : ℕ) → sum_of f (suc n) ≡ f 0 +ℤ sum_of (λ i. f (suc i)) n
   -- each reading that a mean is of is that of one position of the layout, which differs from k's along the axis alone
   pub along : (l : LayoutModel) (axis k i : ℕ) → axis < rank l → k < mean_count l axis → i < extent_along l axis
       → (position : ℕ) × IsPositionAlong l axis k i position
