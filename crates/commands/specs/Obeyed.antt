@@ -2,10 +2,10 @@
 use Rattle.std.specs.Prelude.{ℕ, ℤ, List, ◌==◌, length, take, codes, Option, Some, None, Ok, Err, if◌then◌else◌}
 use Rattle.std.specs.Fmt.{decimal, signed_decimal}
 use Rattle.specification.specs.Axis.{axes_of_lists}
-use Rattle.specification.specs.Outcome.{Outcome, done, refused, pass}
+use Rattle.specification.specs.Outcome.{Outcome}
 use Rattle.specification.specs.Layout.{LayoutModel}
 use Rattle.specification.specs.CheckIn.{check_in}
-use Rattle.specification.specs.Views.{After, permute, broadcast, diagonal_view}
+use Rattle.specification.specs.Views.{permute, broadcast, diagonal_view}
 use Rattle.specification.specs.Normal.{normal_form}
 use Rattle.specification.specs.Verdict.{Judged, verdict}
 use Rattle.specification.specs.Record.{written, read_of, rest_of}
