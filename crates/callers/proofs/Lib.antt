@@ -2,6 +2,7 @@ pub mod ByDigits
 pub mod Chained
 pub mod Compared
 pub mod Counted
+pub mod FaceLaws
 pub mod Kept
 pub mod Records
 pub mod Sheets

@@ -9,7 +9,7 @@ use Rattle.specification.specs.Normal.{normal_of}
 use Rattle.specification.specs.Verdict.{BothBudgetsPassed}
 use Rattle.specification.specs.RecordsAgree.{TrueByte}
 use Rattle.view.specs.declared.layout.Refusal.{Refusal}
-use Rattle.view.specs.declared.layout.Refusal.TheVariants.{TooManyAxes, LengthsDiffer, OutOfRange, WrongLength, BadAxis, BadExtent, BadIndex, TooManyPositions, ShortScratch, ShortOutput, NotARecord, ExtentsDiffer, ShortReadings, NotDistinct}
+use Rattle.view.specs.declared.layout.Refusal.TheVariants.{TooManyAxes, LengthsDiffer, OutOfRange, WrongLength, BadAxis, BadExtent, BadIndex, TooManyPositions, ShortScratch, ShortOutput, NotARecord, ExtentsDiffer, ShortReadings, NotDistinct, EmptyAxis, LongAxis}
 use Rattle.injectivity.specs.declared.Judgement.{Judgement}
 use Rattle.injectivity.specs.declared.Judgement.TheVariants.{Distinct, Repeated, Undecided}
 use Rattle.injectivity.specs.Meaning.{NoneDue, IsFitting, Means, MeansOfLists}
@@ -38,6 +38,8 @@ answered axes before after NotARecord m d = grind (arith, m.no_other 11 [] refl)
 answered axes before after ExtentsDiffer m d = grind (arith, m.no_other 12 [] refl)
 answered axes before after ShortReadings m d = grind (arith, m.no_other 13 [] refl)
 answered axes before after NotDistinct m d = grind (arith, m.no_other 14 [] refl)
+answered axes before after EmptyAxis m d = grind (arith, m.no_other 15 [] refl)
+answered axes before after LongAxis m d = grind (arith, m.no_other 16 [] refl)
 
 -- ---- two lists
 

@@ -1,5 +1,6 @@
 pub mod Counts
 pub mod Digits
+pub mod Faces
 pub mod Records
 pub mod Sheets
 pub mod Steps

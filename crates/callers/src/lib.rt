@@ -5,6 +5,7 @@
 pub mod compare;
 pub mod count;
 pub mod digits;
+pub mod faces;
 pub mod keep;
 pub mod start;
 pub mod steps;

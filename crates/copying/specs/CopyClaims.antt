@@ -1,4 +1,4 @@
--- Claims on copying: each refusal exactly where it is asked for, each position's reading at its place, every other reading as it was.
+-- Claims on copying: each refusal exactly if it is due, each position's reading at its place, every other reading as it was.
 -- RULES, "Copying".
 use Rattle.std.specs.Prelude.{List, [], ◌∷◌, ◌≢◌, ◌⊎◌, ◌↔◌, ◌≡◌, ℕ, ◌<◌, ℤ, pos, length, slice_get, IsTrue, IsFalse, Some}
 use Rattle.specification.specs.Axis.{extents, positions, index_at, SharesOffset}

@@ -9,7 +9,8 @@ use Rattle.integer.specs.Multiple.{◌·◌}
 use Rattle.specification.specs.Axis.{Axis, extents, positions, index_at, offset_sum, is_empty}
 use Rattle.specification.specs.Layout.{LayoutModel, rank}
 use Rattle.specification.specs.Views.{axis_at}
-use Rattle.specification.proofs.NormalAxes.{AllPositive}
+use Rattle.specification.proofs.Digits.{place-index_at}
+use Rattle.specification.proofs.NormalAxes.{AllPositive, positive-extents}
 use Rattle.specification.proofs.NormalLaws.{empty-none, full-pos}
 use Rattle.specification.proofs.Positions.{IndexVector, ◌and◌, place, indices-within, indices-place, place-lt}
 use Rattle.means.specs.Means.{remaining, mean_count, extent_along, offset_along}
@@ -64,6 +65,16 @@ taken-out (a ∷ rest) (suc n) x h (◌and◌ {i = j} {is = y} g b) =
     let t = taken-out rest n y (omega arith) b in
     record { index = t.index; below = t.below; others = j ∷ t.others; vector = ◌and◌ g t.vector; put_in = ap (λ (z : List ℕ). j ∷ z) t.put_in }
 
+-- what is put in, and into what, are told by the list that it makes
+inserted-inj : (axis i j : ℕ) (x y : List ℕ) → axis ≤ length x → length x ≡ length y → insert x axis i ≡ insert y axis j → (x ≡ y) × (i ≡ j)
+inserted-inj zero i j x y h l e = grind (arith, e)
+inserted-inj (suc n) i j [] y h l e = absurd (omega arith)
+inserted-inj (suc n) i j (a ∷ x) [] h l e = absurd (omega (arith, l))
+inserted-inj (suc n) i j (a ∷ x) (b ∷ y) h l e =
+    let heads : (a ≡ b) × (insert x n i ≡ insert y n j) = grind (arith, e) in
+    let w = inserted-inj n i j x y (omega (arith, h)) (omega (arith, l)) heads.1 in
+    (grind (arith, heads.0, w.0), w.1)
+
 -- ---- of a layout
 
 module _ (l : LayoutModel) (axis : ℕ) (h : axis < rank l) where
@@ -100,3 +111,15 @@ module _ (l : LayoutModel) (axis : ℕ) (h : axis < rank l) where
         positioned _ t.index position g
             (sym t.put_in ∙ ap (λ (x : List ℕ). insert x axis t.index) (sym (indices-place others t.vector))),
       )
+
+  pub once-along : {k i k' i' position : ℕ} → k < mean_count l axis → k' < mean_count l axis → IsPositionAlong l axis k i position → IsPositionAlong l axis k' i' position → (k ≡ k') × (i ≡ i')
+  unfolding remaining
+  once-along {k} {i} {k'} {i'} g g' p q =
+      let x = index_at (extents others) k in
+      let y = index_at (extents others) k' in
+      let long : length x ≡ length others = length-index_at others k in
+      let w = inserted-inj axis i i' x y (omega (arith, h, long, length-remove l.axes axis h)) (long ∙ sym (length-index_at others k')) (sym p.index_is ∙ q.index_is) in
+      (sym (at-place k g) ∙ ap (λ (z : List ℕ). place (extents others) z) w.0 ∙ at-place k' g', w.1)
+    where
+      at-place : (k : ℕ) → k < positions others → place (extents others) (index_at (extents others) k) ≡ k
+      at-place k g = place-index_at (positive-extents (full-positions others g)) k g

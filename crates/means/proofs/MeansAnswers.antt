@@ -16,7 +16,7 @@ use Rattle.specification.proofs.OutcomeLaws.{clash, passed-check, done_inj}
 use Rattle.specification.proofs.ReachClaimed.{handed-answers}
 use Rattle.specification.proofs.AnswerRules.{Answers, Only, only, InOrder, sooner, later, restated, test-answers, then-answers, then-assoc}
 use Rattle.specification.proofs.ReadingLaws.{is_too_short-found, held-tested}
-use Rattle.means.proofs.AlongLaws.{position-along, along-position}
+use Rattle.means.proofs.AlongLaws.{position-along, along-position, once-along}
 use Rattle.means.proofs.MeansLaws.{read-at, mean-between, slice_get-means_after, drop-means_after, length-means_after, refused_leaves}
 
 not-no : (t : Bool) → ¬ (t ≡ false) → t ≡ true
@@ -136,6 +136,7 @@ means_claims = record {
   only = λ s r n h w. rounded-only s r n h (w.within_half, w.half_away);
   along = λ l axis k i h. position-along l axis h k i;
   each_along = λ l axis position h. along-position l axis h position;
+  once = λ l axis k i k' i' position h g g' p q. once-along l axis h g g' p q;
   in_buffer = λ l axis count k i position room readings e p. read-at l axis readings ((means-passed l axis (length readings) room count).0 e).held p;
   between = mean-between;
   written = λ l axis count k readings out e h. slice_get-means_after l axis count readings out k h;

@@ -32,7 +32,7 @@ offset_along l axis k i = offset_at (remaining l axis) k +ℤ i · (axis_at l.ax
 abbrev pub reading_along : LayoutModel → ℕ → List ℤ → ℕ → ℕ → ℤ
 reading_along l axis readings k i = slice_index_or readings (positive_part (offset_along l axis k i)) (pos 0)
 
--- the first n numbers of a row, added
+-- f 0, .., f (n - 1), added
 unfoldable pub sum_of : (ℕ → ℤ) → ℕ → ℤ
 sum_of f zero = pos 0
 sum_of f (suc n) = sum_of f n +ℤ f n

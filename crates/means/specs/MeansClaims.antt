@@ -65,9 +65,11 @@ pub record MeansClaims : Type 0 where
   -- each reading that a mean is of is that of one position of the layout, which differs from k's along the axis alone
   pub along : (l : LayoutModel) (axis k i : ℕ) → axis < rank l → k < mean_count l axis → i < extent_along l axis
       → (position : ℕ) × IsPositionAlong l axis k i position
-  -- and each position of the layout counts in one mean
+  -- and each position of the layout counts in one mean, once
   pub each_along : (l : LayoutModel) (axis position : ℕ) → axis < rank l → position < positions l.axes
       → (k : ℕ) × (i : ℕ) × (k < mean_count l axis) × (i < extent_along l axis) × IsPositionAlong l axis k i position
+  pub once : (l : LayoutModel) (axis k i k' i' position : ℕ) → axis < rank l → k < mean_count l axis → k' < mean_count l axis
+      → IsPositionAlong l axis k i position → IsPositionAlong l axis k' i' position → (k ≡ k') × (i ≡ i')
   -- its reading is one of the buffer
   pub in_buffer : (l : LayoutModel) (axis count k i position room : ℕ) (readings : List ℤ) → means_of l axis (length readings) room ≡ done count
       → IsPositionAlong l axis k i position → (cell_at l position < length readings) × (reading_along l axis readings k i ≡ reading_at l readings position)
