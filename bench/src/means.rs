@@ -25,13 +25,17 @@ fn nearest(sum: i64, count: usize) -> i32 {
     (if sum < 0 { -size } else { size }) as i32
 }
 
+/// Two loops over places that are stepped: with places that are multiplied out for each reading, long sums took longer.
 fn plain(along: Axis, other: Axis, readings: &[i32], out: &mut [i32]) {
-    for (place, mean) in out[..other.0].iter_mut().enumerate() {
-        let mut sum = 0;
-        for index in 0..along.0 {
-            sum += i64::from(readings[place * other.1 + index * along.1]);
+    let mut start = 0;
+    for mean in &mut out[..other.0] {
+        let (mut sum, mut at) = (0, start);
+        for _ in 0..along.0 {
+            sum += i64::from(readings[at]);
+            at += along.1;
         }
         *mean = nearest(sum, along.0);
+        start += other.1;
     }
 }
 
