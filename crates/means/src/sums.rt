@@ -7,8 +7,8 @@ ghost use Rattle.means.specs.Rows.{run_reading, IsSumOf, IsAlongIn, mean_from};
 
 use axis::Axis;
 
-/// The sum of a run of readings. So many readings of 32 bits stay below 2^47 in either direction.
-/// The sums of places wrap: a step below 0 is a large word.
+/// The sum of a run of readings: of so many of 32 bits it is at most 2^47 in size. The sums of places
+/// wrap: a step below 0 is a large word.
 fn sum_along(readings: &[i32], start: u64, step: u64, count: u64) -> i64
     requires few { count ≤ 65536 }
     requires in_readings { IsRunIn start step count (length readings.now) }
