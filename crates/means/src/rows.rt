@@ -12,6 +12,8 @@ use axis::Axis;
 use positions::Positions;
 
 /// Writes the means of a row: the readings of each begin a step behind those of the one before it.
+/// It is a call of its own, so that its loops have the registers to themselves.
+#[inline(never)]
 fn write_row(readings: &[i32], along: Axis, start: u64, step: u64, out: &mut [i32])
     requires some { 0 < along.extent }
     requires few { along.extent ≤ 65536 }
