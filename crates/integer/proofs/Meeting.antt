@@ -1,9 +1,10 @@
 -- When i₁ s₁ + i₂ s₂ takes a value twice, for i₁ and i₂ below bounds: the two-axis case of the verdict.
 use Rattle.std.proofs.Common.{◌≡◌, ℕ, zero, suc, ◌*◌, ◌+◌, ◌-◌, ◌/◌, ◌<◌, ◌≤◌, ap, arith, sym}
 use native.Mathlib.Decide.{dec_lt}
-use native.Mathlib.Nat.{div-add-mod', eq_of_mul-eq-mul_right, le_of_mul-le-mul_right, mul-lt-mul_of_pos_right, zero-mod}
+use native.Mathlib.Nat.{div-add-mod', dvd-mul_left, eq_of_mul-eq-mul_right, le_of_mul-le-mul_right, mul-lt-mul_of_pos_right, zero-mod}
 use Rattle.integer.proofs.Congruence.{coefficient, coefficient-inverse, congruent-by-inverse, mod-of-congruent}
 use Rattle.integer.proofs.GcdLaws.{gcd-pos, left_back, right-back, right-pos}
+use Rattle.std.specs.Int.{◌∣◌}
 use Rattle.integer.specs.Gcd.{gcd}
 
 -- Two different pairs of numbers below d₁ and d₂ with equal sums i₁ s₁ + i₂ s₂.
@@ -79,3 +80,12 @@ module _ (s₁ s₂ : ℕ) (h₁ : 0 < s₁) (h₂ : 0 < s₂) where
           let e : m.i₁ ≡ m.j₁ = omega arith in
           let f : m.i₂ * s₂ ≡ m.j₂ * s₂ = omega (arith, m.same, ap (λ (z : ℕ). z * s₁) e) in
           absurd (m.other (e, eq_of_mul-eq-mul_right s₂ h₂ m.i₂ m.j₂ f))
+
+of-multiple : (c k x : ℕ) → x ≡ k * c → c ∣ x
+of-multiple c k x e = rw e (dvd-mul_left c k)
+
+-- Euclid's lemma: if x a is a multiple of b, x is one of b without the greatest common divisor.
+pub euclid-left : (x y a b : ℕ) → 0 < a → x * a ≡ y * b → b / gcd a b ∣ x
+euclid-left zero y a b h e = of-multiple (b / gcd a b) 0 0 (omega arith)
+euclid-left (suc x) y a zero h e = absurd (omega arith)
+euclid-left (suc x) y a (suc b) h e = of-multiple (suc b / gcd a (suc b)) _ (suc x) (common-multiple a (suc b) h (omega arith) (suc x) y e).0
