@@ -1,1 +1,2 @@
 pub mod DenseLaws
+pub mod StridesLaws

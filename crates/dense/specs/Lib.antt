@@ -1,1 +1,2 @@
 pub mod Dense
+pub mod Strides

@@ -13,19 +13,26 @@ use view::count::has_no_position;
 use view::layout::{MOST_AXES, Refusal};
 
 /// As many strides as there are extents, in readings.
-#[derive(Debug, Drop)]
+#[derive(Clone, Copy, Debug)]
 pub struct DenseStrides {
     strides: [i64; 16],
     count: usize,
 }
 
-// Clauses see the strides.
+// Clauses see the strides. The places behind them hold 0, so the strides are all there is to copy.
 impl Model for DenseStrides {
+    ghost use Rattle.std.specs.Prelude.{List, ℤ, take};
+    ghost use Rattle.dense.specs.Strides.{fields_of, IsFilled};
+
     ghost Value = { List ℤ };
 
     ghost view = { λ dense. take dense.count dense.strides };
 
-    ghost invariant = { λ dense. dense.count ≤ 16 };
+    ghost invariant = { IsFilled };
+
+    ghost inverse = { fields_of };
+
+    ghost inverse_ok = { λ dense h. h.filled };
 }
 
 impl DenseStrides {
@@ -70,7 +77,7 @@ fn next_step(empty: bool, step: u64, extent: u64) -> Result<u64, Refusal>
 }
 
 /// The step at each axis, from the densest axis on.
-#[tactic(auto, using(crate::proofs::DenseLaws::stop, crate::proofs::DenseLaws::many, crate::proofs::DenseLaws::refusal, crate::proofs::DenseLaws::answered))]
+#[tactic(auto, using(crate::proofs::StridesLaws::filled, crate::proofs::StridesLaws::none_stored, crate::proofs::DenseLaws::stop, crate::proofs::DenseLaws::many, crate::proofs::DenseLaws::refusal, crate::proofs::DenseLaws::answered))]
 fn running_products(extents: &[u64], major: Major) -> Result<DenseStrides, Refusal>
     ensures answer { outcome_of result ≡ dense_by major extents.now }
     ensures as_many { IfOk result (λ strides. length strides ≡ length extents.now) }
