@@ -21,7 +21,8 @@ use Rattle.record.specs.declared.fields.BytePlace.{BytePlace}
 use Rattle.record.specs.Reading.{layout_read}
 use Rattle.record.specs.Writer.{wrote_of}
 use Rattle.view.specs.declared.layout.Layout.{Layout}
-use Rattle.view.specs.Model.{model_of, layout_outcome}
+use Rattle.view.specs.Model.{model_of, first_axes, layout_outcome}
+use Rattle.view.proofs.AxesLaws.{length_first_axes}
 use Rattle.view.specs.Answers.{outcome_by}
 use Rattle.view.specs.declared.layout.Refusal.{Refusal}
 use Rattle.view.specs.declared.layout.Refusal.TheVariants.{TooManyAxes, LengthsDiffer, OutOfRange, WrongLength, BadAxis, BadExtent, BadIndex, TooManyPositions, ShortScratch, ShortOutput, NotARecord, ExtentsDiffer, ShortReadings, NotDistinct, EmptyAxis, LongAxis}
@@ -154,6 +155,11 @@ module _ (axes : List Axis) where
   unfolding axes_judged
   steady_axes = steady_checked (is_too_long axes) 1 [] (judge axes) (steady_judge axes)
 
+  -- of more than 16 axes, whatever is lent
+  pub axes_too_many : (words : ℕ) → 16 < length axes → axes_judged axes words ≡ refused 1 []
+  unfolding axes_judged refuse_if ◌>>◌
+  axes_too_many words h = rw (lt-ltb 16 (length axes) h) refl
+
   pub axes_first : (words : Option ℕ) (first : Result Judgement Refusal) → judged_of first ≡ told_of (axes_judged axes (unwrap_or words 0)) → words_lacking words first ≡ None
       → judged_of first ≡ told_of (axes_judged axes (or_most words))
   axes_first = first_answer (axes_judged axes) steady_axes told_of (λ number values. refl) verdict_told
@@ -161,6 +167,10 @@ module _ (axes : List Axis) where
   pub axes_second : (words : Option ℕ) (first second : Result Judgement Refusal) (k m n : ℕ) → judged_of first ≡ told_of (axes_judged axes k) → k ≡ unwrap_or words 0 → words_lacking words first ≡ Some n
       → judged_of second ≡ told_of (axes_judged axes m) → m ≡ n → judged_of second ≡ told_of (axes_judged axes (or_most words))
   axes_second = second_answer (axes_judged axes) steady_axes told_of (λ number values. refl) verdict_told
+
+-- of a layout whose first places count
+pub too_many_axes : (axes : List Axis) (rank words : ℕ) → 16 < rank → axes_judged (first_axes axes rank) words ≡ refused 1 []
+too_many_axes axes rank words h = axes_too_many (first_axes axes rank) words (omega (arith, h, length_first_axes axes rank))
 
 -- the verdict of two lists
 module _ (extents : List ℕ) (strides : List ℤ) where

@@ -4,10 +4,10 @@ ghost use Rattle.specification.specs.Axis.{axes_of_lists};
 ghost use Rattle.specification.specs.Record.{read_of};
 ghost use Rattle.view.specs.Model.{model_of, first_axes, layout_outcome};
 ghost use Rattle.record.specs.Reading.{layout_read};
-ghost use Rattle.words.specs.Words.{Gives, MemoryOnlyIf, numbered, numbered_if};
+ghost use Rattle.words.specs.Words.{Tells, Gives, MemoryOnlyIf, numbered, numbered_if};
 ghost use Rattle.commands.specs.Asking.{are_placed};
 ghost use Rattle.commands.specs.Scratch.{or_most};
-ghost use Rattle.commands.specs.Obeyed.{four_parts, new_layout, set_layout, permuted, tied, stretched, read_layout};
+ghost use Rattle.commands.specs.Obeyed.{four_parts, new_layout, unchecked, permuted, tied, stretched, read_layout};
 
 use crate::memory::{Memory, lend};
 use crate::scratch::{lacking, words_given};
@@ -83,22 +83,20 @@ fn sixteen(given: &Given) -> [Axis; 16]
 }
 
 /// A layout of any rank without check-in, of lists of one length; its first 16 axes in place.
-#[tactic(auto, unfolding(crate::specs::Obeyed::set_layout, crate::specs::Obeyed::unchecked))]
-pub fn set_layout<'a>(alloc: Global, words: Four<'a>) -> Result<Layout, Problem<'a>>
-    ensures told { Gives model_of result (set_layout
-        (numbered words.entry.0, numbered words.entry.1, numbered words.entry.2, numbered words.entry.3)) }
-    ensures memory { MemoryOnlyIf (are_placed words.entry.0.text.now words.entry.1.text.now) result }
+#[tactic(auto, unfolding(crate::specs::Obeyed::unchecked))]
+pub fn set_layout<'a>(given: &Given) -> Result<Layout, Fault<'a>>
+    ensures { Tells model_of result (unchecked
+        given.now.len given.now.offset.0 given.now.extents.items given.now.strides.items) }
 {
-    let given = Given::read(alloc, words)?;
     let rank = given.extents.len();
     if rank != given.strides.len() {
-        return Err(Fault::UnequalLists.into());
+        return Err(Fault::UnequalLists);
     }
     Ok(Layout {
         len: given.len,
         offset: given.offset,
         rank,
-        axes: sixteen(&given),
+        axes: sixteen(given),
     })
 }
 

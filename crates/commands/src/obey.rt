@@ -7,7 +7,7 @@ ghost use Rattle.commands.specs.Replies.{reply_text};
 ghost use Rattle.commands.specs.Layouts.{layouts_of};
 ghost use Rattle.commands.specs.Obeyed.{next_layout, answer_text, run, obeyed};
 
-use crate::change::{broadcast, diagonal, new_layout, permute, read, set_layout};
+use crate::change::{Given, broadcast, diagonal, new_layout, permute, read, set_layout};
 use crate::command::{Change, Command, Query};
 use crate::layouts::Layouts;
 use crate::memory::Memory;
@@ -23,7 +23,7 @@ use words::place::Word;
 use words::word::Words;
 
 // The layout after a command that changes it, with the words behind its name.
-#[tactic(auto, using(crate::proofs::Asked::one, crate::proofs::Asked::four, crate::proofs::Asked::read_asks), unfolding(crate::specs::Obeyed::next_layout, crate::specs::Asking::change_asks))]
+#[tactic(auto, using(crate::proofs::Asked::one, crate::proofs::Asked::four, crate::proofs::Asked::read_asks), unfolding(crate::specs::Obeyed::next_layout, crate::specs::Obeyed::set_layout, crate::specs::Asking::change_asks))]
 fn next_layout<'a>(
     alloc: Global,
     current: &Layout,
@@ -37,7 +37,7 @@ fn next_layout<'a>(
 {
     match change {
         Change::New => new_layout(alloc, words.four()?),
-        Change::Set => set_layout(alloc, words.four()?),
+        Change::Set => Ok(set_layout(&Given::read(alloc, words.four()?)?)?),
         Change::Permute => permute(alloc, *current, words.one()?),
         Change::Diagonal => diagonal(alloc, *current, words.one()?),
         Change::Broadcast => broadcast(alloc, *current, words.one()?),

@@ -1,5 +1,5 @@
 // The commands that answer and leave both layouts.
-ghost use Rattle.std.specs.Prelude.{◌≡◌, ◌&&◌, IfOk, length};
+ghost use Rattle.std.specs.Prelude.{◌≡◌, ◌&&◌, IfOk, length, nat_le};
 ghost use Rattle.specification.specs.Record.{written};
 ghost use Rattle.specification.specs.Verdict.{verdict};
 ghost use Rattle.specification.specs.Beside.{col_major, row_major};
@@ -27,7 +27,7 @@ use record::step::step_over;
 use record::writer::write_record;
 use std::alloc::{AllocError, Global};
 use view::bounds::validate_bounds;
-use view::layout::{Layout, ReadingOffset, Refusal};
+use view::layout::{Layout, MOST_AXES, ReadingOffset, Refusal};
 use view::list::first;
 use words::fault::{Fault, Problem};
 use words::place::Word;
@@ -94,17 +94,20 @@ fn judge(
     }
 }
 
-/// The verdict on a layout's axes.
-#[tactic(auto, using(crate::proofs::Asked::given), unfolding(crate::specs::Obeyed::verdict_of, crate::specs::Obeyed::judged_text))]
+/// The verdict on a layout's axes. More than 16 of them are refused before any memory is asked for.
+#[tactic(auto, using(crate::proofs::Asked::given, crate::proofs::ScratchLaws::too_many_axes), unfolding(crate::specs::Obeyed::verdict_of, crate::specs::Obeyed::judged_text))]
 pub fn verdict<'a>(
     current: &Layout,
     memory: &mut Memory,
     words: Option<Word<'a>>,
 ) -> Result<Reply, Problem<'a>>
     ensures told { Gives reply_text result (verdict_of (model_of current.now) (numbered_if words.entry)) }
-    ensures memory { MemoryOnlyIf (is_lent_if (numbered_if words.entry)) result }
+    ensures memory { MemoryOnlyIf (is_lent_if (numbered_if words.entry) && nat_le current.now.rank 16) result }
 {
     let words = words_given(words)?;
+    if MOST_AXES < current.rank {
+        return Err(Refusal::TooManyAxes.into());
+    }
     Ok(Reply::Judged(judge(current, &mut memory.scratch, words)??))
 }
 
