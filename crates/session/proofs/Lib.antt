@@ -2,3 +2,4 @@ mod FirstWords
 pub mod HeldLaws
 pub mod Owed
 pub mod Marked
+pub mod Silent

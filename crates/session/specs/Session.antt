@@ -1,5 +1,6 @@
 -- What is written for all that is read, and whether each line was obeyed: stated functions of it (RULES, "The text program"). Assumes nothing.
-use Rattle.std.specs.Prelude.{ℕ, Bool, true, false, List, [], ◌∷◌, ◌++◌, ◌==◌, ◌≢◌, ◌&&◌, nat_lt, length, if◌then◌else◌, pos, take, slice_get, Option, IsSomeAnd, Ok, Err, ⊤}
+use Rattle.std.specs.Prelude.{ℕ, Bool, true, false, List, [], ◌∷◌, ◌++◌, ◌==◌, ◌≢◌, ◌&&◌, nat_lt, length, if◌then◌else◌, pos, take, slice_get, Option, Some, None, IsSomeAnd, Ok, Err, not, ⊤}
+use Rattle.std.specs.List.{find}
 use Rattle.std.specs.Io.KnownBytes.{Appends}
 use Rattle.specification.specs.Layout.{LayoutModel}
 use Rattle.lines.specs.Lines.{lines_of}
@@ -7,7 +8,7 @@ use Rattle.lines.specs.Mark.{without_mark}
 use Rattle.lines.specs.declared.failure.Failure.{Failure}
 use Rattle.lines.specs.declared.failure.Failure.TheVariants.{Write, Memory}
 use Rattle.words.specs.Texts.{long_line, fault_text}
-use Rattle.words.specs.Words.{Told, words}
+use Rattle.words.specs.Words.{Told, is_space, words}
 use Rattle.commands.specs.Replies.{reply_text}
 use Rattle.commands.specs.Layouts.{Layouts}
 use Rattle.commands.specs.Obeyed.{Answered, obeyed}
@@ -59,6 +60,13 @@ words_ask (name ∷ words) = if begins_with 35 name then false else line_asks na
 abbrev pub by_length : Layouts → Bool → List ℕ → AnsweredLines
 by_length ls true line = in_line ls (Err long_line)
 by_length ls false line = by_words ls (words line)
+
+-- a line that is seen to have no answer: its first byte that is no space is `#` (35), or there is none
+abbrev pub is_silent : List ℕ → Bool
+is_silent line = elim (find (λ byte. not (is_space byte)) line) [
+  | None ↦ true
+  | Some byte ↦ byte == 35
+]
 
 -- what a line is answered, and the layouts after it
 unfoldable pub answered : Layouts → List ℕ → AnsweredLines

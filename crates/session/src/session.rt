@@ -1,9 +1,11 @@
 // Lines answered in order, each before the next is awaited.
-ghost use Rattle.std.specs.Prelude.{◌≡◌, ◌≢◌, [], map, string_bytes, OnOk, OnErr, IfOk, IfErr, IfSome, IsTrue};
+ghost use Rattle.std.specs.Prelude.{◌≡◌, ◌≢◌, [], map, string_bytes, OnOk, OnErr, IfOk, IfErr, IfSome, IsTrue, not};
 ghost use Rattle.std.specs.Io.KnownBytes.{Appends};
+ghost use Rattle.std.specs.List.{find};
 ghost use Rattle.lines.specs.Lines.{AppendsFront, lines_of};
+ghost use Rattle.words.specs.Words.{is_space};
 ghost use Rattle.commands.specs.Layouts.{layouts_of};
-ghost use Rattle.session.specs.Session.{begins_with, empty_layouts, text_of, no_fault, by_words, words_ask, by_length, written_for, obeyed_for, lines_in, output_of, all_obeyed, Answers};
+ghost use Rattle.session.specs.Session.{begins_with, empty_layouts, text_of, no_fault, by_words, words_ask, by_length, is_silent, written_for, obeyed_for, lines_in, output_of, all_obeyed, Answers};
 
 use crate::end::Ended;
 use axis::Axis;
@@ -96,9 +98,55 @@ fn answer_words<'a>(
     }
 }
 
-// Puts what a line is answered in the place of a text, and tells whether it is no fault.
-#[tactic(auto, using(crate::proofs::FirstWords::by_front, crate::proofs::FirstWords::asked_has_text))]
+// The first byte of a line that is no space.
+fn first_of_words(line: &[u8]) -> Option<u8>
+    ensures { result ≡ find (λ byte. not (is_space byte)) line.now }
+{
+    line.iter()
+        .copied()
+        .find(|byte| !(*byte == b' ' || *byte == b'\t'))
+}
+
+// Whether a line is seen to have no answer: its first byte that is no space is `#`, or there is none.
+fn is_silent(line: &[u8]) -> bool
+    ensures { result ≡ is_silent line.now }
+{
+    match first_of_words(line) {
+        None => true,
+        Some(byte) => byte == b'#',
+    }
+}
+
+// Puts what a line is answered in the place of a text, and tells whether it is no fault. Most lines without an answer are seen
+// at once, and no word of them is looked for.
+#[tactic(auto, using(crate::proofs::Silent::silent))]
 fn answer(
+    alloc: Global,
+    layouts: &mut Layouts,
+    memory: &mut Memory,
+    line: &Line,
+    text: &mut String,
+) -> Result<bool, AllocError>
+    ensures text { OnOk result (string_bytes text.new
+        ≡ (by_length (layouts_of layouts.old) line.now.is_long line.now.bytes.items).text) }
+    ensures layouts { OnOk result (layouts_of layouts.new
+        ≡ (by_length (layouts_of layouts.old) line.now.is_long line.now.bytes.items).layouts) }
+    ensures obeyed { IfOk result (λ obeyed. obeyed
+        ≡ (by_length (layouts_of layouts.old) line.now.is_long line.now.bytes.items).all_obeyed) }
+    ensures memory { OnErr result
+        ((by_length (layouts_of layouts.old) line.now.is_long line.now.bytes.items).text ≢ []) }
+{
+    if !line.is_long && is_silent(line.bytes.as_slice()) {
+        text.clear();
+        return Ok(true);
+    }
+    answer_fully(alloc, layouts, memory, line, text)
+}
+
+// The same, by the words of the line. It is a call of its own, so that a line without an answer pays for none of it.
+#[inline(never)]
+#[tactic(auto, using(crate::proofs::FirstWords::by_front, crate::proofs::FirstWords::asked_has_text))]
+fn answer_fully(
     alloc: Global,
     layouts: &mut Layouts,
     memory: &mut Memory,
